@@ -1,0 +1,4 @@
+-- The laws that belong to no one function.
+pub mod Numbers
+pub mod Ranges
+pub mod RoundTrips

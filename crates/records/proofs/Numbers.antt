@@ -1,0 +1,73 @@
+-- A number is its bytes, and some bytes are their number; and so a row of numbers, by any widths.
+use Prim.Native.Nat.{ℕ, zero, suc, _+_, _*_, _/_, _%_, _<_}
+use mathlib.Core.Path.{_≡_, refl, sym, ap, _∙_}
+use mathlib.Core.List.{List, [], _∷_, _++_}
+use native.Mathlib.Omega.{arith}
+use native.Mathlib.Nat.{add-zero, add-suc, suc-add, add-comm, div-div-eq-div-mul}
+use lib.ListN.{length, getD, drop, drop-of-length-le}
+use lib.Seq.{drop-cons}
+use Rattle.records.specs.Numbers.{Bytes, numberFrom, numberOf, oneAnd, bytesIn, part, total, lay, cut}
+
+from-last : (n : ℕ) (bs : List ℕ) (b : ℕ) → numberFrom n (bs ++ (b ∷ [])) ≡ numberFrom n bs * 256 + b
+from-last n [] b = refl
+from-last n (x ∷ bs) b = from-last (n * 256 + x) bs b
+
+-- the number of some bytes and one more
+number-last : (bs : List ℕ) (b : ℕ) → numberOf (bs ++ (b ∷ [])) ≡ numberOf bs * 256 + b
+number-last [] b = omega arith
+number-last (x ∷ bs) b = from-last x bs b
+
+-- a number is that of its bytes
+pub number-back : (w x : ℕ) → numberOf (oneAnd w x) ≡ x
+number-back zero x = refl
+number-back (suc w) x = number-last (oneAnd w (x / 256)) (x % 256) ∙ rw (number-back w (x / 256)) (omega arith)
+
+-- the bytes of a number of four bytes, by one quotient each
+pub four : (x : ℕ) → x / 16777216 ∷ x / 65536 % 256 ∷ x / 256 % 256 ∷ x % 256 ∷ [] ≡ oneAnd 3 x
+four x =
+    let p : x / 65536 ≡ x / 256 / 256 = sym (div-div-eq-div-mul x 256 256) in
+    let q : x / 16777216 ≡ x / 256 / 256 / 256 = sym (div-div-eq-div-mul x 65536 256) ∙ ap (λ y. y / 256) p in
+    rw (q, p)
+
+-- the bytes of a number and one byte more
+bytes-last : (w n b : ℕ) → b < 256 → oneAnd (suc w) (n * 256 + b) ≡ oneAnd w n ++ (b ∷ [])
+bytes-last w n b h =
+    let q : (n * 256 + b) / 256 ≡ n = omega arith in
+    let r : (n * 256 + b) % 256 ≡ b = omega arith in
+    rw (q, r)
+
+module _ (s : List ℕ) where
+  part-last : (n i : ℕ) → part (suc n) i s ≡ part n i s ++ (getD s (i + n) 0 ∷ [])
+  part-last zero i = rw (add-zero i)
+  part-last (suc n) i = ap (λ t. getD s i 0 ∷ t) (part-last n (suc i) ∙ rw (suc-add i n, add-suc i n))
+
+  part-more : (m n i : ℕ) → part m i s ++ part n (i + m) s ≡ part (n + m) i s
+  part-more zero n i = rw (add-zero i, add-zero n)
+  part-more (suc m) n i = rw (add-suc n m, add-suc i m, ← suc-add i m) (ap (λ t. getD s i 0 ∷ t) (part-more m n (suc i)))
+
+  pub part-drop : (n i : ℕ) → length s ≡ i + n → drop i s ≡ part n i s
+  part-drop zero i h = drop-of-length-le s {i = i} (omega arith)
+  part-drop (suc n) i h = drop-cons s i 0 (omega arith) ∙ ap (λ t. getD s i 0 ∷ t) (part-drop n (suc i) (omega arith))
+
+  module _ (h : Bytes s) where
+    one-back : (w i : ℕ) → oneAnd w (numberOf (part (suc w) i s)) ≡ part (suc w) i s
+    one-back zero i = refl
+    one-back (suc w) i =
+        ap (oneAnd (suc w)) (ap numberOf (part-last (suc w) i) ∙ number-last (part (suc w) i s) (getD s (i + suc w) 0))
+        ∙ bytes-last w (numberOf (part (suc w) i s)) (getD s (i + suc w) 0) (h (i + suc w))
+        ∙ ap (λ t. t ++ (getD s (i + suc w) 0 ∷ [])) (one-back w i)
+        ∙ sym (part-last (suc w) i)
+
+    -- some bytes are those of their number
+    bytes-back : (w i : ℕ) → bytesIn w (numberOf (part w i s)) ≡ part w i s
+    bytes-back zero i = refl
+    bytes-back (suc w) i = one-back w i
+
+    -- the numbers that are cut out by some widths, laid again by the same: the same bytes
+    pub lay-cut : (ws : List ℕ) (i : ℕ) → lay ws (cut ws i s) ≡ part (total ws) i s
+    lay-cut [] i = refl
+    lay-cut (w ∷ ws) i =
+        ap (λ t. t ++ lay ws (cut ws (i + w) s)) (bytes-back w i)
+        ∙ ap (λ t. part w i s ++ t) (lay-cut ws (i + w))
+        ∙ part-more w (total ws) i
+        ∙ ap (λ n. part n i s) (add-comm (total ws) w)

@@ -1,0 +1,63 @@
+-- A call as its kind and the numbers of its body.
+use Prim.Native.Nat.{ℕ}
+use mathlib.Core.List.{List, [], _∷_}
+use lib.ListN.{getD}
+use Rattle.records.specs.Numbers.{Fits}
+use Rattle.records.specs.Kinds.{bodyOf}
+use Rattle.records.specs.declared.Kind.{Kind}
+use Rattle.records.specs.declared.Kind.the-variants as kind
+use Rattle.records.specs.declared.Call.{Call}
+use Rattle.records.specs.declared.Call.the-variants as call
+use Rattle.records.specs.declared.Got.{Got}
+use Rattle.records.specs.declared.Got.the-variants as got
+
+abbrev pub kindIn : Call → Kind
+kindIn call.Terminate = kind.Terminate
+kindIn (call.Restart p n) = kind.Restart
+kindIn (call.Pause u n) = kind.Pause
+kindIn (call.CancelPause t) = kind.CancelPause
+kindIn (call.Start o t) = kind.Start
+kindIn (call.Queue o t a) = kind.Queue
+kindIn (call.Flag o f) = kind.Flag
+kindIn (call.Wait m x) = kind.Wait
+kindIn (call.Alarm u n f) = kind.Alarm
+kindIn call.Tick = kind.Tick
+kindIn (call.Granule g) = kind.Granule
+kindIn (call.Task p m) = kind.Task
+kindIn call.End = kind.End
+
+abbrev pub fieldsOf : Call → List ℕ
+fieldsOf call.Terminate = []
+fieldsOf (call.Restart p n) = p ∷ n ∷ []
+fieldsOf (call.Pause u n) = u ∷ n ∷ []
+fieldsOf (call.CancelPause t) = t .0 ∷ []
+fieldsOf (call.Start o t) = o ∷ t .0 ∷ []
+fieldsOf (call.Queue o t a) = o ∷ t .0 ∷ a ∷ []
+fieldsOf (call.Flag o f) = o ∷ f .0 ∷ []
+fieldsOf (call.Wait m x) = m ∷ x ∷ []
+fieldsOf (call.Alarm u n f) = u ∷ n ∷ f .0 ∷ []
+fieldsOf call.Tick = []
+fieldsOf (call.Granule g) = g ∷ []
+fieldsOf (call.Task p m) = p ∷ m ∷ []
+fieldsOf call.End = []
+
+-- the call of a kind with these numbers; Unknown has none
+abbrev pub gotOf : Kind → List ℕ → Got
+gotOf kind.Unknown xs = got.Refused 4
+gotOf kind.Terminate xs = got.Call call.Terminate
+gotOf kind.Restart xs = got.Call (call.Restart (getD xs 0 0) (getD xs 1 0))
+gotOf kind.Pause xs = got.Call (call.Pause (getD xs 0 0) (getD xs 1 0))
+gotOf kind.CancelPause xs = got.Call (call.CancelPause (record { 0 = getD xs 0 0 }))
+gotOf kind.Start xs = got.Call (call.Start (getD xs 0 0) (record { 0 = getD xs 1 0 }))
+gotOf kind.Queue xs = got.Call (call.Queue (getD xs 0 0) (record { 0 = getD xs 1 0 }) (getD xs 2 0))
+gotOf kind.Flag xs = got.Call (call.Flag (getD xs 0 0) (record { 0 = getD xs 1 0 }))
+gotOf kind.Wait xs = got.Call (call.Wait (getD xs 0 0) (getD xs 1 0))
+gotOf kind.Alarm xs = got.Call (call.Alarm (getD xs 0 0) (getD xs 1 0) (record { 0 = getD xs 2 0 }))
+gotOf kind.Tick xs = got.Call call.Tick
+gotOf kind.Granule xs = got.Call (call.Granule (getD xs 0 0))
+gotOf kind.Task xs = got.Call (call.Task (getD xs 0 0) (getD xs 1 0))
+gotOf kind.End xs = got.Call call.End
+
+-- each number of a call is below the bound of its width
+abbrev pub InRange : Call → Type 0
+InRange c = Fits (bodyOf (kindIn c)) (fieldsOf c)

@@ -1,0 +1,75 @@
+-- The table of records, and what is read from it: a kind's first byte, its body, its length, and the kind of a first byte.
+use Prim.Native.Nat.{ℕ, _+_}
+use mathlib.Core.List.{List, [], _∷_}
+use mathlib.Core.Bool.{Bool, cond}
+use lib.Dec.{eqb}
+use Rattle.records.specs.Numbers.{total}
+use Rattle.records.specs.declared.Kind.{Kind}
+use Rattle.records.specs.declared.Kind.the-variants as kind
+
+-- a kind, its first byte, and the widths in bytes of its body's numbers
+pub record Row : Type 0 where
+  pub name : Kind
+  pub byte : ℕ
+  pub body : List ℕ
+
+abbrev pub row : Kind → ℕ → List ℕ → Row
+row k b ws = record { name = k; byte = b; body = ws }
+
+abbrev pub table : List Row
+table =
+    row kind.Terminate 0x00 []
+    ∷ row kind.Restart 0x01 (1 ∷ 1 ∷ [])
+    ∷ row kind.Pause 0x02 (1 ∷ 1 ∷ [])
+    ∷ row kind.CancelPause 0x03 (1 ∷ [])
+    ∷ row kind.Start 0x04 (1 ∷ 1 ∷ [])
+    ∷ row kind.Queue 0x05 (1 ∷ 1 ∷ 2 ∷ [])
+    ∷ row kind.Flag 0x09 (1 ∷ 1 ∷ [])
+    ∷ row kind.Wait 0x0A (1 ∷ 4 ∷ [])
+    ∷ row kind.Alarm 0x0B (1 ∷ 1 ∷ 1 ∷ [])
+    ∷ row kind.Tick 0x80 []
+    ∷ row kind.Granule 0x40 (1 ∷ [])
+    ∷ row kind.Task 0x41 (1 ∷ 1 ∷ [])
+    ∷ row kind.End 0x42 []
+    ∷ []
+
+-- what the first row that passes a test says, or else what is given for none
+abbrev pub look : {A : Type 0} → (Row → Bool) → (Row → A) → A → List Row → A
+look test says none [] = none
+look test says none (r ∷ rs) = cond (test r) (says r) (look test says none rs)
+
+-- a number for each kind, to tell kinds apart
+abbrev pub place : Kind → ℕ
+place kind.Unknown = 0
+place kind.Terminate = 1
+place kind.Restart = 2
+place kind.Pause = 3
+place kind.CancelPause = 4
+place kind.Start = 5
+place kind.Queue = 6
+place kind.Flag = 7
+place kind.Wait = 8
+place kind.Alarm = 9
+place kind.Tick = 10
+place kind.Granule = 11
+place kind.Task = 12
+place kind.End = 13
+
+abbrev pub isOf : Kind → Row → Bool
+isOf k r = eqb (place k) (place (r .name))
+
+-- the first byte of a kind; Unknown has none, and stands past the bytes
+abbrev pub byteOf : Kind → ℕ
+byteOf k = look (isOf k) (λ r. r .byte) 256 table
+
+-- the widths of a kind's body
+abbrev pub bodyOf : Kind → List ℕ
+bodyOf k = look (isOf k) (λ r. r .body) [] table
+
+-- the length of a whole record of a kind; 0 says that there is none
+abbrev pub lengthOf : Kind → ℕ
+lengthOf k = look (isOf k) (λ r. 1 + total (r .body)) 0 table
+
+-- the kind whose first byte this is
+unfoldable pub kindOf : ℕ → Kind
+kindOf b = look (λ r. eqb b (r .byte)) (λ r. r .name) kind.Unknown table

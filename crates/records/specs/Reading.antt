@@ -1,0 +1,22 @@
+-- Reading: the call of a record's bytes, or the number of the refusal.
+use Prim.Native.Nat.{ℕ}
+use mathlib.Core.List.{List}
+use mathlib.Core.Bool.{cond}
+use lib.ListN.{length, getD}
+use lib.Dec.{eqb}
+use Rattle.records.specs.Numbers.{cut}
+use Rattle.records.specs.Kinds.{bodyOf, lengthOf, kindOf}
+use Rattle.records.specs.Calls.{gotOf}
+use Rattle.records.specs.declared.Kind.{Kind}
+use Rattle.records.specs.declared.Got.{Got}
+use Rattle.records.specs.declared.Got.the-variants as got
+
+-- read as a record of a kind: 4 where it is no carried kind, 3 where the length is not the kind's, else the call
+unfoldable pub readAs : Kind → List ℕ → Got
+readAs k s =
+    cond (eqb (lengthOf k) 0) (got.Refused 4)
+    (cond (eqb (length s) (lengthOf k)) (gotOf k (cut (bodyOf k) 1 s)) (got.Refused 3))
+
+-- 3 where it is empty, else read as a record of its first byte's kind
+unfoldable pub readOf : List ℕ → Got
+readOf s = cond (eqb (length s) 0) (got.Refused 3) (readAs (kindOf (getD s 0 0)) s)

@@ -1,0 +1,34 @@
+-- The two round trips: what reading a record and writing it answers and leaves, and what is promised of the definitions.
+use Prim.Native.Nat.{ℕ}
+use mathlib.Core.Path.{_≡_}
+use mathlib.Core.List.{List}
+use Rattle.records.specs.Numbers.{Bytes}
+use Rattle.records.specs.Reading.{readOf}
+use Rattle.records.specs.Writing.{bytesOf, putOf, putOutOf}
+use Rattle.records.specs.declared.Call.{Call}
+use Rattle.records.specs.declared.Got.{Got}
+use Rattle.records.specs.declared.Got.the-variants as got
+use Rattle.records.specs.declared.Written.{Written}
+use Rattle.records.specs.declared.Written.the-variants as written
+
+-- by what the reader says of the bytes s: its refusal, or s itself put at the start of o
+abbrev pub againBy : Got → List ℕ → List ℕ → Written
+againBy (got.Call c) s o = putOf s o
+againBy (got.Refused n) s o = written.Refused n
+
+abbrev pub againOutBy : Got → List ℕ → List ℕ → List ℕ
+againOutBy (got.Call c) s o = putOutOf s o
+againOutBy (got.Refused n) s o = o
+
+-- reading s and writing its call to o: the answer, and what o then holds
+unfoldable pub againOf : List ℕ → List ℕ → Written
+againOf s o = againBy (readOf s) s o
+
+unfoldable pub againOutOf : List ℕ → List ℕ → List ℕ
+againOutOf s o = againOutBy (readOf s) s o
+
+pub record Promises : Type 0 where
+  -- writing a call and reading it gives the same call
+  pub write-read : (c : Call) → readOf (bytesOf c) ≡ got.Call c
+  -- reading a record and writing it gives the same bytes
+  pub read-write : (s : List ℕ) (c : Call) → Bytes s → readOf s ≡ got.Call c → bytesOf c ≡ s

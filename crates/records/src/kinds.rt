@@ -1,0 +1,48 @@
+// The kind that a first byte names, and the length of a record of a kind.
+use crate::Kind;
+ghost use mathlib.Core.Path.{_≡_};
+ghost use Rattle.records.specs.Kinds.{kindOf, lengthOf};
+
+// The kind of a record with this first byte.
+pub fn kind_of(byte: u8) -> Kind
+    ensures { λ r. ⌜ r ≡ kindOf byte ⌝ }
+{
+    match byte {
+        0x00 => Kind::Terminate,
+        0x01 => Kind::Restart,
+        0x02 => Kind::Pause,
+        0x03 => Kind::CancelPause,
+        0x04 => Kind::Start,
+        0x05 => Kind::Queue,
+        0x09 => Kind::Flag,
+        0x0A => Kind::Wait,
+        0x0B => Kind::Alarm,
+        0x80 => Kind::Tick,
+        0x40 => Kind::Granule,
+        0x41 => Kind::Task,
+        0x42 => Kind::End,
+        _ => Kind::Unknown,
+    }
+}
+
+// The length of a whole record of this kind, first byte and body; 0 for Unknown.
+pub fn length_of(kind: Kind) -> usize
+    ensures { λ r. ⌜ r ≡ lengthOf kind ⌝ }
+{
+    match kind {
+        Kind::Unknown => 0,
+        Kind::Terminate => 1,
+        Kind::Restart => 3,
+        Kind::Pause => 3,
+        Kind::CancelPause => 2,
+        Kind::Start => 3,
+        Kind::Queue => 5,
+        Kind::Flag => 3,
+        Kind::Wait => 6,
+        Kind::Alarm => 4,
+        Kind::Tick => 1,
+        Kind::Granule => 2,
+        Kind::Task => 3,
+        Kind::End => 1,
+    }
+}

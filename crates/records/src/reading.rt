@@ -1,0 +1,98 @@
+// Reading: from the bytes of a record to the call that it holds.
+use crate::Call;
+use crate::FlagNo;
+use crate::Got;
+use crate::Kind;
+use crate::TaskNo;
+use crate::kinds;
+ghost use mathlib.Core.Path.{_≡_};
+ghost use mathlib.Core.List.{[], _∷_};
+ghost use lib.ListN.{getD};
+ghost use Rattle.records.specs.Numbers.{numberOf, cut};
+ghost use Rattle.records.specs.Kinds.{bodyOf};
+ghost use Rattle.records.specs.Calls.{gotOf};
+ghost use Rattle.records.specs.Reading.{readOf};
+
+// The byte at a place, and 0 past the end.
+fn at(bytes: &[u8], i: usize) -> u8
+    ensures { λ r. ⌜ r ≡ getD (now (bytes .entry)) i 0 ⌝ }
+{
+    if i < bytes.len() {
+        return bytes[i];
+    }
+    0
+}
+
+// The number of two bytes, the first the higher.
+fn pair(a: u8, b: u8) -> u16
+    ensures { λ r. ⌜ r ≡ numberOf (a ∷ b ∷ []) ⌝ }
+{
+    (a as u16) * 256 + (b as u16)
+}
+
+// The number of four bytes, the first the highest.
+fn word(a: u8, b: u8, c: u8, d: u8) -> u32
+    ensures { λ r. ⌜ r ≡ numberOf (a ∷ b ∷ c ∷ d ∷ []) ⌝ }
+{
+    (((a as u32) * 256 + (b as u32)) * 256 + (c as u32)) * 256 + (d as u32)
+}
+
+// The call of a record that has its kind's length.
+fn call_of(kind: Kind, bytes: &[u8]) -> Got
+    ensures { λ r. ⌜ r ≡ gotOf kind (cut (bodyOf kind) 1 (now (bytes .entry))) ⌝ }
+{
+    let a = at(bytes, 1);
+    let b = at(bytes, 2);
+    let c = at(bytes, 3);
+    let task = TaskNo(b);
+    let flag = FlagNo(b);
+    match kind {
+        Kind::Unknown => Got::Refused(4),
+        Kind::Terminate => Got::Call(Call::Terminate),
+        Kind::Restart => Got::Call(Call::Restart {
+            parameter: a,
+            count: b,
+        }),
+        Kind::Pause => Got::Call(Call::Pause { unit: a, count: b }),
+        Kind::CancelPause => Got::Call(Call::CancelPause { task: TaskNo(a) }),
+        Kind::Start => Got::Call(Call::Start { option: a, task }),
+        Kind::Queue => Got::Call(Call::Queue {
+            option: a,
+            task,
+            argument: pair(c, at(bytes, 4)),
+        }),
+        Kind::Flag => Got::Call(Call::Flag { operation: a, flag }),
+        Kind::Wait => Got::Call(Call::Wait {
+            mode: a,
+            mask: word(b, c, at(bytes, 4), at(bytes, 5)),
+        }),
+        Kind::Alarm => Got::Call(Call::Alarm {
+            unit: a,
+            count: b,
+            flag: FlagNo(c),
+        }),
+        Kind::Tick => Got::Call(Call::Tick),
+        Kind::Granule => Got::Call(Call::Granule { granule: a }),
+        Kind::Task => Got::Call(Call::Task { own: a, mark: b }),
+        Kind::End => Got::Call(Call::End),
+    }
+}
+
+// The call that a record holds. Refused: 3 where it is empty, 4 where its first byte is no carried kind, 3 where its length is not its kind's.
+pub fn read(bytes: &[u8]) -> Got
+    ensures { λ r. ⌜ r ≡ readOf (now (bytes .entry)) ⌝ }
+{
+    let n = bytes.len();
+    if n == 0 {
+        return Got::Refused(3);
+    }
+    let kind = kinds::kind_of(bytes[0]);
+    let want = kinds::length_of(kind);
+    if want == 0 {
+        return Got::Refused(4);
+    }
+    if n != want {
+        return Got::Refused(3);
+    }
+    call_of(kind, bytes)
+}
