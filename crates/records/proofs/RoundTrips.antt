@@ -9,7 +9,7 @@ use lib.ListN.{length, getD}
 use lib.Dec.{eqb}
 use borrow.Author.Tests.{eqb-true, eqb-false}
 use Rattle.records.specs.Numbers.{Bytes, part, total, lay, cut}
-use Rattle.records.specs.Kinds.{Row, table, look, byteOf, bodyOf, lengthOf, kindOf}
+use Rattle.records.specs.Kinds.{Row, table, kindAmong, byteOf, bodyOf, lengthOf, kindOf}
 use Rattle.records.specs.Calls.{gotOf}
 use Rattle.records.specs.Reading.{readOf, readAs}
 use Rattle.records.specs.Writing.{bytesOf, putOf, putOutOf, writtenOf, outOf}
@@ -52,8 +52,7 @@ agrees [] = true
 agrees (r ∷ rs) = cond (eqb (byteOf (r .name)) (r .byte)) (agrees rs) false
 
 -- a kind that was found has the byte that was looked for
-found : (b : ℕ) (rs : List Row) → agrees rs ≡ true
-    → (look (λ r. eqb b (r .byte)) (λ r. r .name) kind.Unknown rs ≡ kind.Unknown) ⊎ (byteOf (look (λ r. eqb b (r .byte)) (λ r. r .name) kind.Unknown rs) ≡ b)
+found : (b : ℕ) (rs : List Row) → agrees rs ≡ true → (kindAmong rs b ≡ kind.Unknown) ⊎ (byteOf (kindAmong rs b) ≡ b)
 found b [] a = inl refl
 found b (r ∷ rs) a =
     decide (eqb (byteOf (r .name)) (r .byte))

@@ -70,6 +70,9 @@ bodyOf k = look (isOf k) (λ r. r .body) [] table
 abbrev pub lengthOf : Kind → ℕ
 lengthOf k = look (isOf k) (λ r. 1 + total (r .body)) 0 table
 
--- the kind whose first byte this is
+-- the kind whose first byte this is, among some rows and in the table
+abbrev pub kindAmong : List Row → ℕ → Kind
+kindAmong rs b = look (λ r. eqb b (r .byte)) (λ r. r .name) kind.Unknown rs
+
 unfoldable pub kindOf : ℕ → Kind
-kindOf b = look (λ r. eqb b (r .byte)) (λ r. r .name) kind.Unknown table
+kindOf b = kindAmong table b

@@ -4,58 +4,6 @@ use Rattle.records.specs.Kinds.{kindOf}
 use Rattle.records.proofs.kinds.kind_of.Statement.{statement}
 use Rattle.records.proofs.kinds.kind_of.Tie as tie
 
-returns : tie.Need-returns
-unfolding kindOf
-returns c = rw (c .match .keys1)
-
-returns-2 : tie.Need-returns-2
-unfolding kindOf
-returns-2 c = rw (c .match .keys2)
-
-returns-3 : tie.Need-returns-3
-unfolding kindOf
-returns-3 c = rw (c .match .keys3)
-
-returns-4 : tie.Need-returns-4
-unfolding kindOf
-returns-4 c = rw (c .match .keys4)
-
-returns-5 : tie.Need-returns-5
-unfolding kindOf
-returns-5 c = rw (c .match .keys5)
-
-returns-6 : tie.Need-returns-6
-unfolding kindOf
-returns-6 c = rw (c .match .keys6)
-
-returns-7 : tie.Need-returns-7
-unfolding kindOf
-returns-7 c = rw (c .match .keys7)
-
-returns-8 : tie.Need-returns-8
-unfolding kindOf
-returns-8 c = rw (c .match .keys8)
-
-returns-9 : tie.Need-returns-9
-unfolding kindOf
-returns-9 c = rw (c .match .keys9)
-
-returns-10 : tie.Need-returns-10
-unfolding kindOf
-returns-10 c = rw (c .match .keys10)
-
-returns-11 : tie.Need-returns-11
-unfolding kindOf
-returns-11 c = rw (c .match .keys11)
-
-returns-12 : tie.Need-returns-12
-unfolding kindOf
-returns-12 c = rw (c .match .keys12)
-
-returns-13 : tie.Need-returns-13
-unfolding kindOf
-returns-13 c = rw (c .match .keys13)
-
 returns-14 : tie.Need-returns-14
 unfolding kindOf
 returns-14 c =
@@ -63,20 +11,21 @@ returns-14 c =
     simp (ne-eqb _ 0x00 (x .0 .0 .0 .0 .0 .0 .0 .0 .0 .0 .0 .0 .1), ne-eqb _ 0x01 (x .0 .0 .0 .0 .0 .0 .0 .0 .0 .0 .0 .1), ne-eqb _ 0x02 (x .0 .0 .0 .0 .0 .0 .0 .0 .0 .0 .1), ne-eqb _ 0x03 (x .0 .0 .0 .0 .0 .0 .0 .0 .0 .1), ne-eqb _ 0x04 (x .0 .0 .0 .0 .0 .0 .0 .0 .1), ne-eqb _ 0x05 (x .0 .0 .0 .0 .0 .0 .0 .1), ne-eqb _ 0x09 (x .0 .0 .0 .0 .0 .0 .1), ne-eqb _ 0x0A (x .0 .0 .0 .0 .0 .1), ne-eqb _ 0x0B (x .0 .0 .0 .0 .1), ne-eqb _ 0x80 (x .0 .0 .0 .1), ne-eqb _ 0x40 (x .0 .0 .1), ne-eqb _ 0x41 (x .0 .1), ne-eqb _ 0x42 (x .1))
 
 pub kind-of-spec : {M : Type 1} → statement M
+unfolding kindOf
 kind-of-spec =
     tie.close
     (tie.spec
-    returns
-    returns-2
-    returns-3
-    returns-4
-    returns-5
-    returns-6
-    returns-7
-    returns-8
-    returns-9
-    returns-10
-    returns-11
-    returns-12
-    returns-13
+    (λ c. rw (c .match .keys1))
+    (λ c. rw (c .match .keys2))
+    (λ c. rw (c .match .keys3))
+    (λ c. rw (c .match .keys4))
+    (λ c. rw (c .match .keys5))
+    (λ c. rw (c .match .keys6))
+    (λ c. rw (c .match .keys7))
+    (λ c. rw (c .match .keys8))
+    (λ c. rw (c .match .keys9))
+    (λ c. rw (c .match .keys10))
+    (λ c. rw (c .match .keys11))
+    (λ c. rw (c .match .keys12))
+    (λ c. rw (c .match .keys13))
     returns-14)

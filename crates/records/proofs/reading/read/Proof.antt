@@ -2,6 +2,7 @@
 use Prim.Native.Nat.{ℕ}
 use mathlib.Core.Path.{_≡_, sym, ap, _∙_}
 use mathlib.Core.List.{List}
+use native.Mathlib.Omega.{arith}
 use lib.ListN.{getD}
 use denote.Ref.{now}
 use borrow.Author.Needs.{needs}
@@ -32,19 +33,19 @@ returns : tie.Need-returns
 returns c = sym (read-empty (now (c .before .before .args .bytes)) (c .if1 .taken))
 
 returns-2 : tie.Need-returns-2
-returns-2 c = let d = c .before in sym (as-unknown (bytes d) (kind d) (sym (want d) ∙ c .if2 .taken)) ∙ some d
+returns-2 c = let d = c .before in sym (as-unknown (bytes d) (kind d) (omega (arith, want d))) ∙ some d
 
 returns-3 : tie.Need-returns-3
 returns-3 c =
     let d = c .before .before in
-    sym (as-length (bytes d) (kind d) (λ e. c .before .if2 .left (want d ∙ e)) (λ e. c .if3 .taken (e ∙ sym (want d)))) ∙ some d
+    sym (as-length (bytes d) (kind d) (λ e. omega (arith, want d)) (λ e. omega (arith, want d))) ∙ some d
 
 returns-4 : tie.Need-returns-4
 returns-4 c =
     let d = c .before .before .before in
     c .call-of .ensures
     ∙ ap (λ k. gotOf k (cut (bodyOf k) 1 (bytes d))) (d .before .kind-of .ensures)
-    ∙ sym (as-whole (bytes d) (kind d) (λ e. c .before .before .if2 .left (want d ∙ e)) (c .before .if3 .left ∙ want d))
+    ∙ sym (as-whole (bytes d) (kind d) (λ e. omega (arith, want d)) (omega (arith, want d)))
     ∙ some d
 
 pub read-spec : {M : Type 1} → statement M

@@ -7,44 +7,8 @@ use Rattle.records.proofs.Numbers.{four}
 use Rattle.records.proofs.writing.encode.Statement.{statement}
 use Rattle.records.proofs.writing.encode.Tie as tie
 
-returns : tie.Need-returns
-returns c = rw (c .enum-told .given .1) (record { bytes = refl; count = refl; small = lit≤ tt })
-
-returns-2 : tie.Need-returns-2
-returns-2 c = rw (c .before .call .given .1) (record { bytes = refl; count = refl; small = lit≤ tt })
-
-returns-3 : tie.Need-returns-3
-returns-3 c = rw (c .before .call2 .given .1) (record { bytes = refl; count = refl; small = lit≤ tt })
-
-returns-4 : tie.Need-returns-4
-returns-4 c = rw (c .before .call3 .given .1) (record { bytes = refl; count = refl; small = lit≤ tt })
-
-returns-5 : tie.Need-returns-5
-returns-5 c = rw (c .before .call4 .given .1) (record { bytes = refl; count = refl; small = lit≤ tt })
-
-returns-6 : tie.Need-returns-6
-returns-6 c = rw (c .before .call5 .given .1) (record { bytes = refl; count = refl; small = lit≤ tt })
-
-returns-7 : tie.Need-returns-7
-returns-7 c = rw (c .before .call6 .given .1) (record { bytes = refl; count = refl; small = lit≤ tt })
-
 returns-8 : tie.Need-returns-8
 returns-8 c = let m = c .before .call7 .given .0 in rw (c .before .call7 .given .1) (record { bytes = ap (λ t. 0x0A ∷ m .0 ∷ t) (four (m .1 .0)); count = refl; small = lit≤ tt })
-
-returns-9 : tie.Need-returns-9
-returns-9 c = rw (c .before .call8 .given .1) (record { bytes = refl; count = refl; small = lit≤ tt })
-
-returns-10 : tie.Need-returns-10
-returns-10 c = rw (c .enum-told2 .given .1) (record { bytes = refl; count = refl; small = lit≤ tt })
-
-returns-11 : tie.Need-returns-11
-returns-11 c = rw (c .before .call9 .given .1) (record { bytes = refl; count = refl; small = lit≤ tt })
-
-returns-12 : tie.Need-returns-12
-returns-12 c = rw (c .before .call10 .given .1) (record { bytes = refl; count = refl; small = lit≤ tt })
-
-returns-13 : tie.Need-returns-13
-returns-13 c = rw (c .enum-told3 .given .1) (record { bytes = refl; count = refl; small = lit≤ tt })
 
 pub encode-spec : {M : Type 1} → statement M
 encode-spec =
@@ -69,16 +33,16 @@ encode-spec =
     (λ c. search needs)
     (λ c. search needs)
     (λ c. search needs)
-    returns
-    returns-2
-    returns-3
-    returns-4
-    returns-5
-    returns-6
-    returns-7
+    (λ c. rw (c .enum-told .given .1) (record { bytes = refl; count = refl; small = lit≤ tt }))
+    (λ c. rw (c .before .call .given .1) (record { bytes = refl; count = refl; small = lit≤ tt }))
+    (λ c. rw (c .before .call2 .given .1) (record { bytes = refl; count = refl; small = lit≤ tt }))
+    (λ c. rw (c .before .call3 .given .1) (record { bytes = refl; count = refl; small = lit≤ tt }))
+    (λ c. rw (c .before .call4 .given .1) (record { bytes = refl; count = refl; small = lit≤ tt }))
+    (λ c. rw (c .before .call5 .given .1) (record { bytes = refl; count = refl; small = lit≤ tt }))
+    (λ c. rw (c .before .call6 .given .1) (record { bytes = refl; count = refl; small = lit≤ tt }))
     returns-8
-    returns-9
-    returns-10
-    returns-11
-    returns-12
-    returns-13)
+    (λ c. rw (c .before .call8 .given .1) (record { bytes = refl; count = refl; small = lit≤ tt }))
+    (λ c. rw (c .enum-told2 .given .1) (record { bytes = refl; count = refl; small = lit≤ tt }))
+    (λ c. rw (c .before .call9 .given .1) (record { bytes = refl; count = refl; small = lit≤ tt }))
+    (λ c. rw (c .before .call10 .given .1) (record { bytes = refl; count = refl; small = lit≤ tt }))
+    (λ c. rw (c .enum-told3 .given .1) (record { bytes = refl; count = refl; small = lit≤ tt })))
