@@ -7,27 +7,21 @@ use mathlib.Core.Logic.{_⊎_, inl, inr, ⊎-elim}
 use native.Mathlib.Omega.{arith}
 use lib.ListN.{length, getD}
 use lib.Dec.{eqb}
-use borrow.Author.Tests.{eqb-true, eqb-false}
+use borrow.Author.Tests.{eqb-true}
 use Rattle.records.specs.Numbers.{Bytes, part, total, lay, cut}
 use Rattle.records.specs.Kinds.{Row, table, kindAmong, byteOf, bodyOf, lengthOf, kindOf}
 use Rattle.records.specs.Calls.{gotOf}
-use Rattle.records.specs.Reading.{readOf, readAs}
+use Rattle.records.specs.Reading.{firstKind, readOf, readAs}
 use Rattle.records.specs.Writing.{bytesOf, putOf, putOutOf, writtenOf, outOf}
-use Rattle.records.specs.Trips.{againOf, againOutOf, Promises}
+use Rattle.records.specs.Trips.{againOf, againOutOf}
 use Rattle.records.specs.declared.Kind.{Kind}
 use Rattle.records.specs.declared.Kind.the-variants as kind
 use Rattle.records.specs.declared.Call.{Call}
 use Rattle.records.specs.declared.Call.the-variants as call
-use Rattle.records.specs.declared.Got.{Got}
 use Rattle.records.specs.declared.Got.the-variants as got
 use Rattle.records.specs.declared.Written.the-variants as written
 use Rattle.records.proofs.Numbers.{number-back, part-drop, lay-cut}
-use Rattle.records.proofs.reading.Laws.{read-empty, read-some, as-unknown, as-length, as-whole}
-
--- by cases on a test
-decide : {P : Type 0} (b : Bool) → (b ≡ true → P) → (b ≡ false → P) → P
-decide true f g = f refl
-decide false f g = g refl
+use Rattle.records.proofs.reading.Laws.{decide, read-cases}
 
 -- writing a call and reading it gives the same call
 pub write-read : (c : Call) → readOf (bytesOf c) ≡ got.Call c
@@ -97,25 +91,11 @@ whole kind.End s c b n h e = ap bytesOf (same e) ∙ laid kind.End s b n h
 pub read-write : (s : List ℕ) (c : Call) → Bytes s → readOf s ≡ got.Call c → bytesOf c ≡ s
 unfolding kindOf
 read-write s c h e =
-    let k = kindOf (getD s 0 0) in
-    decide (eqb (length s) 0)
-    (λ t. absurd (refused 3 c (sym (read-empty s (eqb-true (length s) 0 t)) ∙ e)))
-    (λ f.
-    let r : readAs k s ≡ got.Call c = sym (read-some s (eqb-false (length s) 0 f)) ∙ e in
-    decide (eqb (lengthOf k) 0)
-    (λ t. absurd (refused 4 c (sym (as-unknown s k (eqb-true (lengthOf k) 0 t)) ∙ r)))
-    (λ g.
-    let known = eqb-false (lengthOf k) 0 g in
-    decide (eqb (length s) (lengthOf k))
-    (λ t.
-    ⊎-elim
-    (λ u. absurd (known (ap lengthOf u)))
-    (λ b. whole k s c b (eqb-true (length s) (lengthOf k) t) h (sym (as-whole s k known (eqb-true (length s) (lengthOf k) t)) ∙ r))
-    (found (getD s 0 0) table refl))
-    (λ l. absurd (refused 3 c (sym (as-length s k known (eqb-false (length s) (lengthOf k) l)) ∙ r)))))
-
-pub promises : Promises
-promises = record { write-read = write-read; read-write = read-write }
+    read-cases s
+    (λ n r. absurd (refused 3 c (sym r ∙ e)))
+    (λ n u r. absurd (refused 4 c (sym r ∙ e)))
+    (λ n m r. absurd (refused 3 c (sym r ∙ e)))
+    (λ n k l r z. ⊎-elim (λ u. absurd (k u)) (λ b. whole (firstKind s) s c b l h (sym r ∙ e)) (found (getD s 0 0) table refl))
 
 -- reading and writing again: what the writer says of the call that was read is said of the bytes themselves
 module _ (s o : List ℕ) where

@@ -11,6 +11,7 @@ use Rattle.records.specs.declared.Call.the-variants as call
 use Rattle.records.specs.declared.Got.{Got}
 use Rattle.records.specs.declared.Got.the-variants as got
 
+-- the kind of a call
 abbrev pub kindIn : Call → Kind
 kindIn call.Terminate = kind.Terminate
 kindIn (call.Restart p n) = kind.Restart
@@ -26,6 +27,7 @@ kindIn (call.Granule g) = kind.Granule
 kindIn (call.Task p m) = kind.Task
 kindIn call.End = kind.End
 
+-- the numbers of a call's body, in the order of its row
 abbrev pub fieldsOf : Call → List ℕ
 fieldsOf call.Terminate = []
 fieldsOf (call.Restart p n) = p ∷ n ∷ []

@@ -16,6 +16,7 @@ pub record Row : Type 0 where
 abbrev pub row : Kind → ℕ → List ℕ → Row
 row k b ws = record { name = k; byte = b; body = ws }
 
+-- the table, in document 01's order
 abbrev pub table : List Row
 table =
     row kind.Terminate 0x00 []

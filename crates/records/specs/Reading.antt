@@ -11,6 +11,10 @@ use Rattle.records.specs.declared.Kind.{Kind}
 use Rattle.records.specs.declared.Got.{Got}
 use Rattle.records.specs.declared.Got.the-variants as got
 
+-- the kind that the first byte names
+abbrev pub firstKind : List ℕ → Kind
+firstKind s = kindOf (getD s 0 0)
+
 -- read as a record of a kind: 4 where it is no carried kind, 3 where the length is not the kind's, else the call
 unfoldable pub readAs : Kind → List ℕ → Got
 readAs k s =
@@ -19,4 +23,9 @@ readAs k s =
 
 -- 3 where it is empty, else read as a record of its first byte's kind
 unfoldable pub readOf : List ℕ → Got
-readOf s = cond (eqb (length s) 0) (got.Refused 3) (readAs (kindOf (getD s 0 0)) s)
+readOf s = cond (eqb (length s) 0) (got.Refused 3) (readAs (firstKind s) s)
+
+-- the number that a reader's answer carries
+abbrev pub readNumber : Got → ℕ
+readNumber (got.Call c) = 0
+readNumber (got.Refused n) = n

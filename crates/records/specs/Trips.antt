@@ -1,11 +1,8 @@
--- The two round trips: what reading a record and writing it answers and leaves, and what is promised of the definitions.
+-- Reading a record and writing its call: the answer, and what the buffer then holds.
 use Prim.Native.Nat.{ℕ}
-use mathlib.Core.Path.{_≡_}
 use mathlib.Core.List.{List}
-use Rattle.records.specs.Numbers.{Bytes}
 use Rattle.records.specs.Reading.{readOf}
-use Rattle.records.specs.Writing.{bytesOf, putOf, putOutOf}
-use Rattle.records.specs.declared.Call.{Call}
+use Rattle.records.specs.Writing.{putOf, putOutOf}
 use Rattle.records.specs.declared.Got.{Got}
 use Rattle.records.specs.declared.Got.the-variants as got
 use Rattle.records.specs.declared.Written.{Written}
@@ -26,9 +23,3 @@ againOf s o = againBy (readOf s) s o
 
 unfoldable pub againOutOf : List ℕ → List ℕ → List ℕ
 againOutOf s o = againOutBy (readOf s) s o
-
-pub record Promises : Type 0 where
-  -- writing a call and reading it gives the same call
-  pub write-read : (c : Call) → readOf (bytesOf c) ≡ got.Call c
-  -- reading a record and writing it gives the same bytes
-  pub read-write : (s : List ℕ) (c : Call) → Bytes s → readOf s ≡ got.Call c → bytesOf c ≡ s

@@ -2,7 +2,7 @@
 use Prim.Native.Nat.{ℕ, _≤_}
 use mathlib.Core.Path.{_≡_}
 use mathlib.Core.List.{List, _∷_, _++_}
-use mathlib.Core.Bool.{Bool, cond}
+use mathlib.Core.Bool.{cond}
 use lib.ListN.{length, take, drop}
 use lib.Dec.{leb}
 use Rattle.records.specs.Numbers.{lay}
@@ -24,11 +24,17 @@ putOf s o = cond (leb (length s) (length o)) (written.Length (length s)) (writte
 abbrev pub putOutOf : List ℕ → List ℕ → List ℕ
 putOutOf s o = cond (leb (length s) (length o)) (s ++ drop (length s) o) o
 
+-- the writer's answer, and what the buffer then holds
 unfoldable pub writtenOf : Call → List ℕ → Written
 writtenOf c o = putOf (bytesOf c) o
 
 unfoldable pub outOf : Call → List ℕ → List ℕ
 outOf c o = putOutOf (bytesOf c) o
+
+-- the number that a writer's answer carries
+abbrev pub writeNumber : Written → ℕ
+writeNumber (written.Length n) = 0
+writeNumber (written.Refused n) = n
 
 -- bs begins with the record of c, whose length is n
 pub record Encodes (c : Call) (bs : List ℕ) (n : ℕ) : Type 0 where

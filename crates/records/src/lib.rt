@@ -1,5 +1,6 @@
 // The records of the executive's calls, of its tick and of its configuration: what one holds.
 pub mod kinds;
+mod promises;
 pub mod reading;
 pub mod trips;
 pub mod writing;

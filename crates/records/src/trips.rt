@@ -5,7 +5,7 @@ use crate::Written;
 use crate::reading;
 use crate::writing;
 ghost use mathlib.Core.Path.{_≡_};
-ghost use Rattle.records.specs.Trips.{againOf, againOutOf, Promises};
+ghost use Rattle.records.specs.Trips.{againOf, againOutOf};
 
 // Writes a call and reads the record: the same call.
 pub fn there_and_back(call: Call) -> Got
@@ -28,8 +28,3 @@ pub fn back_and_there(bytes: &[u8], out: &mut [u8]) -> Written
         Got::Refused(number) => Written::Refused(number),
     }
 }
-
-// What is promised of the definitions themselves.
-fn promised()
-    ensures { λ r. ⌜ Promises ⌝ }
-{}

@@ -1,22 +1,33 @@
--- Which case of `readOf` holds, from what the tests of `read` give.
+-- Which case of `readOf` holds, from what the tests of `read` give; the four cases of any record; when 3 and 4 are given.
 use Prim.Native.Nat.{ℕ}
-use mathlib.Core.Path.{_≡_}
+use mathlib.Core.Path.{_≡_, refl, ap, _∙_}
+use mathlib.Core.Logic.{_↔_, _≢_, _⊎_, inl, inr, ⊎-elim}
+use mathlib.Core.Bool.{Bool, true, false}
 use mathlib.Core.List.{List}
-use lib.ListN.{length, getD}
-use borrow.Author.Tests.{eq-eqb, ne-eqb}
+use native.Mathlib.Omega.{arith}
+use lib.ListN.{length}
+use lib.Dec.{eqb}
+use borrow.Author.Tests.{eq-eqb, ne-eqb, eqb-true, eqb-false}
 use Rattle.records.specs.Numbers.{cut}
-use Rattle.records.specs.Kinds.{bodyOf, lengthOf, kindOf}
+use Rattle.records.specs.Kinds.{bodyOf, lengthOf}
 use Rattle.records.specs.Calls.{gotOf}
-use Rattle.records.specs.Reading.{readOf, readAs}
+use Rattle.records.specs.Reading.{firstKind, readOf, readAs, readNumber}
+use Rattle.records.specs.Promises.{Misfit}
 use Rattle.records.specs.declared.Kind.{Kind}
+use Rattle.records.specs.declared.Kind.the-variants as kind
 use Rattle.records.specs.declared.Got.the-variants as got
+
+-- by cases on a test
+pub decide : {P : Type 0} (b : Bool) → (b ≡ true → P) → (b ≡ false → P) → P
+decide true f g = f refl
+decide false f g = g refl
 
 module _ (s : List ℕ) where
   pub read-empty : length s ≡ 0 → readOf s ≡ got.Refused 3
   unfolding readOf
   read-empty e = rw (eq-eqb (length s) 0 e)
 
-  pub read-some : (length s ≡ 0 → ⊥) → readOf s ≡ readAs (kindOf (getD s 0 0)) s
+  pub read-some : (length s ≡ 0 → ⊥) → readOf s ≡ readAs (firstKind s) s
   unfolding readOf
   read-some f = rw (ne-eqb (length s) 0 f)
 
@@ -33,3 +44,71 @@ module _ (s : List ℕ) where
       pub as-whole : length s ≡ lengthOf k → readAs k s ≡ gotOf k (cut (bodyOf k) 1 s)
       unfolding readAs
       as-whole n = rw (ne-eqb (lengthOf k) 0 known, eq-eqb (length s) (lengthOf k) n)
+
+-- a kind is Unknown, or has a length and a call for any numbers
+known : (k : Kind) → (k ≡ kind.Unknown) ⊎ ((lengthOf k ≢ 0) × ((xs : List ℕ) → readNumber (gotOf k xs) ≡ 0))
+known kind.Unknown = inl refl
+known kind.Terminate = inr (λ e. omega arith, λ xs. refl)
+known kind.Restart = inr (λ e. omega arith, λ xs. refl)
+known kind.Pause = inr (λ e. omega arith, λ xs. refl)
+known kind.CancelPause = inr (λ e. omega arith, λ xs. refl)
+known kind.Start = inr (λ e. omega arith, λ xs. refl)
+known kind.Queue = inr (λ e. omega arith, λ xs. refl)
+known kind.Flag = inr (λ e. omega arith, λ xs. refl)
+known kind.Wait = inr (λ e. omega arith, λ xs. refl)
+known kind.Alarm = inr (λ e. omega arith, λ xs. refl)
+known kind.Tick = inr (λ e. omega arith, λ xs. refl)
+known kind.Granule = inr (λ e. omega arith, λ xs. refl)
+known kind.Task = inr (λ e. omega arith, λ xs. refl)
+known kind.End = inr (λ e. omega arith, λ xs. refl)
+
+-- the four cases of reading
+pub read-cases : {P : Type 0} (s : List ℕ)
+    → (length s ≡ 0 → readOf s ≡ got.Refused 3 → P)
+    → (length s ≢ 0 → firstKind s ≡ kind.Unknown → readOf s ≡ got.Refused 4 → P)
+    → (length s ≢ 0 → Misfit s → readOf s ≡ got.Refused 3 → P)
+    → (length s ≢ 0 → firstKind s ≢ kind.Unknown → length s ≡ lengthOf (firstKind s) → readOf s ≡ gotOf (firstKind s) (cut (bodyOf (firstKind s)) 1 s)
+    → readNumber (readOf s) ≡ 0 → P)
+    → P
+read-cases s empty unknown misfit whole =
+    let k = firstKind s in
+    decide (eqb (length s) 0)
+    (λ t. let e = eqb-true (length s) 0 t in empty e (read-empty s e))
+    (λ f.
+    let some = eqb-false (length s) 0 f in
+    ⊎-elim
+    (λ u. unknown some u (read-some s some ∙ as-unknown s k (ap lengthOf u)))
+    (λ q.
+    let carried : k ≢ kind.Unknown = λ u. q .0 (ap lengthOf u) in
+    decide (eqb (length s) (lengthOf k))
+    (λ t.
+    let n = eqb-true (length s) (lengthOf k) t in
+    let r = read-some s some ∙ as-whole s k (q .0) n in
+    whole some carried n r (ap readNumber r ∙ q .1 (cut (bodyOf k) 1 s)))
+    (λ l. let n = eqb-false (length s) (lengthOf k) l in misfit some (carried, n) (read-some s some ∙ as-length s k (q .0) n)))
+    (known k))
+
+module _ (s : List ℕ) where
+  pub reads : (readNumber (readOf s) ≡ 0) ⊎ ((readNumber (readOf s) ≡ 3) ⊎ (readNumber (readOf s) ≡ 4))
+  reads =
+      read-cases s
+      (λ e r. inr (inl (ap readNumber r)))
+      (λ e u r. inr (inr (ap readNumber r)))
+      (λ e m r. inr (inl (ap readNumber r)))
+      (λ e k n r z. inl z)
+
+  pub three : (readNumber (readOf s) ≡ 3) ↔ ((length s ≡ 0) ⊎ Misfit s)
+  three =
+      read-cases s
+      (λ e r. (λ x. inl e, λ x. ap readNumber r))
+      (λ e u r. (λ x. absurd (omega (arith, ap readNumber r)), λ x. absurd (⊎-elim e (λ m. m .0 u) x)))
+      (λ e m r. (λ x. inr m, λ x. ap readNumber r))
+      (λ e k n r z. (λ x. absurd (omega arith), λ x. absurd (⊎-elim e (λ m. m .1 n) x)))
+
+  pub four : (readNumber (readOf s) ≡ 4) ↔ ((length s ≢ 0) × (firstKind s ≡ kind.Unknown))
+  four =
+      read-cases s
+      (λ e r. (λ x. absurd (omega (arith, ap readNumber r)), λ x. absurd (x .0 e)))
+      (λ e u r. (λ x. (e, u), λ x. ap readNumber r))
+      (λ e m r. (λ x. absurd (omega (arith, ap readNumber r)), λ x. absurd (m .0 (x .1))))
+      (λ e k n r z. (λ x. absurd (omega arith), λ x. absurd (k (x .1))))

@@ -1,17 +1,19 @@
--- Which case of `writtenOf` and `outOf` holds, from what the tests of `write` give; one more byte copied; no record is longer than six bytes.
+-- Which case of `writtenOf` and `outOf` holds, from what the tests of `write` give; one more byte copied; no record is longer than six bytes; when 20 is given.
 use Prim.Native.Nat.{ℕ, suc, _+_, _≤_, _<_}
-use mathlib.Core.Path.{_≡_, refl, sym, _∙_}
+use mathlib.Core.Path.{_≡_, sym, ap, _∙_}
+use mathlib.Core.Logic.{_↔_, _⊎_, inl, inr}
 use mathlib.Core.List.{List, _++_, append-assoc}
 use native.Mathlib.Numerals.{add-one}
 use native.Mathlib.Omega.{arith}
 use lib.ListN.{length, getD, take, drop, set}
 use lib.Seq.{drop-cons, take-suc, set-at, take-at, length-take-le}
-use lib.Dec.{lit≤}
-use borrow.Author.Tests.{le-leb, lt-leb}
-use Rattle.records.specs.Writing.{bytesOf, writtenOf, outOf}
+use lib.Dec.{lit≤, leb}
+use borrow.Author.Tests.{le-leb, lt-leb, leb-true, leb-false}
+use Rattle.records.specs.Writing.{bytesOf, writtenOf, outOf, writeNumber}
 use Rattle.records.specs.declared.Call.{Call}
 use Rattle.records.specs.declared.Call.the-variants as call
 use Rattle.records.specs.declared.Written.the-variants as written
+use Rattle.records.proofs.reading.Laws.{decide}
 
 module _ (c : Call) (o : List ℕ) where
   module _ (h : length o < length (bytesOf c)) where
@@ -31,6 +33,21 @@ module _ (c : Call) (o : List ℕ) where
     pub out-done : bytesOf c ++ drop (length (bytesOf c)) o ≡ outOf c o
     unfolding outOf
     out-done = rw (le-leb (length (bytesOf c)) (length o) h)
+
+module _ (c : Call) (o : List ℕ) where
+  -- the two cases of writing
+  write-cases : {P : Type 0} → (length o < length (bytesOf c) → writeNumber (writtenOf c o) ≡ 20 → P)
+      → (length (bytesOf c) ≤ length o → writeNumber (writtenOf c o) ≡ 0 → P) → P
+  write-cases short room =
+      decide (leb (length (bytesOf c)) (length o))
+      (λ t. let h = leb-true (length (bytesOf c)) (length o) t in room h (sym (ap writeNumber (write-done c o h))))
+      (λ f. let h = leb-false (length (bytesOf c)) (length o) f in short h (sym (ap writeNumber (write-refused c o h))))
+
+  pub writes : (writeNumber (writtenOf c o) ≡ 0) ⊎ (writeNumber (writtenOf c o) ≡ 20)
+  writes = write-cases (λ h e. inr e) (λ h e. inl e)
+
+  pub twenty : (writeNumber (writtenOf c o) ≡ 20) ↔ (length o < length (bytesOf c))
+  twenty = write-cases (λ h e. (λ x. h, λ x. e)) (λ h e. (λ x. absurd (omega arith), λ x. absurd (omega arith)))
 
 pub copy-more : (s d : List ℕ) (i : ℕ) → i < length s → i < length d → set (take i s ++ drop i d) i (getD s i 0) ≡ take (i + 1) s ++ drop (i + 1) d
 copy-more s d i hs hd =

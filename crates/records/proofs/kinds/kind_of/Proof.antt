@@ -8,7 +8,7 @@ returns-14 : tie.Need-returns-14
 unfolding kindOf
 returns-14 c =
     let x = c .match .rest in
-    simp (ne-eqb _ 0x00 (x .0 .0 .0 .0 .0 .0 .0 .0 .0 .0 .0 .0 .1), ne-eqb _ 0x01 (x .0 .0 .0 .0 .0 .0 .0 .0 .0 .0 .0 .1), ne-eqb _ 0x02 (x .0 .0 .0 .0 .0 .0 .0 .0 .0 .0 .1), ne-eqb _ 0x03 (x .0 .0 .0 .0 .0 .0 .0 .0 .0 .1), ne-eqb _ 0x04 (x .0 .0 .0 .0 .0 .0 .0 .0 .1), ne-eqb _ 0x05 (x .0 .0 .0 .0 .0 .0 .0 .1), ne-eqb _ 0x09 (x .0 .0 .0 .0 .0 .0 .1), ne-eqb _ 0x0A (x .0 .0 .0 .0 .0 .1), ne-eqb _ 0x0B (x .0 .0 .0 .0 .1), ne-eqb _ 0x80 (x .0 .0 .0 .1), ne-eqb _ 0x40 (x .0 .0 .1), ne-eqb _ 0x41 (x .0 .1), ne-eqb _ 0x42 (x .1))
+    simp (ne-eqb _ _ (x .0 .0 .0 .0 .0 .0 .0 .0 .0 .0 .0 .0 .1), ne-eqb _ _ (x .0 .0 .0 .0 .0 .0 .0 .0 .0 .0 .0 .1), ne-eqb _ _ (x .0 .0 .0 .0 .0 .0 .0 .0 .0 .0 .1), ne-eqb _ _ (x .0 .0 .0 .0 .0 .0 .0 .0 .0 .1), ne-eqb _ _ (x .0 .0 .0 .0 .0 .0 .0 .0 .1), ne-eqb _ _ (x .0 .0 .0 .0 .0 .0 .0 .1), ne-eqb _ _ (x .0 .0 .0 .0 .0 .0 .1), ne-eqb _ _ (x .0 .0 .0 .0 .0 .1), ne-eqb _ _ (x .0 .0 .0 .0 .1), ne-eqb _ _ (x .0 .0 .0 .1), ne-eqb _ _ (x .0 .0 .1), ne-eqb _ _ (x .0 .1), ne-eqb _ _ (x .1))
 
 pub kind-of-spec : {M : Type 1} → statement M
 unfolding kindOf

@@ -3,13 +3,12 @@ use Prim.Native.Nat.{ℕ}
 use mathlib.Core.Path.{_≡_, sym, ap, _∙_}
 use mathlib.Core.List.{List}
 use native.Mathlib.Omega.{arith}
-use lib.ListN.{getD}
 use denote.Ref.{now}
 use borrow.Author.Needs.{needs}
 use Rattle.records.specs.Numbers.{cut}
-use Rattle.records.specs.Kinds.{bodyOf, lengthOf, kindOf}
+use Rattle.records.specs.Kinds.{bodyOf, lengthOf}
 use Rattle.records.specs.Calls.{gotOf}
-use Rattle.records.specs.Reading.{readOf, readAs}
+use Rattle.records.specs.Reading.{firstKind, readOf, readAs}
 use Rattle.records.specs.declared.Kind.{Kind}
 use Rattle.records.proofs.reading.Laws.{read-empty, read-some, as-unknown, as-length, as-whole}
 use Rattle.records.proofs.reading.read.Statement.{statement}
@@ -19,7 +18,7 @@ abbrev bytes : tie.After-length-of → List ℕ
 bytes c = now (c .before .before .before .before .before .args .bytes)
 
 abbrev kind : tie.After-length-of → Kind
-kind c = kindOf (getD (bytes c) 0 0)
+kind c = firstKind (bytes c)
 
 -- the length that was looked up is that of the first byte's kind
 want : (c : tie.After-length-of) → c .length-of .result ≡ lengthOf (kind c)

@@ -1,5 +1,5 @@
 -- `writing::encode` meets its contract: each arm's bytes are those of its row of the table.
-use mathlib.Core.Path.{refl, sym, ap}
+use mathlib.Core.Path.{refl, ap}
 use mathlib.Core.List.{_∷_}
 use lib.Dec.{lit≤}
 use borrow.Author.Needs.{needs}
