@@ -28,11 +28,11 @@ need() {
     return 1
 }
 
-# kit: the Rattle kit and the commands that it calls.
+# kit: the Rattle kit and the commands that it calls; as root it runs programs as nobody, by setpriv.
 kit() {
     if ! command -v rt >/dev/null 2>&1; then
         echo "Please install the Rattle kit and put its command rt on the PATH." >&2
         return 1
     fi
-    need awk gawk && need cmp diffutils && need find findutils && need setpriv util-linux
+    need awk gawk && need cmp diffutils && need find findutils && { [ "$(id -u)" != 0 ] || need setpriv util-linux; }
 }
