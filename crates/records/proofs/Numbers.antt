@@ -1,12 +1,13 @@
 -- A number is its bytes, and some bytes are their number; and so a row of numbers, by any widths.
-use Prim.Native.Nat.{ℕ, zero, suc, _+_, _*_, _/_, _%_, _<_}
+use Prim.Native.Nat.{ℕ, zero, suc, _+_, _*_, _/_, _%_, _<_, _^_}
 use mathlib.Core.Path.{_≡_, refl, sym, ap, _∙_}
 use mathlib.Core.List.{List, [], _∷_, _++_}
 use native.Mathlib.Omega.{arith}
-use native.Mathlib.Nat.{add-zero, add-suc, suc-add, add-comm, div-div-eq-div-mul}
+use native.Mathlib.Nat.{add-zero, add-suc, suc-add, add-comm, div-div-eq-div-mul, pow-succ'}
 use lib.ListN.{length, getD, drop, drop-of-length-le}
 use lib.Seq.{drop-cons}
-use Rattle.records.specs.Numbers.{Bytes, numberFrom, numberOf, oneAnd, bytesIn, part, total, lay, cut}
+use lib.Dec.{lit<}
+use Rattle.records.specs.Numbers.{Bytes, numberFrom, numberOf, oneAnd, bytesIn, part, total, lay, cut, Fits}
 
 from-last : (n : ℕ) (bs : List ℕ) (b : ℕ) → numberFrom n (bs ++ (b ∷ [])) ≡ numberFrom n bs * 256 + b
 from-last n [] b = refl
@@ -71,3 +72,20 @@ module _ (s : List ℕ) where
         ∙ ap (λ t. part w i s ++ t) (lay-cut ws (i + w))
         ∙ part-more w (total ws) i
         ∙ ap (λ n. part n i s) (add-comm (total ws) w)
+
+    -- a number that is cut out is below the bound of its width
+    number-fits : (w i : ℕ) → numberOf (part (suc w) i s) < 256 ^ suc w
+    number-fits zero i = h i
+    number-fits (suc w) i =
+        let e : numberOf (part (suc (suc w)) i s) ≡ numberOf (part (suc w) i s) * 256 + getD s (i + suc w) 0 =
+        ap numberOf (part-last (suc w) i) ∙ number-last (part (suc w) i s) (getD s (i + suc w) 0) in
+        let p : 256 ^ suc (suc w) ≡ 256 * 256 ^ suc w = pow-succ' 256 (suc w) in
+        omega (arith, number-fits w i, h (i + suc w))
+
+    width-fits : (w i : ℕ) → numberOf (part w i s) < 256 ^ w
+    width-fits zero i = lit< tt
+    width-fits (suc w) i = number-fits w i
+
+    pub cut-fits : (ws : List ℕ) (i : ℕ) → Fits ws (cut ws i s)
+    cut-fits [] i = tt
+    cut-fits (w ∷ ws) i = (width-fits w i, cut-fits ws (i + w))

@@ -1,0 +1,103 @@
+-- A call that nothing refuses has what its method asks.
+use Prim.Native.Nat.{ℕ, zero, suc, _+_, _≤_, _<_, _^_, _/_, _%_}
+use mathlib.Core.Path.{_≡_, refl, ap, sym, _∙_}
+use mathlib.Core.Bool.{Bool, true, false, not}
+use native.Mathlib.Omega.{arith}
+use borrow.Author.Tests.{ltb-false, leb-false, eqb-false}
+use lib.Dec.{leb, ltb, eqb}
+use Rattle.records.specs.declared.TaskNo.{TaskNo}
+use Rattle.records.specs.declared.FlagNo.{FlagNo}
+use Rattle.records.specs.declared.Call.{Call}
+use Rattle.records.specs.declared.Call.the-variants as call
+use Rattle.executive.specs.declared.Table.{Table}
+use Rattle.executive.specs.Queue.{pick}
+use Rattle.executive.specs.Table.{Fit, Standing}
+use Rattle.executive.specs.Plans.{stateAt, isDormant}
+use Rattle.executive.specs.Check.{_and_}
+use Rattle.executive.specs.WellFormed.{WellFormed, Times}
+use Rattle.executive.specs.Refusals.{_or_, isTick, nobodyActive, badBody, namesCaller, alarmRunning, poolFull, endsTime, overfills, callRefusals, firstOf, earlyOf}
+use Rattle.executive.proofs.Standing.{fit-of, standing-of}
+
+pub record Clear (t : Table) (c : Call) : Type 0 where
+  pub active : nobodyActive t c ≡ false
+  pub body : badBody t c ≡ false
+  pub room : poolFull t c ≡ false
+  pub time : endsTime t c ≡ false
+
+pass : (n : ℕ) (b : Bool) (m : ℕ) → pick b (suc n) m ≡ 0 → (b ≡ false) × (m ≡ 0)
+pass n true m h = absurd (omega arith)
+pass n false m h = (refl, h)
+
+pub clear-of : (t : Table) (c : Call) → earlyOf t c ≡ 0 → Clear t c
+unfolding earlyOf firstOf
+clear-of t c h =
+    let a = pass 4 (nobodyActive t c) _ h in
+    let b = pass 5 (badBody t c) _ (a .1) in
+    let d = pass 6 (namesCaller t c) _ (b .1) in
+    let e = pass 8 (alarmRunning t c) _ (d .1) in
+    let f = pass 7 (poolFull t c) _ (e .1) in
+    let g = pass 9 (endsTime t c) _ (f .1) in
+    record { active = a .0; body = b .0; room = f .0; time = g .0 }
+
+or-first : (a b : Bool) → (a or b) ≡ false → a ≡ false
+or-first false b h = refl
+or-first true b h = h
+
+or-second : (a b : Bool) → (a or b) ≡ false → b ≡ false
+or-second false b h = h
+or-second true b h = absurd (let z : _≡_ {A = ℕ} 0 1 = cc in omega arith)
+
+-- what a body that is in range says
+pub flag-low : (t : Table) (o : ℕ) (f : FlagNo) → badBody t (call.Flag o f) ≡ false → f .0 < 32
+unfolding badBody
+flag-low t o f h = let l = ltb-false 31 (f .0) (or-first (ltb 31 (f .0)) (ltb 2 o) h) in omega arith
+
+pub alarm-low : (t : Table) (u n : ℕ) (f : FlagNo) → badBody t (call.Alarm u n f) ≡ false → f .0 < 32
+unfolding badBody
+alarm-low t u n f h = let l = ltb-false 31 (f .0) (or-second (ltb 4 u) (ltb 31 (f .0)) h) in omega arith
+
+alarm-unit : (t : Table) (u n : ℕ) (f : FlagNo) → badBody t (call.Alarm u n f) ≡ false → u < 5
+unfolding badBody
+alarm-unit t u n f h = let l = ltb-false 4 u (or-first (ltb 4 u) (ltb 31 (f .0)) h) in omega arith
+
+pause-unit : (t : Table) (u n : ℕ) → badBody t (call.Pause u n) ≡ false → u < 5
+unfolding badBody
+pause-unit t u n h = let l = ltb-false 4 u h in omega arith
+
+-- ---- what each method asks
+module _ (t : Table) (w : WellFormed t) where
+  active : (c : Call) → isTick c ≡ false → earlyOf t c ≡ 0 → 0 < t .ready
+  unfolding nobodyActive
+  active c n h = let z = eqb-false (t .ready) 0 (rw n at (clear-of t c h .active)) in omega arith
+
+  pub end-owed : earlyOf t call.Terminate ≡ 0 → Fit t × (0 < t .ready)
+  end-owed h = (fit-of t w, active call.Terminate refl h)
+
+  pub restart-owed : (p n : ℕ) → earlyOf t (call.Restart p n) ≡ 0 → Standing t × (0 < t .ready)
+  restart-owed p n h = (standing-of t w, active (call.Restart p n) refl h)
+
+  pub pause-owed : (u n : ℕ) → earlyOf t (call.Pause u n) ≡ 0 → Fit t × (0 < t .ready) × (t .rest .clock .0 ≤ 2 ^ 40) × (u < 5)
+  pause-owed u n h = (fit-of t w, active (call.Pause u n) refl h, w .numbers .clock, pause-unit t u n (clear-of t (call.Pause u n) h .body))
+
+  pub start-owed : (o : ℕ) (k : TaskNo) → earlyOf t (call.Start o k) ≡ 0 → Fit t × (0 < t .ready)
+  start-owed o k h = (fit-of t w, active (call.Start o k) refl h)
+
+  pub ask-owed : (o : ℕ) (k : TaskNo) (a : ℕ) → earlyOf t (call.Queue o k a) ≡ 0
+      → Fit t × (0 < t .ready) × (isDormant (stateAt t k) ≡ false → t .rest .queued < 32)
+  unfolding poolFull
+  ask-owed o k a h = (fit-of t w, active (call.Queue o k a) refl h, λ d. leb-false 32 (t .rest .queued) (rw d at (clear-of t (call.Queue o k a) h .room)))
+
+  pub flag-owed : (o : ℕ) (f : FlagNo) → earlyOf t (call.Flag o f) ≡ 0 → Fit t × Times t × (f .0 < 32)
+  flag-owed o f h = (fit-of t w, w .times, flag-low t o f (clear-of t (call.Flag o f) h .body))
+
+  pub wait-owed : (m x : ℕ) → earlyOf t (call.Wait m x) ≡ 0 → Fit t × (0 < t .ready)
+  wait-owed m x h = (fit-of t w, active (call.Wait m x) refl h)
+
+  pub alarm-owed : (u n : ℕ) (f : FlagNo) → earlyOf t (call.Alarm u n f) ≡ 0 → Fit t × Times t × (f .0 < 32) × (t .rest .clock .0 ≤ 2 ^ 40) × (u < 5)
+  alarm-owed u n f h =
+      let b = clear-of t (call.Alarm u n f) h .body in
+      (fit-of t w, w .times, alarm-low t u n f b, w .numbers .clock, alarm-unit t u n f b)
+
+  pub tick-owed : earlyOf t call.Tick ≡ 0 → Fit t × (t .rest .clock .0 + t .rest .granule ≤ 2 ^ 40)
+  unfolding endsTime
+  tick-owed h = (fit-of t w, ltb-false (2 ^ 40) (t .rest .clock .0 + t .rest .granule) (clear-of t call.Tick h .time))

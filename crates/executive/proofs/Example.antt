@@ -1,0 +1,32 @@
+-- The worked history, computed.
+use mathlib.Core.Path.{_≡_, refl}
+use Rattle.records.specs.Kinds.{kindOf}
+use Rattle.records.specs.Reading.{readAs, readOf}
+use Rattle.executive.specs.Queue.{behind, insert, count, ahead, prioIn, activeOf, departures, above, entriesAbove}
+use Rattle.executive.specs.Table.{pad, taskAt, putAt, items, enterAt, departed, entered, depart, join, joins, apply, admit, admits, carry, entries, movesOf}
+use Rattle.executive.specs.Time.{interval, aimAt}
+use Rattle.executive.specs.Rests.{placeOf, isSet, each, rung, advanced}
+use Rattle.executive.specs.Plans.{waking, endPlan, restartPlan, pausePlan, cancelPlan, levelOf, waitOf, argumentOf, startPlan, queuePlan, startOnlyPlan, requestOf, askPlan, rises, risers, setPlan, resetPlan, flagPlan, waitPlan, alarmPlan, tickPlan}
+use Rattle.executive.specs.WellFormed.{sumOf}
+use Rattle.executive.specs.Check.{upTo, allOf, numbersRight, falls, exactAt, queueRight, timesRight, startedRight, masksRight, busyRight, waitersAt, waitersRight, dormantRight, poolRight, isWellFormed}
+use Rattle.executive.specs.Refusals.{planOf, nobodyActive, badBody, namesCaller, alarmRunning, poolFull, endsTime, overfills, refusals, firstOf}
+use Rattle.executive.specs.Steps.{marksOf, accepted, refused, stepOf}
+use Rattle.executive.specs.Fresh.{tasksFrom, tasksIn, configurationIn, taskRight, isConfiguration, sleepers, dormantTable, starter, starters, freshTable, freshOf}
+use Rattle.executive.specs.Demands.{planIn, history}
+use Rattle.executive.specs.Worked.{along, Worked}
+
+pub worked : Worked
+unfolding tasksFrom tasksIn configurationIn kindOf readAs readOf behind insert count ahead prioIn activeOf departures above entriesAbove pad taskAt putAt items enterAt departed entered depart join joins apply admit admits carry entries movesOf interval aimAt placeOf isSet each rung advanced waking endPlan restartPlan pausePlan cancelPlan levelOf waitOf argumentOf startPlan queuePlan startOnlyPlan requestOf askPlan rises risers setPlan resetPlan flagPlan waitPlan alarmPlan tickPlan upTo allOf sumOf numbersRight falls exactAt queueRight timesRight startedRight masksRight busyRight waitersAt waitersRight dormantRight poolRight isWellFormed planOf nobodyActive badBody namesCaller alarmRunning poolFull endsTime overfills refusals firstOf marksOf accepted refused stepOf taskRight isConfiguration sleepers dormantTable starter starters freshTable freshOf planIn history along
+worked = record {
+  started = refl;
+  well-formed = refl;
+  ready = refl;
+  priority = refl;
+  behind = refl;
+  active = refl;
+  numbers = refl;
+  actives = refl;
+  aheads = refl;
+  entered = refl;
+  departed = refl;
+}

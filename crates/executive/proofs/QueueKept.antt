@@ -1,0 +1,132 @@
+-- The queue's rule is kept by every plan whose caller leaves to a state that is not ready, and whose joining tasks were not ready and are.
+use mathlib.Core.Path.{_≡_, refl, sym, _∙_}
+use mathlib.Core.Bool.{Bool, true, false}
+use mathlib.Core.List.{List, _∷_}
+use Prim.Native.Nat.{ℕ, zero, suc, _+_, _≤_, _<_}
+use native.Mathlib.Omega.{arith}
+use mathlib.Core.Logic.{_≢_}
+use lib.Dec.{leb, lit≤, eqb, eqb→eq}
+use lib.ListN.{length, List·getD-eq-default}
+use Rattle.records.specs.declared.TaskNo.{TaskNo}
+use Rattle.executive.specs.declared.State.{State}
+use Rattle.executive.specs.declared.Task.{Task}
+use Rattle.executive.specs.declared.Table.{Table}
+use Rattle.executive.specs.Queue.{pick, one, count}
+use Rattle.executive.specs.Table.{Names, noTask, line, taskAt, putAt, items, enterAt, Join, entered, join}
+use Rattle.executive.specs.WellFormed.{kindOf, is, Line}
+use Rattle.executive.proofs.Law.{Le, le-yes, le-no, leb-is, T-of, eqb-self, insert-count, insert-desc}
+use Rattle.executive.proofs.Moved.{items-put, enter-items, join-line}
+use Rattle.executive.proofs.Sums.{put-at}
+
+-- a task that is busy is one of the list
+pub busy-names : (ts : List Task) (k : ℕ) → is 0 (taskAt ts k .state) ≡ 0 → Names k ts
+unfolding taskAt
+busy-names ts zero h = absurd (omega arith)
+busy-names ts (suc i) h = (omega arith, go (leb (suc i) (length ts)) (leb-is (suc i) (length ts)))
+  where
+    go : (b : Bool) → Le (suc i) (length ts) b → suc i ≤ length ts
+    go true (le-yes g) = g
+    go false (le-no g) = absurd (omega (arith, rw (List·getD-eq-default ts noTask {n = i} (omega arith)) at h))
+
+-- a state is of one kind
+kinds : (x : ℕ) → one (eqb 1 x) + one (eqb 0 x) + one (eqb 2 x) + one (eqb 3 x) ≤ 1
+kinds x = go (eqb 1 x) (eqb 0 x) (eqb 2 x) (eqb 3 x) refl refl refl refl
+  where
+    eq : (n : ℕ) → eqb n x ≡ true → n ≡ x
+    eq n e = eqb→eq n x (T-of (eqb n x) e)
+
+    go : (a b c d : Bool) → eqb 1 x ≡ a → eqb 0 x ≡ b → eqb 2 x ≡ c → eqb 3 x ≡ d → one a + one b + one c + one d ≤ 1
+    go false false false false p q r s = lit≤ tt
+    go true false false false p q r s = lit≤ tt
+    go false true false false p q r s = lit≤ tt
+    go false false true false p q r s = lit≤ tt
+    go false false false true p q r s = lit≤ tt
+    go true true c d p q r s = absurd (omega (arith, eq 1 p, eq 0 q))
+    go true false true d p q r s = absurd (omega (arith, eq 1 p, eq 2 r))
+    go true false false true p q r s = absurd (omega (arith, eq 1 p, eq 3 s))
+    go false true true d p q r s = absurd (omega (arith, eq 0 q, eq 2 r))
+    go false true false true p q r s = absurd (omega (arith, eq 0 q, eq 3 s))
+    go false false true true p q r s = absurd (omega (arith, eq 2 r, eq 3 s))
+
+pub not-both : (s : State) → is 1 s + is 0 s + is 2 s + is 3 s ≤ 1
+not-both s = kinds (kindOf s)
+
+pub is-le : (n : ℕ) (s : State) → is n s ≤ 1
+is-le n s = go (eqb n (kindOf s))
+  where
+    go : (b : Bool) → one b ≤ 1
+    go true = lit≤ tt
+    go false = lit≤ tt
+
+-- ---- a line: the ready queue, and any other line of waiting tasks. One joins it, the head leaves it, the entry of another changes.
+module _ (n : ℕ) (ts : List Task) (jn : TaskNo) (e : Task) where
+  abbrev j : ℕ
+  j = jn .0
+
+  pub line-in : (r : List TaskNo) → Line n ts r → Names j ts → is n (taskAt ts j .state) ≡ 0 → is n (e .state) ≡ 1 → Line n (putAt ts j e) (enterAt (putAt ts j e) jn r)
+  line-in r q m x y =
+      let v = enter-items ts jn e r m (q .exact j ∙ x) in
+      record {
+        exact = λ k. rw (v, insert-count (record { task = j; prio = e .priority }) (items ts r) k, put-at (λ (e : Task). is n (e .state)) ts j k e m) (go k (eqb k j) refl);
+        sorted = rw v (insert-desc (record { task = j; prio = e .priority }) (items ts r) (q .sorted));
+      }
+    where
+      go : (k : ℕ) (b : Bool) → eqb k j ≡ b → one b + count k (items ts r) ≡ pick b (is n (e .state)) (is n (taskAt ts k .state))
+      go k true f = rw (eqb→eq k j (T-of (eqb k j) f)) (omega (arith, q .exact j))
+      go k false f = omega (arith, q .exact k)
+
+  pub line-else : (r : List TaskNo) → Line n ts r → Names j ts → is n (taskAt ts j .state) ≡ 0 → is n (e .state) ≡ 0 → Line n (putAt ts j e) r
+  line-else r q m x y =
+      let v : items (putAt ts j e) r ≡ items ts r = items-put ts j e r (q .exact j ∙ x) in
+      record {
+        exact = λ k. rw (v, put-at (λ (e : Task). is n (e .state)) ts j k e m) (go k (eqb k j) refl);
+        sorted = rw v (q .sorted);
+      }
+    where
+      go : (k : ℕ) (b : Bool) → eqb k j ≡ b → count k (items ts r) ≡ pick b (is n (e .state)) (is n (taskAt ts k .state))
+      go k true f = rw (eqb→eq k j (T-of (eqb k j) f)) (q .exact j ∙ x ∙ sym y)
+      go k false f = q .exact k
+
+-- the head of a line
+pub record Head (n : ℕ) (ts : List Task) (c : TaskNo) (r : List TaskNo) : Type 0 where
+  pub is-of : is n (taskAt ts (c .0) .state) ≡ 1
+  pub names : Names (c .0) ts
+  pub alone : count (c .0) (items ts r) ≡ 0
+
+pub head-is : (n : ℕ) (ts : List Task) (c : TaskNo) (r : List TaskNo) → n ≢ 0 → Line n ts (c ∷ r) → Head n ts c r
+unfolding items count
+head-is n ts c r z q =
+    let e : one (eqb (c .0) (c .0)) + count (c .0) (items ts r) ≡ is n (taskAt ts (c .0) .state) = q .exact (c .0) in
+    let e′ : 1 + count (c .0) (items ts r) ≡ is n (taskAt ts (c .0) .state) = rw (eqb-self (c .0)) at e in
+    let a : is n (taskAt ts (c .0) .state) ≤ 1 = is-le n (taskAt ts (c .0) .state) in
+    record { is-of = omega arith; names = busy-names ts (c .0) (busy (eqb n (kindOf (taskAt ts (c .0) .state))) refl (eqb 0 (kindOf (taskAt ts (c .0) .state))) refl (omega arith)); alone = omega arith }
+  where
+    busy : (a : Bool) → eqb n (kindOf (taskAt ts (c .0) .state)) ≡ a → (b : Bool) → eqb 0 (kindOf (taskAt ts (c .0) .state)) ≡ b → 0 < one a → one b ≡ 0
+    busy a f false g h = refl
+    busy false f true g h = absurd (omega arith)
+    busy true f true g h = absurd (z (eqb→eq n _ (T-of _ f) ∙ sym (eqb→eq 0 _ (T-of _ g))))
+
+pub line-out : (n : ℕ) (ts : List Task) (c : TaskNo) (e : Task) (r : List TaskNo) → n ≢ 0 → Line n ts (c ∷ r) → is n (e .state) ≡ 0 → Line n (putAt ts (c .0) e) r
+unfolding items count
+line-out n ts c e r nz q z =
+    let h : Head n ts c r = head-is n ts c r nz q in
+    let v : items (putAt ts (c .0) e) r ≡ items ts r = items-put ts (c .0) e r (h .alone) in
+    record {
+      exact = λ k. rw (v, put-at (λ (e : Task). is n (e .state)) ts (c .0) k e (h .names)) (go k (eqb k (c .0)) refl (q .exact k));
+      sorted = rw v (q .sorted .1);
+    }
+  where
+    go : (k : ℕ) (b : Bool) → eqb k (c .0) ≡ b → one b + count k (items ts r) ≡ is n (taskAt ts k .state)
+        → count k (items ts r) ≡ pick b (is n (e .state)) (is n (taskAt ts k .state))
+    go k true g x = omega (arith, is-le n (taskAt ts k .state))
+    go k false g x = omega arith
+
+-- ---- the ready queue
+pub record Joins (j : Join) (ts : List Task) : Type 0 where
+  pub names : Names (j .who .0) ts
+  pub before : is 1 (taskAt ts (j .who .0) .state) ≡ 0
+  pub after : is 1 (j .change (taskAt ts (j .who .0)) .state) ≡ 1
+
+pub join-kept : (j : Join) (t : Table) → Line 1 (t .tasks) (line t) → Joins j (t .tasks) → Line 1 (join j t .tasks) (line (join j t))
+unfolding join entered
+join-kept j t q h = rw (join-line j t) (line-in 1 (t .tasks) (j .who) (j .change (taskAt (t .tasks) (j .who .0))) (line t) q (h .names) (h .before) (h .after))

@@ -1,0 +1,67 @@
+-- A line is no longer than there are tasks: so a ready queue of sixteen tasks never overflows (A5), and 15 is the most that one entry passes (A7).
+use mathlib.Core.Path.{_≡_, refl, sym}
+use mathlib.Core.Logic.{_≢_}
+use mathlib.Core.Bool.{Bool, true, false}
+use mathlib.Core.List.{List, [], _∷_}
+use Prim.Native.Nat.{ℕ, suc, _≤_, _<_}
+use native.Mathlib.Omega.{arith}
+use lib.Dec.{eqb, eqb→eq, leb}
+use lib.ListN.{length, getD}
+use Rattle.records.specs.declared.TaskNo.{TaskNo}
+use Rattle.executive.specs.declared.Task.{Task}
+use Rattle.executive.specs.Queue.{Item, one, count, atLeast}
+use Rattle.executive.specs.Table.{noTask, taskAt, putAt, items, Join}
+use Rattle.executive.specs.WellFormed.{sumOf, is, Line}
+use Rattle.executive.proofs.Law.{T-of}
+use Rattle.executive.proofs.Sums.{sum-put, put-length}
+use Rattle.executive.proofs.QueueKept.{is-le, Head, head-is, line-out, Joins}
+
+pub sum-none : (f : Task → ℕ) (ts : List Task) → ((i : ℕ) → f (getD ts i noTask) ≡ 0) → sumOf f ts ≡ 0
+unfolding sumOf
+sum-none f [] h = refl
+sum-none f (e ∷ ts) h = omega (arith, h 0, sum-none f ts (λ i. h (suc i)))
+
+sum-le : (f : Task → ℕ) (ts : List Task) → ((e : Task) → f e ≤ 1) → sumOf f ts ≤ length ts
+unfolding sumOf
+sum-le f [] h = omega arith
+sum-le f (e ∷ ts) h = omega (arith, h e, sum-le f ts h)
+
+not-dormant-kind : (n : ℕ) → n ≢ 0 → is n (noTask .state) ≡ 0
+not-dormant-kind n h = go (eqb n 0) refl
+  where
+    go : (b : Bool) → eqb n 0 ≡ b → one b ≡ 0
+    go true f = absurd (h (eqb→eq n 0 (T-of (eqb n 0) f)))
+    go false f = refl
+
+-- take the head away and make it dormant: one fewer on both sides
+pub line-size : (n : ℕ) → n ≢ 0 → (r : List TaskNo) (ts : List Task) → Line n ts r → length r ≡ sumOf (λ (e : Task). is n (e .state)) ts
+unfolding items count taskAt
+line-size n h [] ts q = sym (sum-none (λ (e : Task). is n (e .state)) ts (λ i. sym (q .exact (suc i))))
+line-size n h (c ∷ r) ts q =
+    let x : Head n ts c r = head-is n ts c r h q in
+    omega (arith, line-size n h r (putAt ts (c .0) noTask) (line-out n ts c noTask r h q (not-dormant-kind n h)), sum-put (λ (e : Task). is n (e .state)) ts (c .0) noTask (x .names), x .is-of, not-dormant-kind n h)
+
+-- one that may enter finds at most fifteen
+pub room-to-enter : (j : Join) (ts : List Task) (r : List TaskNo) → length ts ≡ 16 → Line 1 ts r → Joins j ts → length r < 16
+room-to-enter j ts r l q h =
+    let e : Task = j .change (taskAt ts (j .who .0)) in
+    let f : Task → ℕ = λ (e : Task). is 1 (e .state) in
+    omega (
+      arith,
+      line-size 1 (omega arith) r ts q,
+      sum-put f ts (j .who .0) e (h .names),
+      h .before,
+      h .after,
+      sum-le f (putAt ts (j .who .0) e) (λ e. is-le 1 (e .state)),
+      put-length ts (j .who .0) e,
+    )
+
+-- the number passed over is at most the length
+pub passed-le : (p : ℕ) (q : List Item) → atLeast p q ≤ length q
+unfolding atLeast
+passed-le p [] = omega arith
+passed-le p (x ∷ q) = omega (arith, passed-le p q, one-le (leb p (x .prio)))
+  where
+    one-le : (b : Bool) → one b ≤ 1
+    one-le true = omega arith
+    one-le false = omega arith

@@ -1,0 +1,22 @@
+use mathlib.Core.Path.{_≡_, refl, sym, ap, _∙_}
+use borrow.Author.Needs.{needs}
+use Rattle.executive.specs.Plans.{queuePlan}
+use Rattle.executive.specs.Table.{carry, admits}
+use Rattle.executive.proofs.Table.ask.Statement.{statement}
+use Rattle.executive.proofs.Table.ask.Tie as tie
+
+go-out-requires : tie.Need-go-out-requires
+go-out-requires c κs = search needs
+
+with-request-requires : tie.Need-with-request-requires
+with-request-requires c κs = search needs
+
+with-rest-requires : tie.Need-with-rest-requires
+with-rest-requires c κs = search needs
+
+returns : tie.Need-returns
+unfolding queuePlan carry admits
+returns c = rw (c .with-rest .ensures, c .before .with-request .ensures, c .before .before .before .go-out .ensures) refl
+
+pub ask-spec : {M : Type 1} → statement M
+ask-spec = tie.close (tie.spec go-out-requires with-request-requires with-rest-requires returns)

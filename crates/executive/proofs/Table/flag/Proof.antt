@@ -1,0 +1,22 @@
+use mathlib.Core.Path.{_≡_, refl, sym, _∙_}
+use borrow.Author.Tests.{ne-eqb}
+use Rattle.executive.specs.Plans.{flagPlan}
+use Rattle.executive.proofs.Scans.{unchanged}
+use borrow.Author.Needs.{needs}
+use Rattle.executive.proofs.Table.flag.Statement.{statement}
+use Rattle.executive.proofs.Table.flag.Tie as tie
+
+returns : tie.Need-returns
+unfolding flagPlan
+returns c = rw (c .reset .ensures, c .before .if1 .taken) refl
+
+returns-2 : tie.Need-returns-2
+unfolding flagPlan
+returns-2 c = rw (c .set .ensures, c .before .if2 .taken) refl
+
+returns-3 : tie.Need-returns-3
+unfolding flagPlan
+returns-3 c = rw (ne-eqb _ _ (c .before .if1 .left), ne-eqb _ _ (c .if2 .left)) (unchanged (c .before .before .args .self))
+
+pub flag-spec : {M : Type 1} → statement M
+flag-spec = tie.close (tie.spec (λ c κs. search needs) returns (λ c κs. search needs) returns-2 returns-3)

@@ -1,0 +1,62 @@
+use Rattle.executive.specs.Plans.{pausePlan}
+use Rattle.executive.specs.Table.{carry, departed, depart, admits, nobody}
+use Rattle.executive.proofs.Interval.{interval-most}
+use Prim.Native.Nat.{_≤_}
+use mathlib.Core.Path.{_≡_, refl, sym, ap, _∙_}
+use native.Mathlib.Omega.{arith}
+use borrow.Author.Tests.{ne-eqb}
+use Rattle.executive.proofs.Fits.{head-line}
+use borrow.Author.Needs.{needs}
+use Rattle.executive.proofs.Table.pause.Statement.{statement}
+use Rattle.executive.proofs.Table.pause.Tie as tie
+
+returns : tie.Need-returns
+unfolding pausePlan carry depart admits
+returns c = rw (c .if1 .taken) refl
+
+array-copy-out-task-at : tie.Need-array-copy-out-task-at
+array-copy-out-task-at c = search needs
+
+task-at-requires : tie.Need-task-at-requires
+task-at-requires c κs = search needs
+
+millis-of-requires : tie.Need-millis-of-requires
+millis-of-requires c κs = search needs
+
+add-t15 : tie.Need-add-t15
+add-t15 c =
+    let s = c .before .before .before .before .before .before .before .before in
+    let b : c .before .before .millis-of .result .0 ≤ 918000000 = rw (c .before .before .millis-of .ensures) (interval-most (s .args .unit) (s .args .count) (omega arith)) in
+    omega (arith, s .pre .2)
+
+with-state-requires : tie.Need-with-state-requires
+with-state-requires c κs = search needs
+
+depart-requires : tie.Need-depart-requires
+depart-requires c κs = search needs
+
+returns-2 : tie.Need-returns-2
+unfolding pausePlan carry depart departed admits
+returns-2 c =
+    let s = c .before .before .before .before .before .before .before .before .before .before in
+    rw (
+      ne-eqb (s .args .count) 0 (c .before .before .before .before .before .before .before .before .before .if1 .left),
+      c .depart .ensures,
+      c .before .with-state .ensures,
+      c .before .before .before .before .millis-of .ensures,
+      c .before .before .before .before .before .task-at .ensures,
+      head-line (s .args .self) (s .pre .0) nobody (s .pre .1),
+    ) refl
+
+pub pause-spec : {M : Type 1} → statement M
+pause-spec =
+    tie.close
+    (tie.spec
+    returns
+    array-copy-out-task-at
+    task-at-requires
+    millis-of-requires
+    add-t15
+    with-state-requires
+    depart-requires
+    returns-2)

@@ -1,0 +1,13 @@
+use mathlib.Core.Path.{_≡_, refl, sym, _∙_}
+use Rattle.executive.specs.Plans.{resetPlan}
+use Rattle.executive.specs.Table.{carry, depart, admits}
+use borrow.Author.Needs.{needs}
+use Rattle.executive.proofs.Table.reset.Statement.{statement}
+use Rattle.executive.proofs.Table.reset.Tie as tie
+
+returns : tie.Need-returns
+unfolding resetPlan carry depart admits
+returns c = rw (c .with-rest .ensures, c .before .without-flag .ensures) refl
+
+pub reset-spec : {M : Type 1} → statement M
+reset-spec = tie.close (tie.spec (λ c κs. search needs) (λ c κs. search needs) returns)

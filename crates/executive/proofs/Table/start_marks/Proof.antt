@@ -1,0 +1,13 @@
+use mathlib.Core.Path.{_≡_, refl, sym, ap, _∙_}
+use Rattle.executive.specs.Steps.{marksOf}
+use borrow.Author.Needs.{needs}
+use Rattle.executive.proofs.Table.start_marks.Statement.{statement}
+use Rattle.executive.proofs.Table.start_marks.Tie as tie
+
+returns : tie.Need-returns
+unfolding marksOf
+returns c = rw (c .only-z .ensures, c .before .is-dormant .ensures, c .before .before .state-at .ensures) refl
+
+pub start-marks-spec : {M : Type 1} → statement M
+start-marks-spec =
+    tie.close (tie.spec (λ c κs. search needs) (λ c κs. search needs) (λ c κs. search needs) returns)

@@ -1,0 +1,173 @@
+-- The tick's plan is good.
+use mathlib.Core.Path.{_≡_, refl, _∙_}
+use mathlib.Core.Bool.{Bool, true, false}
+use mathlib.Core.List.{List, [], _∷_}
+use Prim.Native.Nat.{ℕ, zero, suc, _+_, _^_, _≤_, _<_, zero-le}
+use native.Mathlib.Omega.{arith}
+use borrow.Author.Tests.{leb-true, leb-false, eqb-true, eqb-false}
+use lib.Dec.{leb, ltb, eqb}
+use lib.ListN.{length, getD, set, length-set, List·getD-eq-default}
+use lib.Bits.{bitOr}
+use Rattle.executive.specs.declared.Millis.{Millis}
+use Rattle.executive.specs.declared.State.{State}
+use Rattle.executive.specs.declared.State.the-variants.{Dormant, Ready, Paused, Due, Flags, AwaitStart, AwaitEnd}
+use Rattle.executive.specs.declared.Rest.{Rest}
+use Rattle.executive.specs.declared.Table.{Table}
+use Rattle.executive.specs.Entries.{aimed}
+use Rattle.executive.specs.Plans.{over, risers, tickPlan}
+use Rattle.executive.specs.Numbers.{flagCount, endOfTime, longest}
+use Rattle.executive.specs.Queue.{pick}
+use Rattle.executive.specs.Rests.{withClock, each, rung, advanced}
+use Rattle.executive.specs.Table.{never, requests}
+use Rattle.executive.specs.WellFormed.{is}
+use Rattle.executive.proofs.Formed.{Calm, Rested, Formed}
+use Rattle.executive.proofs.Law.{clash, Lt, lt-yes, lt-no, ltb-is}
+use Rattle.executive.proofs.Sums.{set-all}
+use Rattle.executive.proofs.LinksKept.{ok-up, up-ok}
+use Rattle.executive.proofs.Kept.{Good}
+use Rattle.executive.proofs.Rising.{Tells, Done, all-risen}
+
+-- what an alarm leaves alone: anything but the flags and the alarms
+module _ {B : Type 0} (g : Rest → B)
+    (alone : (r : Rest) (fs : ℕ) (al : List Millis) → g (record { count = r .count; granule = r .granule; clock = r .clock; flags = fs; alarms = al; pool = r .pool; queued = r .queued }) ≡ g r) where
+  rung-alone : (r : Rest) (i : ℕ) → g (rung r i) ≡ g r
+  unfolding rung
+  rung-alone r i = go (eqb (getD (r .alarms) i never .0) 0) (leb (getD (r .alarms) i never .0) (r .clock .0))
+    where
+      go : (x y : Bool) → g (pick x r (pick y (record { count = r .count; granule = r .granule; clock = r .clock; flags = bitOr (r .flags) (2 ^ i); alarms = set (r .alarms) i never; pool = r .pool; queued = r .queued }) r)) ≡ g r
+      go true y = refl
+      go false true = alone r (bitOr (r .flags) (2 ^ i)) (set (r .alarms) i never)
+      go false false = refl
+
+  rings-alone : (n k : ℕ) (r : Rest) → g (each rung n k r) ≡ g r
+  unfolding each
+  rings-alone zero k r = refl
+  rings-alone (suc n) k r = rings-alone n (k + 1) (rung r k) ∙ rung-alone r k
+
+  pub advanced-alone : (r : Rest) → g (advanced r) ≡ g (withClock (record { 0 = r .clock .0 + r .granule }) r)
+  unfolding advanced
+  advanced-alone r = rings-alone 32 0 (withClock (record { 0 = r .clock .0 + r .granule }) r)
+
+module _ (a fa c fs : ℕ) where
+  waits : (s : State) → over c fs s ≡ true → is 1 s + is 0 s + is 2 s + is 3 s ≡ 0
+  waits Dormant e = clash e
+  waits Ready e = clash e
+  waits (Paused x) e = refl
+  waits (Due x) e = refl
+  waits (Flags m mask) e = refl
+  waits AwaitStart e = clash e
+  waits AwaitEnd e = clash e
+
+  aims : a ≤ c → (s : State) (at : Millis) → over c fs s ≡ true → at .0 ≤ a → aimed s at .0 ≤ c
+  aims h Dormant at e l = omega arith
+  aims h Ready at e l = omega arith
+  aims h (Paused x) at e l = omega arith
+  aims h (Due x) at e l = leb-true (x .0) c e
+  aims h (Flags m mask) at e l = omega arith
+  aims h AwaitStart at e l = omega arith
+  aims h AwaitEnd at e l = omega arith
+
+  calms : a ≤ c → (s : State) → over c fs s ≡ false → Calm a fa s → Calm c fs s
+  calms h Dormant e x = x
+  calms h Ready e x = x
+  calms h (Paused n) e x = ((leb-false (n .0) c e, omega (arith, x .0 .1)), tt)
+  calms h (Due n) e x = ((leb-false (n .0) c e, omega (arith, x .0 .1)), tt)
+  calms h (Flags m mask) e x = (tt, (x .1 .0, e))
+  calms h AwaitStart e x = x
+  calms h AwaitEnd e x = x
+
+  pub over-tells : a ≤ c → Tells (over c fs) a fa c fs
+  over-tells h = record { onward = h; waits = waits; aims = aims h; calms = calms h }
+
+-- ---- the alarms: those passed, before number k, are after the clock or not running; none is too far off
+pub record Rung (r : Rest) (k : ℕ) : Type 0 where
+  pub sized : length (r .alarms) ≡ flagCount
+  pub passed : (i : ℕ) → i < k → 0 < getD (r .alarms) i never .0 → r .clock .0 < getD (r .alarms) i never .0
+  pub near : (i : ℕ) → getD (r .alarms) i never .0 ≤ r .clock .0 + longest
+
+set-here : (l : List Millis) (k : ℕ) → getD (set l k never) k never .0 ≡ 0
+set-here [] k = refl
+set-here (x ∷ l) zero = refl
+set-here (x ∷ l) (suc k) = set-here l k
+
+rung-kept : (r : Rest) (k : ℕ) → Rung r k → Rung (rung r k) (k + 1)
+unfolding rung
+rung-kept r k h = go (eqb (getD (r .alarms) k never .0) 0) refl (leb (getD (r .alarms) k never .0) (r .clock .0)) refl
+  where
+    -- what holds before k, and at k, holds up to k
+    up : (P : ℕ → Type 0) → ((i : ℕ) → i < k → P i) → P k → (i : ℕ) → i < k + 1 → P i
+    up P a b i g = by (eqb i k) refl
+      where
+        by : (x : Bool) → eqb i k ≡ x → P i
+        by true e = rw (eqb-true i k e) b
+        by false e = a i (omega (arith, eqb-false i k e))
+
+    same : (0 < getD (r .alarms) k never .0 → r .clock .0 < getD (r .alarms) k never .0) → Rung r (k + 1)
+    same at = record { sized = h .sized; passed = up (λ (i : ℕ). 0 < getD (r .alarms) i never .0 → r .clock .0 < getD (r .alarms) i never .0) (h .passed) at; near = h .near }
+
+    go : (x : Bool) → eqb (getD (r .alarms) k never .0) 0 ≡ x → (y : Bool) → leb (getD (r .alarms) k never .0) (r .clock .0) ≡ y
+        → Rung (pick x r (pick y (record { count = r .count; granule = r .granule; clock = r .clock; flags = bitOr (r .flags) (2 ^ k); alarms = set (r .alarms) k never; pool = r .pool; queued = r .queued }) r)) (k + 1)
+    go true e y f = same (λ g. absurd (omega (arith, eqb-true (getD (r .alarms) k never .0) 0 e)))
+    go false e true f = record {
+      sized = length-set (r .alarms) k never ∙ h .sized;
+      passed = up (λ (i : ℕ). 0 < getD (set (r .alarms) k never) i never .0 → r .clock .0 < getD (set (r .alarms) k never) i never .0)
+          (λ i g. set-all (λ (i : ℕ) (x : Millis). i < k → 0 < x .0 → r .clock .0 < x .0) (r .alarms) k never never (λ _ z. absurd (omega arith)) (h .passed) i g)
+          (λ z. absurd (omega (arith, set-here (r .alarms) k)));
+      near = set-all (λ (i : ℕ) (x : Millis). x .0 ≤ r .clock .0 + longest) (r .alarms) k never never zero-le (h .near);
+    }
+    go false e false f = same (λ _. leb-false (getD (r .alarms) k never .0) (r .clock .0) f)
+
+pub rings-kept : (n k : ℕ) (r : Rest) → Rung r k → Rung (each rung n k r) (k + n)
+unfolding each
+rings-kept zero k r h = let z : k + 0 ≡ k = omega arith in rw z h
+rings-kept (suc n) k r h = let z : k + suc n ≡ k + 1 + n = omega arith in rw z (rings-kept n (k + 1) (rung r k) (rung-kept r k h))
+
+pub advanced-rung : (r : Rest) → Rested r → Rung (advanced r) 32
+unfolding advanced
+advanced-rung r w = rings-kept 32 0 (withClock (record { 0 = r .clock .0 + r .granule }) r) (record {
+  sized = w .sized;
+  passed = λ i h g. absurd (omega arith);
+  near = λ i. far i (getD (r .alarms) i never .0) refl;
+})
+  where
+    far : (i m : ℕ) → getD (r .alarms) i never .0 ≡ m → m ≤ r .clock .0 + r .granule + longest
+    far i zero e = zero-le
+    far i (suc m) e = omega (arith, w .alarms i (rw e (omega arith)), e)
+
+pub tick-good : (t : Table) → Formed t → t .rest .clock .0 + t .rest .granule ≤ endOfTime → Good (tickPlan t) t
+unfolding tickPlan
+tick-good t w m =
+    let r : Rest = advanced (t .rest) in
+    let k : r .clock ≡ record { 0 = t .rest .clock .0 + t .rest .granule } = advanced-alone (λ (r : Rest). r .clock) (λ r fs al. refl) (t .rest) in
+    let q : requests r ≡ requests (t .rest) = advanced-alone requests (λ r fs al. refl) (t .rest) in
+    let pl : r .pool ≡ t .rest .pool = advanced-alone (λ (r : Rest). r .pool) (λ r fs al. refl) (t .rest) in
+    let cn : r .count ≡ t .rest .count = advanced-alone (λ (r : Rest). r .count) (λ r fs al. refl) (t .rest) in
+    let gr : r .granule ≡ t .rest .granule = advanced-alone (λ (r : Rest). r .granule) (λ r fs al. refl) (t .rest) in
+    let al : Rung r 32 = advanced-rung (t .rest) (w .rested) in
+    let n : r .queued ≡ t .rest .queued = advanced-alone (λ (r : Rest). r .queued) (λ r fs al. refl) (t .rest) in
+    let h : t .rest .clock .0 ≤ r .clock .0 = rw k (omega arith) in
+    let d : Done (risers (over (r .clock .0) (r .flags)) 1 (t .tasks)) (t .tasks) (requests (t .rest)) (r .clock .0) (r .flags) (t .rest .count) =
+    all-risen (over (r .clock .0) (r .flags)) (requests (t .rest)) (t .rest .clock .0) (t .rest .flags) (r .clock .0) (r .flags) (t .rest .count)
+    (over-tells (t .rest .clock .0) (t .rest .flags) (r .clock .0) (r .flags) h) (t .tasks) (ok-up (w .links)) (w .own) in
+    record {
+      leaving = refl;
+      joining = d .joining;
+      linked = rw q (up-ok (d .linked));
+      own = rw cn (d .own);
+      rested = record {
+        count = rw cn (w .rested .count);
+        granule = rw gr (w .rested .granule);
+        clocked = rw k m;
+        sized = al .sized;
+        alarms = λ i g. (al .passed i (below i g) g, al .near i);
+        levels = rw q (w .rested .levels);
+        neat = record { room = rw n (w .fit .neat .room); clear = rw (q, pl) (w .fit .neat .clear) };
+      };
+    }
+  where
+    below : (i : ℕ) → 0 < getD (advanced (t .rest) .alarms) i never .0 → i < 32
+    below i g = go (ltb i 32) (ltb-is i 32)
+      where
+        go : (b : Bool) → Lt i 32 b → i < 32
+        go true (lt-yes h) = h
+        go false (lt-no h) = absurd (omega (arith, rw (List·getD-eq-default (advanced (t .rest) .alarms) never {n = i} (omega (arith, advanced-rung (t .rest) (w .rested) .sized))) at g))

@@ -1,0 +1,72 @@
+use lib.ListN.{take, drop}
+use mathlib.Core.Path.{_≡_, refl, sym, _∙_}
+use native.Mathlib.Omega.{arith}
+use borrow.Author.Needs.{needs}
+use borrow.Author.Tests.{not-true, not-false}
+use Prim.Native.Nat.{_≤_, _-_}
+use Rattle.executive.specs.Check.{allOf, targetBusy}
+use Rattle.executive.proofs.Tally.{first-turn, first-not, first-end}
+use Rattle.executive.specs.Table.{noRequest}
+use Rattle.executive.proofs.check.all_busy.Statement.{statement}
+use Rattle.executive.proofs.check.all_busy.Tie as tie
+
+abbrev Inv-loop : tie.InvT-loop
+Inv-loop tasks queued pool i₀ i = (i ≤ queued) × (allOf (targetBusy tasks) (drop i (take queued pool)) ≡ allOf (targetBusy tasks) (take queued pool))
+
+abbrev μ-loop : tie.MeasureT-loop
+μ-loop tasks queued pool i₀ i = queued - i
+
+loop-holds : tie.Need-loop-holds Inv-loop μ-loop
+loop-holds c = (omega arith, refl)
+
+mul-q : tie.Need-mul-q Inv-loop μ-loop
+mul-q c = omega arith
+
+array-copy-out-q : tie.Need-array-copy-out-q Inv-loop μ-loop
+array-copy-out-q c = omega arith
+
+target-busy-requires : tie.Need-target-busy-requires Inv-loop μ-loop
+target-busy-requires c κs = search needs
+
+returns : tie.Need-returns Inv-loop μ-loop
+returns c =
+    let s = c .before .before .before .before .before in
+    let v = c .before .before .before .before .loop in
+    let l = s .good .1 .0 .1 .0 .1 in
+    sym (sym (v .inv .1) ∙ first-not (targetBusy (s .args .tasks)) noRequest (s .args .t2) (s .args .queued) (omega arith) (v .i) (omega arith) (sym (c .before .target-busy .ensures) ∙ not-true _ (c .if1 .taken)))
+
+add-i : tie.Need-add-i Inv-loop μ-loop
+add-i c = omega arith
+
+loop-less : tie.Need-loop-less Inv-loop μ-loop
+loop-less c = omega arith
+
+loop-again : tie.Need-loop-again Inv-loop μ-loop
+loop-again c =
+    let s = c .before .before .before .before .before in
+    let v = c .before .before .before .before .loop in
+    let l = s .good .1 .0 .1 .0 .1 in
+    (omega arith, first-turn (targetBusy (s .args .tasks)) noRequest (s .args .t2) (s .args .queued) (omega arith) (v .i) (omega arith) (sym (c .before .target-busy .ensures) ∙ not-false _ (c .if1 .left)) ∙ v .inv .1)
+
+returns-2 : tie.Need-returns-2 Inv-loop μ-loop
+returns-2 c =
+    let s = c .before .before in
+    let v = c .before .loop in
+    let l = s .good .1 .0 .1 .0 .1 in
+    sym (first-end (targetBusy (s .args .tasks)) noRequest (s .args .t2) (s .args .queued) (omega arith) (v .i) (omega arith)) ∙ v .inv .1
+
+pub all-busy-spec : {M : Type 1} → statement M
+all-busy-spec =
+    tie.close
+    (tie.spec
+    Inv-loop
+    μ-loop
+    loop-holds
+    mul-q
+    array-copy-out-q
+    target-busy-requires
+    returns
+    add-i
+    loop-less
+    loop-again
+    returns-2)

@@ -1,0 +1,73 @@
+use lib.ListN.{take, drop}
+use mathlib.Core.Path.{_≡_}
+use native.Mathlib.Omega.{arith}
+use borrow.Author.Needs.{needs}
+use Prim.Native.Nat.{_≤_, _+_}
+use Rattle.executive.specs.Check.{linkOf, linksIn}
+use Rattle.executive.proofs.Tally.{one-le, tally-start, tally-turn}
+use lib.Dec.{eqb}
+use Rattle.executive.specs.Queue.{one}
+use Rattle.executive.specs.declared.Request.{Request}
+use Rattle.executive.specs.Table.{noRequest}
+use Rattle.executive.proofs.check.links_in.Statement.{statement}
+use Rattle.executive.proofs.check.links_in.Tie as tie
+
+abbrev Inv-loop : tie.InvT-loop
+Inv-loop queued l k pool c₀ i₀ c i = (i ≤ queued) × (c + i ≤ queued) × (c ≡ linksIn l k (drop i (take queued pool)))
+
+abbrev μ-loop : tie.MeasureT-loop
+μ-loop queued l k pool c₀ i₀ c i = i
+
+loop-holds : tie.Need-loop-holds Inv-loop μ-loop
+loop-holds c =
+    let s = c in
+    let l = s .good .0 .1 .0 .1 in
+    (omega arith, omega arith, tally-start (λ (r : Request). one (eqb (s .args .k) (linkOf (s .args .l) r))) noRequest (s .args .t1) (s .args .queued) (omega arith))
+
+sub-i : tie.Need-sub-i Inv-loop μ-loop
+sub-i c = omega arith
+
+mul-q : tie.Need-mul-q Inv-loop μ-loop
+mul-q c = omega arith
+
+array-copy-out-q : tie.Need-array-copy-out-q Inv-loop μ-loop
+array-copy-out-q c = omega arith
+
+link-of-requires : tie.Need-link-of-requires Inv-loop μ-loop
+link-of-requires c κs = search needs
+
+plus-if-requires : tie.Need-plus-if-requires Inv-loop μ-loop
+plus-if-requires c κs = omega arith
+
+loop-less : tie.Need-loop-less Inv-loop μ-loop
+loop-less c = omega arith
+
+loop-again : tie.Need-loop-again Inv-loop μ-loop
+loop-again c =
+    let s = c .before .before .before .before .before in
+    let l = s .good .0 .1 .0 .1 in
+    let v = c .before .before .before .before .loop in
+    let b = one-le (eqb (s .args .k) (c .before .link-of .result)) in
+    (omega arith, rw (c .plus-if .ensures) (omega (arith, b)), rw (c .plus-if .ensures, c .before .link-of .ensures) (tally-turn (λ (r : Request). one (eqb (s .args .k) (linkOf (s .args .l) r))) noRequest (s .args .t1) (s .args .queued) (omega arith) (v .i) (v .c) (c .before .before .before .loop-test .taken) (v .inv .0) (v .inv .2)))
+
+returns : tie.Need-returns Inv-loop μ-loop
+returns c =
+    let v = c .before .loop in
+    let z : v .i ≡ 0 = omega arith in
+    (omega arith, rw z at (v .inv .2))
+
+pub links-in-spec : {M : Type 1} → statement M
+links-in-spec =
+    tie.close
+    (tie.spec
+    Inv-loop
+    μ-loop
+    loop-holds
+    sub-i
+    mul-q
+    array-copy-out-q
+    link-of-requires
+    plus-if-requires
+    loop-less
+    loop-again
+    returns)

@@ -1,0 +1,61 @@
+-- `executive::configuration::fresh` meets its contract.
+use mathlib.Core.Path.{refl}
+use borrow.Author.Tests.{not-true, not-false}
+use Rattle.executive.specs.Fresh.{dormantTable, freshTable, freshOf, sleepers}
+use Rattle.executive.proofs.Flight.{begin-flying}
+use Rattle.executive.proofs.Settings.{dormant-fit}
+use borrow.Author.Needs.{needs}
+use Rattle.executive.proofs.configuration.fresh.Statement.{statement}
+use Rattle.executive.proofs.configuration.fresh.Tie as tie
+
+returns : tie.Need-returns
+unfolding freshOf sleepers
+returns c =
+    let m = c .before .before .before .before in
+    rw (
+      c .table-of .ensures,
+      c .before .blank-rest .ensures,
+      c .before .before .all-dormant .ensures,
+      ← m .is-configuration .ensures,
+      not-true (m .is-configuration .result) (c .before .before .before .if1 .taken),
+    ) refl
+
+start-marked-requires : tie.Need-start-marked-requires
+start-marked-requires c κs =
+    let m = c .before .before .before .before in (
+      rw (c .table-of2 .ensures, c .before .blank-rest2 .ensures, c .before .before .before .all-dormant2 .ensures) (begin-flying _ (dormant-fit _ _ _ (m .tasks-in .ensures .1))),
+      m .tasks-in .ensures .1,
+    )
+
+returns-2 : tie.Need-returns-2
+unfolding freshOf freshTable dormantTable
+returns-2 c =
+    let m = c .before .before .before .before in
+    let l = c .before .before .before .before .before .before .before .before in
+    rw (
+      c .before .start-marked .ensures,
+      c .before .before .table-of2 .ensures,
+      c .before .before .before .blank-rest2 .ensures,
+      m .at .ensures,
+      m .before .all-dormant2 .ensures,
+      m .before .before .tasks-in .ensures .0,
+      ← l .is-configuration .ensures,
+      not-false (l .is-configuration .result) (c .before .before .before .before .before .before .before .if1 .left),
+    ) refl
+
+pub fresh-spec : {M : Type 1} → statement M
+fresh-spec =
+    tie.close
+    (tie.spec
+    (λ c κs. search needs)
+    (λ c κs. search needs)
+    (λ c κs. search needs)
+    (λ c κs. search needs)
+    returns
+    (λ c κs. search needs)
+    (λ c κs. search needs)
+    (λ c κs. search needs)
+    (λ c κs. search needs)
+    (λ c κs. search needs)
+    start-marked-requires
+    returns-2)

@@ -1,0 +1,61 @@
+-- `executive::configuration::start_marked` meets its contract.
+use mathlib.Core.Path.{_≡_, refl}
+use native.Mathlib.Omega.{arith}
+use Prim.Native.Nat.{_≤_, _-_}
+use Rattle.executive.specs.Table.{Flying, admits}
+use Rattle.executive.specs.Fresh.{starters}
+use Rattle.executive.proofs.Settings.{start-more}
+use Rattle.executive.proofs.Flight.{admits-flying}
+use Rattle.executive.proofs.configuration.start_marked.Statement.{statement}
+use Rattle.executive.proofs.configuration.start_marked.Tie as tie
+
+abbrev Inv-loop : tie.InvT-loop
+Inv-loop s n v₀ k₀ v k = (k ≤ n) × Flying v × (v ≡ admits (starters s k 1) v₀)
+
+abbrev μ-loop : tie.MeasureT-loop
+μ-loop s n v₀ k₀ v k = n - k
+
+loop-holds : tie.Need-loop-holds Inv-loop μ-loop
+unfolding starters admits
+loop-holds c = (omega arith, c .before .pre .0, refl)
+
+add-start-at : tie.Need-add-start-at Inv-loop μ-loop
+add-start-at c = omega arith
+
+start-at-requires : tie.Need-start-at-requires Inv-loop μ-loop
+start-at-requires c κs = (c .before .loop .inv .1, omega arith)
+
+add-k : tie.Need-add-k Inv-loop μ-loop
+add-k c = omega arith
+
+loop-less : tie.Need-loop-less Inv-loop μ-loop
+loop-less c = omega arith
+
+loop-again : tie.Need-loop-again Inv-loop μ-loop
+loop-again c =
+    let s = c .before .before .before .before .args .s .now in
+    let v = c .before .before .loop in (
+      omega arith,
+      rw (c .start-at .ensures) (admits-flying _ (v .v) (v .inv .1)),
+      rw (c .start-at .ensures, v .inv .2) (start-more s (v .k) _),
+    )
+
+returns : tie.Need-returns Inv-loop μ-loop
+returns c =
+    let v = c .before .loop in
+    let e : c .before .before .before .args .n ≡ v .k = omega arith in
+    rw e (v .inv .2)
+
+pub start-marked-spec : {M : Type 1} → statement M
+start-marked-spec =
+    tie.close
+    (tie.spec
+    Inv-loop
+    μ-loop
+    loop-holds
+    add-start-at
+    start-at-requires
+    add-k
+    loop-less
+    loop-again
+    returns)

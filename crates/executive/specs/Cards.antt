@@ -1,0 +1,118 @@
+-- The bench cards P1 to P12 (01, "Bench cards"), as one list under one statement; each is shown of the definitions, with 01's sentence above it.
+use Prim.Native.Nat.{ℕ, _-_, _^_}
+use mathlib.Core.Path.{_≡_}
+use mathlib.Core.Bool.{true}
+use mathlib.Core.List.{List, [], _∷_}
+use lib.ListN.{replicate}
+use Rattle.records.specs.declared.TaskNo.{TaskNo}
+use Rattle.records.specs.declared.Call.{Call}
+use Rattle.records.specs.declared.Call.the-variants as call
+use Rattle.executive.specs.declared.Mode.the-variants.{All}
+use Rattle.executive.specs.declared.State.{State}
+use Rattle.executive.specs.declared.State.the-variants.{Ready, Due, Flags}
+use Rattle.executive.specs.declared.Table.{Table}
+use Rattle.executive.specs.declared.Answer.{Answer}
+use Rattle.executive.specs.Numbers.{longest}
+use Rattle.executive.specs.Table.{line, taskAt, withRest}
+use Rattle.executive.specs.Rests.{withClock}
+use Rattle.executive.specs.Time.{interval}
+use Rattle.executive.specs.Plans.{caller, stateAt}
+use Rattle.executive.specs.Steps.{performed}
+use Rattle.executive.specs.Fresh.{freshOf}
+
+-- ---- the tables of the cards: each is a fresh one, after some calls, or at another time
+-- one task; two tasks; both started, at priority 7
+abbrev pub one : ℕ → Table
+one granule = freshOf (0x40 ∷ granule ∷ 0x41 ∷ 7 ∷ 1 ∷ 0x42 ∷ []) .table
+
+abbrev pub two : ℕ → Table
+two granule = freshOf (0x40 ∷ granule ∷ 0x41 ∷ 7 ∷ 1 ∷ 0x41 ∷ 7 ∷ 1 ∷ 0x42 ∷ []) .table
+
+-- one task, not started
+abbrev pub idle : Table
+idle = freshOf (0x40 ∷ 1 ∷ 0x41 ∷ 7 ∷ 0 ∷ 0x42 ∷ []) .table
+
+-- the table after one call after another
+unfoldable pub afterCalls : Table → List Call → Table
+afterCalls t [] = t
+afterCalls t (c ∷ cs) = afterCalls (performed t c .table) cs
+
+-- the same table when the clock has come to a time
+abbrev pub atTime : ℕ → Table → Table
+atTime ms t = withRest (withClock (record { 0 = ms }) (t .rest)) t
+
+-- ---- what the cards ask of a table
+abbrev pub task : ℕ → TaskNo
+task k = record { 0 = k }
+
+abbrev pub state : ℕ → Table → State
+state k t = stateAt t (task k)
+
+abbrev pub scheduled : ℕ → Table → ℕ
+scheduled k t = taskAt (t .tasks) k .start .0
+
+abbrev pub queued : Table → ℕ
+queued t = t .rest .queued
+
+-- ---- what the cards ask for
+abbrev pub answer : Table → Call → Answer
+answer t c = performed t c .answer
+
+-- 01 of "every 5 minutes"; 02 of so many ms; 09 that resets or sets a flag; 05 at a task, with an option
+abbrev pub everyFive : Call
+everyFive = call.Restart 3 5
+
+abbrev pub pause : ℕ → Call
+pause ms = call.Pause 0 ms
+
+abbrev pub reset : ℕ → Call
+reset f = call.Flag 0 (record { 0 = f })
+
+abbrev pub set : ℕ → Call
+set f = call.Flag 1 (record { 0 = f })
+
+abbrev pub ask : ℕ → ℕ → Call
+ask option k = call.Queue option (task k) 0
+
+-- P4 and P5: the run of task 1 ended at a time by "every 5 minutes"; the run that follows one ended at 420,000
+abbrev pub ended : ℕ → Table → Table
+ended ms t = afterCalls (atTime ms t) (everyFive ∷ [])
+
+abbrev pub again : Table
+again = ended 420000 (one 10)
+
+-- P7: task 1 waits for all of mask 3; then task 2 sets and resets flags
+abbrev pub blinking : List Call
+blinking = call.Wait 1 3 ∷ set 0 ∷ reset 0 ∷ set 1 ∷ []
+
+-- P8: the active task has asked 32 times for itself
+abbrev pub full : Table
+full = afterCalls (one 10) (replicate 32 (ask 0x80 1))
+
+pub record Cards : Type 0 where
+  -- Tasks 1 and 2 start at priority 7 in that order: 1 is active.
+  pub p1 : (line (two 10) ≡ task 1 ∷ task 2 ∷ []) × (caller (two 10) ≡ task 1)
+  -- Granule 100: pauses of 1 and of 99 ms both end at the next tick.
+  pub p2 : (line (afterCalls (two 100) (pause 1 ∷ pause 99 ∷ [])) ≡ []) × (line (afterCalls (two 100) (pause 1 ∷ pause 99 ∷ call.Tick ∷ [])) ≡ task 1 ∷ task 2 ∷ [])
+  -- 30 seconds is 30,000 ms; 255 hours is 918,000,000 ms.
+  pub p3 : (interval 2 30 .0 ≡ 30000) × (interval 4 255 .0 ≡ 918000000) × (longest ≡ 918000000)
+  -- Scheduled start 0, every 5 minutes, ended at 420,000: enters at once, scheduled start 300,000.
+  pub p4 : (scheduled 1 (one 10) ≡ 0) × (state 1 (ended 420000 (one 10)) ≡ Ready) × (scheduled 1 (ended 420000 (one 10)) ≡ 300000)
+  -- That run ended at 540,000: due at 600,000. Ended at exactly 600,000: enters at once.
+  pub p5 : (state 1 (ended 540000 again) ≡ Due (record { 0 = 600000 })) × (state 1 (ended 600000 again) ≡ Ready) × (scheduled 1 (ended 600000 again) ≡ 600000)
+  -- Kind 01 with unit 5: answer 0, V 1.
+  pub p6 : (answer (one 10) (call.Restart 5 1) .number ≡ 0) × (answer (one 10) (call.Restart 5 1) .v ≡ true)
+  -- Waiting for all of mask 3; flag 0 set, flag 0 reset, flag 1 set: still waiting.
+  pub p7 : (afterCalls (two 10) blinking .rest .flags ≡ 2) × (state 1 (afterCalls (two 10) blinking) ≡ Flags All 3)
+  -- 32 queued, one more for a busy task: 8. One begins, ask again: 0.
+  pub p8 : (queued full ≡ 32) × (answer full (ask 0x80 1) .number ≡ 8) × (queued (afterCalls full (call.Terminate ∷ [])) ≡ 31)
+      × (answer (afterCalls full (call.Terminate ∷ [])) (ask 0x80 1) .number ≡ 0)
+  -- Kind 04 at a busy task: Z, nothing queued.
+  pub p9 : (answer (two 10) (call.Start 0x80 (task 2)) .z ≡ true) × (performed (two 10) (call.Start 0x80 (task 2)) .table ≡ two 10) × (queued (two 10) ≡ 0)
+  -- Kind 05 at oneself: bit 5 gives 7; bits 6 and 5 clear queues.
+  pub p10 : (answer (one 10) (ask 0x20 1) .number ≡ 7) × (answer (one 10) (ask 0x00 1) .number ≡ 0) × (queued (afterCalls (one 10) (ask 0x00 1 ∷ [])) ≡ 1)
+  -- Granule 1: a tick at 2^40 - 1 is accepted, at 2^40 gives 10.
+  pub p11 : (answer (atTime (2 ^ 40 - 1) (one 1)) call.Tick .number ≡ 0) × (afterCalls (atTime (2 ^ 40 - 1) (one 1)) (call.Tick ∷ []) .rest .clock .0 ≡ 2 ^ 40)
+      × (answer (atTime (2 ^ 40) (one 1)) call.Tick .number ≡ 10)
+  -- Idle: kind 00 gives 5.
+  pub p12 : (caller idle .0 ≡ 0) × (answer idle call.Terminate .number ≡ 5)

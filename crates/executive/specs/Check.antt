@@ -1,0 +1,231 @@
+-- The check of a table as it is computed: a test for each rule of `WellFormed`, in the same order.
+use Prim.Native.Nat.{ℕ, zero, suc, _+_, _-_}
+use mathlib.Core.Path.{_≡_}
+use mathlib.Core.Logic.{_↔_}
+use mathlib.Core.Bool.{Bool, true, false, not}
+use mathlib.Core.List.{List, [], _∷_}
+use lib.Dec.{eqb, leb, ltb}
+use lib.ListN.{length, drop}
+use Rattle.records.specs.declared.TaskNo.{TaskNo}
+use Rattle.executive.specs.declared.Millis.{Millis}
+use Rattle.executive.specs.declared.State.{State}
+use Rattle.executive.specs.declared.State.the-variants.{Dormant, Ready, Paused, Due, Flags, AwaitStart, AwaitEnd}
+use Rattle.executive.specs.declared.Task.{Task}
+use Rattle.executive.specs.declared.Request.{Request}
+use Rattle.executive.specs.declared.Table.{Table}
+use Rattle.executive.specs.declared.check.Rule.{Rule}
+use Rattle.executive.specs.declared.check.Rule.the-variants.{Numbered, Blank, Timed, Begun, Masked, Asleep}
+use Rattle.executive.specs.declared.check.PoolRule.{PoolRule}
+use Rattle.executive.specs.declared.check.PoolRule.the-variants.{Named, Apart, Free}
+use Rattle.executive.specs.declared.check.Link.{Link}
+use Rattle.executive.specs.declared.check.Link.the-variants.{AtStart, AtEnd}
+use Rattle.executive.specs.Numbers.{mostTasks, mostQueued, flagCount, highest, mostGranule, endOfTime, longest}
+use Rattle.executive.specs.Queue.{pick, one}
+use Rattle.executive.specs.Table.{line, requests, taskAt}
+use Rattle.executive.specs.Plans.{met}
+use Rattle.executive.specs.WellFormed.{WellFormed, sumOf, kindOf, is, startsOf, endsOf, runsOf}
+
+infixr 30 _and_
+abbrev pub _and_ : Bool → Bool → Bool
+_and_ true b = b
+_and_ false b = false
+
+-- a test at each number from 1 to n; a test of each element
+unfoldable pub upTo : (ℕ → Bool) → ℕ → Bool
+upTo f zero = true
+upTo f (suc n) = pick (upTo f n) (f (suc n)) false
+
+unfoldable pub allOf : {A : Type 0} → (A → Bool) → List A → Bool
+allOf f [] = true
+allOf f (x ∷ xs) = pick (f x) (allOf f xs) false
+
+-- ---- every number is in range
+-- a task's entry among n tasks; a request among them
+abbrev pub entryInRange : ℕ → Task → Bool
+entryInRange n e = leb (e .own) highest and leb (e .priority) highest and leb (e .«end_waiter» .0) n
+
+abbrev pub requestInRange : ℕ → Request → Bool
+requestInRange n r = leb (r .priority) highest and leb (r .target .0) n and leb (r .«start_waiter» .0) n and leb (r .«end_waiter» .0) n
+
+-- an entry of zeros, but for its own priority and its state; an entry of zeros
+abbrev pub isZero : Task → Bool
+isZero e = eqb (e .priority) 0 and eqb (e .argument) 0 and eqb (e .start .0) 0 and eqb (e .«end_waiter» .0) 0
+
+abbrev pub isBlank : Task → Bool
+isBlank e = eqb 0 (kindOf (e .state)) and eqb (e .own) 0 and isZero e
+
+abbrev pub sizesRight : Table → Bool
+sizesRight t =
+    eqb (length (t .tasks)) mostTasks
+    and eqb (length (t .queue)) mostTasks
+    and eqb (length (t .rest .alarms)) flagCount
+    and eqb (length (t .rest .pool)) mostQueued
+
+-- the task count, the granule, the clock, how many are ready, how many requests are queued
+abbrev pub inBounds : ℕ → ℕ → Millis → ℕ → ℕ → Bool
+inBounds n g c r q =
+    leb 1 n and leb n mostTasks and leb 1 g and leb g mostGranule and leb (c .0) endOfTime and leb r mostTasks and leb q mostQueued
+
+unfoldable pub numbersRight : Table → Bool
+numbersRight t =
+    sizesRight t
+    and inBounds (t .rest .count) (t .rest .granule) (t .rest .clock) (t .ready) (t .rest .queued)
+    and allOf (entryInRange (t .rest .count)) (t .tasks)
+    and allOf isBlank (drop (t .rest .count) (t .tasks))
+    and allOf (requestInRange (t .rest .count)) (requests (t .rest))
+
+-- ---- the ready queue
+abbrev pub isTask : ℕ → TaskNo → Bool
+isTask n k = ltb 0 (k .0) and leb (k .0) n
+
+abbrev pub isNobody : TaskNo → Bool
+isNobody k = eqb (k .0) 0
+
+-- each names one of n tasks, none has a priority over p, and they descend
+unfoldable pub falls : List Task → ℕ → ℕ → List TaskNo → Bool
+falls ts n p [] = true
+falls ts n p (k ∷ ks) = pick (isTask n k) (pick (leb (taskAt ts (k .0) .priority) p) (falls ts n (taskAt ts (k .0) .priority) ks) false) false
+
+-- how often the number k stands in a line: once if it is ready, else never
+abbrev pub standsIn : ℕ → List TaskNo → ℕ
+standsIn k xs = sumOf (λ (x : TaskNo). one (eqb k (x .0))) xs
+
+unfoldable pub exactAt : List Task → List TaskNo → ℕ → Bool
+exactAt ts xs k = eqb (standsIn k xs) (is 1 (taskAt ts k .state))
+
+unfoldable pub queueRight : Table → Bool
+queueRight t =
+    falls (t .tasks) (t .rest .count) highest (line t)
+    and upTo (exactAt (t .tasks) (line t)) (t .rest .count)
+    and allOf isNobody (drop (t .ready) (t .queue))
+
+-- ---- stored times, at the clock c
+abbrev pub isStored : ℕ → ℕ → Bool
+isStored c at = ltb c at and leb (at - c) longest
+
+abbrev pub isTimely : ℕ → State → Bool
+isTimely c Dormant = true
+isTimely c Ready = true
+isTimely c (Paused at) = isStored c (at .0)
+isTimely c (Due at) = isStored c (at .0)
+isTimely c (Flags m mask) = true
+isTimely c AwaitStart = true
+isTimely c AwaitEnd = true
+
+abbrev pub alarmRight : ℕ → Millis → Bool
+alarmRight c a = pick (eqb (a .0) 0) true (isStored c (a .0))
+
+abbrev pub taskTimely : ℕ → Task → Bool
+taskTimely c e = isTimely c (e .state)
+
+unfoldable pub timesRight : Table → Bool
+timesRight t = allOf (taskTimely (t .rest .clock .0)) (t .tasks) and allOf (alarmRight (t .rest .clock .0)) (t .rest .alarms)
+
+-- ---- last scheduled starts
+abbrev pub isStarted : ℕ → Task → Bool
+isStarted c e = leb (e .start .0) c
+
+unfoldable pub startedRight : Table → Bool
+startedRight t = allOf (isStarted (t .rest .clock .0)) (t .tasks)
+
+-- ---- wait masks, at the flags fs
+abbrev pub isUnmet : ℕ → State → Bool
+isUnmet fs Dormant = true
+isUnmet fs Ready = true
+isUnmet fs (Paused at) = true
+isUnmet fs (Due at) = true
+isUnmet fs (Flags m mask) = ltb 0 mask and not (met fs m mask)
+isUnmet fs AwaitStart = true
+isUnmet fs AwaitEnd = true
+
+abbrev pub taskUnmet : ℕ → Task → Bool
+taskUnmet fs e = isUnmet fs (e .state)
+
+unfoldable pub masksRight : Table → Bool
+masksRight t = allOf (taskUnmet (t .rest .flags)) (t .tasks)
+
+-- ---- queued requests name busy tasks only
+abbrev pub targetBusy : List Task → Request → Bool
+targetBusy ts r = not (eqb 0 (kindOf (taskAt ts (r .target .0) .state)))
+
+unfoldable pub busyRight : Table → Bool
+busyRight t = allOf (targetBusy (t .tasks)) (requests (t .rest))
+
+-- ---- waiters: what is said of number k; what is said of one request
+unfoldable pub waitersAt : List Task → List Request → ℕ → Bool
+waitersAt ts p k =
+    eqb (startsOf k p) (is 2 (taskAt ts k .state))
+    and eqb (endsOf k p + runsOf k ts) (is 3 (taskAt ts k .state))
+    and not (eqb k (taskAt ts k .«end_waiter» .0))
+
+abbrev pub namesOthers : Request → Bool
+namesOthers r =
+    not (eqb (r .target .0) (r .«start_waiter» .0))
+    and not (eqb (r .target .0) (r .«end_waiter» .0))
+    and pick (eqb (r .«start_waiter» .0) 0) true (eqb (r .«end_waiter» .0) 0)
+
+unfoldable pub waitersRight : Table → Bool
+waitersRight t = upTo (waitersAt (t .tasks) (requests (t .rest))) (t .rest .count) and allOf namesOthers (requests (t .rest))
+
+-- ---- a dormant task's entry
+abbrev pub sleepsRight : Task → Bool
+sleepsRight e = pick (eqb 0 (kindOf (e .state))) (isZero e) true
+
+unfoldable pub dormantRight : Table → Bool
+dormantRight t = allOf sleepsRight (t .tasks)
+
+-- ---- the pool's free places
+abbrev pub isFree : Request → Bool
+isFree r =
+    eqb (r .target .0) 0
+    and eqb (r .priority) 0
+    and eqb (r .argument) 0
+    and eqb (r .«start_waiter» .0) 0
+    and eqb (r .«end_waiter» .0) 0
+
+unfoldable pub poolRight : Table → Bool
+poolRight t = allOf isFree (drop (t .rest .queued) (t .rest .pool))
+
+-- ---- the check, in 01's order
+unfoldable pub isWellFormed : Table → Bool
+isWellFormed t =
+    numbersRight t
+    and queueRight t
+    and timesRight t
+    and startedRight t
+    and masksRight t
+    and busyRight t
+    and waitersRight t
+    and dormantRight t
+    and poolRight t
+
+-- what the check answers: number 0 for a well-formed table, number 1 for any other
+pub record Checked (t : Table) (r : ℕ) : Type 0 where
+  pub right : (r ≡ 0) ↔ WellFormed t
+  pub wrong : (r ≡ 1) ↔ (WellFormed t → ⊥)
+
+-- the check's test and the rules are one, and no table has two answers
+pub record Decided : Type 0 where
+  pub iff : (t : Table) → (isWellFormed t ≡ true) ↔ WellFormed t
+  pub once : (t : Table) (r s : ℕ) → Checked t r → Checked t s → r ≡ s
+
+-- ---- the tests on one entry, and on one request, by the names that the code's two loops take; whom a request names as a waiter
+abbrev pub entryKeeps : Rule → Task → Bool
+entryKeeps (Numbered n) e = entryInRange n e
+entryKeeps Blank e = isBlank e
+entryKeeps (Timed now) e = taskTimely (now .0) e
+entryKeeps (Begun now) e = isStarted (now .0) e
+entryKeeps (Masked fs) e = taskUnmet fs e
+entryKeeps Asleep e = sleepsRight e
+
+abbrev pub requestKeeps : PoolRule → Request → Bool
+requestKeeps (Named n) r = requestInRange n r
+requestKeeps Apart r = namesOthers r
+requestKeeps Free r = isFree r
+
+abbrev pub linkOf : Link → Request → ℕ
+linkOf AtStart r = r .«start_waiter» .0
+linkOf AtEnd r = r .«end_waiter» .0
+
+abbrev pub linksIn : Link → ℕ → List Request → ℕ
+linksIn l k p = sumOf (λ (r : Request). one (eqb k (linkOf l r))) p

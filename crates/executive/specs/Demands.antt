@@ -1,0 +1,137 @@
+-- The founder's demands, said of `stepOf`, the definition that the code is proved to take: for any well-formed table and any records, refused ones included.
+-- That each call gives the answer and the table that 01's rules define is the code's own contract, `r ≡ stepOf t s`.
+use mathlib.Core.Path.{_≡_}
+use mathlib.Core.Logic.{_↔_, _≢_}
+use mathlib.Core.Bool.{true, false}
+use mathlib.Core.List.{List, [], _∷_, map}
+use Prim.Native.Nat.{ℕ, _+_, _≤_, _<_}
+use lib.Dec.{eqb}
+use lib.ListN.{length, getD}
+use Rattle.records.specs.declared.Call.{Call}
+use Rattle.records.specs.Numbers.{Bytes}
+use Rattle.executive.specs.declared.Table.{Table}
+use Rattle.executive.specs.declared.Outcome.{Outcome}
+use Rattle.executive.specs.declared.Fresh.{Fresh}
+use Rattle.executive.specs.Queue.{Moves, pick, one, count, ahead, activeOf, departures, entriesAbove}
+use Rattle.executive.specs.Table.{requests, taskAt, view, Plan, apply, movesOf}
+use Rattle.executive.specs.Time.{aimAt}
+use Rattle.executive.specs.Rests.{placeOf}
+use Rattle.executive.specs.Plans.{caller, nothing, endPlan, restartPlan}
+use Rattle.executive.specs.WellFormed.{is, WellFormed}
+use Rattle.executive.specs.Check.{isWellFormed}
+use Rattle.executive.specs.Refusals.{Refusal, when, planOf, callIn, callRefusals, refusals, firstOf}
+use Rattle.executive.specs.Steps.{stepOf}
+use Rattle.executive.specs.Fresh.{freshOf}
+
+-- ---- the plan that a step executes: its kind's, where it is accepted; where it is refused, nothing
+abbrev pub planFor : Table → ℕ → Call → Plan
+planFor t n c = pick (eqb n 0) (planOf t c) (nothing t)
+
+unfoldable pub planned : Table → Call → Plan
+planned t c = planFor t (firstOf (callRefusals t c)) c
+
+unfoldable pub planIn : Table → List ℕ → Plan
+planIn t s = planFor t (firstOf (refusals t s)) (callIn s)
+
+-- ---- a history: records one after the other. The table after them, and what the plan of each did to the queue
+unfoldable pub after : Table → List (List ℕ) → Table
+after t [] = t
+after t (s ∷ ss) = after (stepOf t s .table) ss
+
+unfoldable pub history : Table → List (List ℕ) → List Moves
+history t [] = []
+history t (s ∷ ss) = movesOf (planIn t s) t ∷ history (stepOf t s .table) ss
+
+-- the records' elements are bytes
+abbrev pub AllBytes : List (List ℕ) → Type 0
+AllBytes [] = Unit {0}
+AllBytes (s ∷ ss) = Bytes s × AllBytes ss
+
+-- ---- demand 1: when a number is given
+-- the condition at place i holds, and none before it
+pub record FirstAt (rs : List Refusal) (i : ℕ) : Type 0 where
+  pub there : i < length rs
+  pub holds : getD rs i (when 0 false) .given ≡ true
+  pub before : (j : ℕ) → j < i → getD rs j (when 0 false) .given ≡ false
+
+-- the number n is that of the first place whose condition holds, and 0 exactly if none holds
+pub record Decides (rs : List Refusal) (n : ℕ) : Type 0 where
+  pub accepted : (n ≡ 0) ↔ ((i : ℕ) → getD rs i (when 0 false) .given ≡ false)
+  pub refused : (i : ℕ) → FirstAt rs i → n ≡ getD rs i (when 0 false) .number
+  pub some : n ≢ 0 → (i : ℕ) × FirstAt rs i
+
+-- task k is ready, by its entry's state
+abbrev pub IsReady : Table → ℕ → Type 0
+IsReady t k = is 1 (taskAt (t .tasks) k .state) ≡ 1
+
+-- ---- demand 2: task k is the first of the ready tasks with highest priority
+pub record Chosen (t : Table) (k : ℕ) : Type 0 where
+  pub ready : IsReady t k
+  pub highest : (j : ℕ) → IsReady t j → taskAt (t .tasks) j .priority ≤ taskAt (t .tasks) k .priority
+  pub first : (j : ℕ) → IsReady t j → taskAt (t .tasks) j .priority ≡ taskAt (t .tasks) k .priority → j ≢ k → ahead k (view t) < ahead j (view t)
+
+-- the active task k of table t is so chosen, and it is nobody exactly if no task is ready, by the states and by the queue
+pub record Dispatched (t : Table) (k : ℕ) : Type 0 where
+  pub head : activeOf (view t) ≡ k
+  pub chosen : 0 < k → Chosen t k
+  pub idle : (k ≡ 0) ↔ ((j : ℕ) → is 1 (taskAt (t .tasks) j .state) ≡ 0)
+  pub empty : (k ≡ 0) ↔ (t .ready ≡ 0)
+
+-- ---- demand 3
+-- task k is not active at the start of any of the steps
+abbrev pub NotYet : ℕ → Table → List (List ℕ) → Type 0
+NotYet k t [] = Unit {0}
+NotYet k t (s ∷ ss) = (activeOf (view t) ≢ k) × NotYet k (stepOf t s .table) ss
+
+-- at the end of the steps task k, which was not active before, is ready at the same priority; those ahead of it and the departures since are together
+-- those ahead at the start and the entries since at a priority strictly above its own; it is active at the first moment that nobody is ahead of it, and not before
+pub record Overtaking (t : Table) (k : ℕ) (ss : List (List ℕ)) : Type 0 where
+  pub still-ready : IsReady (after t ss) k
+  pub same-priority : taskAt (after t ss .tasks) k .priority ≡ taskAt (t .tasks) k .priority
+  pub number : ahead k (view (after t ss)) + departures (history t ss) ≡ ahead k (view t) + entriesAbove (taskAt (t .tasks) k .priority) (history t ss)
+  pub active-at-nought : (ahead k (view (after t ss)) ≡ 0) ↔ (activeOf (view (after t ss)) ≡ k)
+
+-- how often task k departed, being the active one; how often it entered
+unfoldable pub departedOf : ℕ → Table → List (List ℕ) → ℕ
+departedOf k t [] = 0
+departedOf k t (s ∷ ss) = pick (movesOf (planIn t s) t .out) (one (eqb k (activeOf (view t)))) 0 + departedOf k (stepOf t s .table) ss
+
+unfoldable pub enteredOf : ℕ → List Moves → ℕ
+enteredOf k [] = 0
+enteredOf k (m ∷ ms) = count k (m .ins) + enteredOf k ms
+
+-- a task that restarts in one step counts as one departure and one entry
+pub record Restarts (p : Plan) (t : Table) : Type 0 where
+  pub departs : movesOf p t .out ≡ true
+  pub enters : count (caller t .0) (movesOf p t .ins) ≡ 1
+
+-- that the check's computation says `WellFormed`: what number 1 rests on
+abbrev pub CheckRight : Type 0
+CheckRight = (t : Table) → (isWellFormed t ≡ true) ↔ WellFormed t
+
+-- ---- all of it: t is any table, s any record, ss any records
+pub record Demands : Type 0 where
+  -- 1: a refusal changes nothing, and its number is the first of the list whose condition holds, number 1 exactly for a table that is not well formed; the list is
+  -- in 01's order; every step keeps the table well formed
+  pub refusal-keeps : (t : Table) (s : List ℕ) → stepOf t s .answer .number ≢ 0 → stepOf t s .table ≡ t
+  pub decided : (t : Table) (s : List ℕ) → Decides (refusals t s) (stepOf t s .answer .number)
+  pub unformed : (t : Table) (s : List ℕ) → (stepOf t s .answer .number ≡ 1) ↔ (WellFormed t → ⊥)
+  pub order : (t : Table) (s : List ℕ) → map (λ (r : Refusal). r .number) (refusals t s) ≡ 1 ∷ 3 ∷ 4 ∷ 3 ∷ 5 ∷ 6 ∷ 7 ∷ 9 ∷ 8 ∷ 10 ∷ 11 ∷ []
+  pub kept : (t : Table) (ss : List (List ℕ)) → WellFormed t → AllBytes ss → WellFormed (after t ss)
+  -- the step executes its plan
+  pub executed : (t : Table) (s : List ℕ) → WellFormed t → Bytes s → stepOf t s .table ≡ apply (planIn t s) t
+  -- 2: after any history
+  pub dispatched : (t : Table) (ss : List (List ℕ)) (s : List ℕ) → WellFormed t → AllBytes ss → Bytes s
+      → Dispatched (stepOf (after t ss) s .table) (stepOf (after t ss) s .answer .active .0)
+  -- 3
+  pub overtaking : (t : Table) (k : ℕ) (ss : List (List ℕ)) → WellFormed t → AllBytes ss → IsReady t k → NotYet k t ss → Overtaking t k ss
+  -- the departures and entries counted are all that changes the queue: in the queue after and departed is in the queue before and entered, for each task
+  pub accounted : (t : Table) (k : ℕ) (ss : List (List ℕ)) → WellFormed t → AllBytes ss → 0 < k
+      → count k (view (after t ss)) + departedOf k t ss ≡ count k (view t) + enteredOf k (history t ss)
+  -- 01 where the time aimed at has come, and 00 where a request for the caller is queued
+  pub restarts : (t : Table) (p n : ℕ) → WellFormed t → 0 < t .ready
+      → aimAt (taskAt (t .tasks) (caller t .0) .start) (t .rest .clock) p n .0 ≤ t .rest .clock .0 → Restarts (restartPlan t p n) t
+  pub begins-again : (t : Table) → WellFormed t → 0 < t .ready → placeOf (caller t .0) (requests (t .rest)) < length (requests (t .rest)) → Restarts (endPlan t) t
+  -- any two outcomes that a public entry's contract allows are equal
+  pub step-determined : (t : Table) (s : List ℕ) (x y : Outcome) → x ≡ stepOf t s → y ≡ stepOf t s → x ≡ y
+  pub fresh-determined : (s : List ℕ) (x y : Fresh) → x ≡ freshOf s → y ≡ freshOf s → x ≡ y

@@ -1,0 +1,58 @@
+-- What holds of every configuration and its fresh table, as one list under one statement.
+use Prim.Native.Nat.{ℕ, _≤_}
+use mathlib.Core.Path.{_≡_}
+use mathlib.Core.Bool.{true, false}
+use mathlib.Core.List.{List, [], _∷_, _++_}
+use mathlib.Core.Logic.{_↔_}
+use lib.ListN.{length}
+use Rattle.records.specs.Numbers.{Bytes}
+use Rattle.executive.specs.Numbers.{mostTasks, highest}
+use Rattle.executive.specs.Table.{begin, admits}
+use Rattle.executive.specs.Plans.{caller}
+use Rattle.executive.specs.WellFormed.{WellFormed}
+use Rattle.executive.specs.Fresh.{tasksIn, configurationIn, isConfiguration, zeroTable, dormantTable, starters, freshTable, freshOf}
+
+-- ---- a configuration in 01's words: one 40, then 1 to 16 of 41, then 42, and nothing more
+-- what the record of a task gives: own priority 0 to 15; mark 1 or 0
+pub record Entry : Type 0 where
+  pub own : ℕ
+  pub mark : ℕ
+
+unfoldable pub recordsOf : List Entry → List ℕ
+recordsOf [] = 0x42 ∷ []
+recordsOf (e ∷ es) = 0x41 ∷ e .own ∷ e .mark ∷ recordsOf es
+
+abbrev pub AllRight : List Entry → Type 0
+AllRight [] = Unit {0}
+AllRight (e ∷ es) = (e .own ≤ highest) × (e .mark ≤ 1) × AllRight es
+
+pub record Configuration (s : List ℕ) : Type 0 where
+  pub granule : ℕ
+  pub tasks : List Entry
+  pub bytes : s ≡ 0x40 ∷ granule ∷ recordsOf tasks
+  pub some : 1 ≤ length tasks
+  pub few : length tasks ≤ mostTasks
+  pub time : 1 ≤ granule
+  pub right : AllRight tasks
+
+-- the configuration of 01's listing
+abbrev pub listing : List ℕ
+listing = 0x40 ∷ 0x0A ∷ 0x41 ∷ 0x07 ∷ 0x01 ∷ 0x41 ∷ 0x05 ∷ 0x01 ∷ 0x41 ∷ 0x07 ∷ 0x00 ∷ 0x42 ∷ []
+
+pub record FreshLaw : Type 0 where
+  -- the test of the bytes, which `freshOf` makes, passes exactly where they are a configuration
+  pub exactly : (s : List ℕ) → (isConfiguration s ≡ true) ↔ Configuration s
+  -- from any configuration the fresh table is well formed, and no start finds the ready queue full
+  pub formed : (s : List ℕ) → Bytes s → isConfiguration s ≡ true → WellFormed (freshTable s)
+  pub room : (s : List ℕ) → Bytes s → isConfiguration s ≡ true → admits (starters s (tasksIn s) 1) (begin (dormantTable s)) .full ≡ false
+  -- its clock is 0, no flag is set
+  pub clock : (s : List ℕ) → freshTable s .rest .clock .0 ≡ 0
+  pub flags : (s : List ℕ) → freshTable s .rest .flags ≡ 0
+  -- a configuration gives number 0 and that table; any other bytes give number 2 and the all-zero table
+  pub made : (s : List ℕ) → isConfiguration s ≡ true → freshOf s ≡ record { number = 0; table = freshTable s }
+  pub refused : (s : List ℕ) → isConfiguration s ≡ false → freshOf s ≡ record { number = 2; table = zeroTable }
+  -- a configuration is no longer than the bytes that begin with it; whatever follows it, it is found again by its length
+  pub within : (s : List ℕ) → configurationIn s ≤ length s
+  pub ends : (s r : List ℕ) → isConfiguration s ≡ true → configurationIn (s ++ r) ≡ length s
+  -- the listing's configuration: number 0, task 1 is active, three tasks
+  pub example : (freshOf listing .number ≡ 0) × (caller (freshOf listing .table) .0 ≡ 1) × (freshOf listing .table .rest .count ≡ 3)

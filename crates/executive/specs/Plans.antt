@@ -1,0 +1,228 @@
+-- The rules of the calls (01, "Rules of the calls"), a plan for each kind: who departs, who enters in which order, what the rest of the table is afterwards.
+-- Rulings that 01 marks H are marked H here.
+use Prim.Native.Nat.{ℕ, zero, suc, _+_, _/_, _%_}
+use mathlib.Core.Bool.{Bool, true, false, not}
+use mathlib.Core.List.{List, [], _∷_, _++_}
+use lib.Dec.{leb, ltb, eqb}
+use lib.Bits.{bitAnd}
+use lib.ListN.{length, getD}
+use Rattle.records.specs.declared.TaskNo.{TaskNo}
+use Rattle.records.specs.declared.FlagNo.{FlagNo}
+use Rattle.executive.specs.declared.Millis.{Millis}
+use Rattle.executive.specs.declared.Mode.{Mode}
+use Rattle.executive.specs.declared.Mode.the-variants.{Any, All}
+use Rattle.executive.specs.declared.Wait.{Wait}
+use Rattle.executive.specs.declared.Wait.the-variants.{Goes, ForStart, ForEnd}
+use Rattle.executive.specs.declared.State.{State}
+use Rattle.executive.specs.declared.State.the-variants.{Dormant, Ready, Paused, Due, Flags, AwaitStart, AwaitEnd}
+use Rattle.executive.specs.declared.Task.{Task}
+use Rattle.executive.specs.declared.Request.{Request}
+use Rattle.executive.specs.declared.Table.{Table}
+use Rattle.executive.specs.Queue.{pick}
+use Rattle.executive.specs.Table.{nobody, noRequest, line, requests, taskAt, headOf, Out, stays, leaves, Join, Plan}
+use Rattle.executive.specs.Entries.{withState, sleeping, begun, dueAt, risen}
+use Rattle.executive.specs.Time.{interval, aimAt}
+use Rattle.executive.specs.Rests.{withRequests, placeOf, removed, withFlags, flagSet, flagReset, withAlarm, advanced}
+
+-- ---- the caller is the active task, the head of the ready queue
+abbrev pub caller : Table → TaskNo
+caller t = headOf (line t)
+
+abbrev pub stateAt : Table → TaskNo → State
+stateAt t k = taskAt (t .tasks) (k .0) .state
+
+abbrev pub isDormant : State → Bool
+isDormant Dormant = true
+isDormant Ready = false
+isDormant (Paused at) = false
+isDormant (Due at) = false
+isDormant (Flags m mask) = false
+isDormant AwaitStart = false
+isDormant AwaitEnd = false
+
+abbrev pub isPaused : State → Bool
+isPaused Dormant = false
+isPaused Ready = false
+isPaused (Paused at) = true
+isPaused (Due at) = false
+isPaused (Flags m mask) = false
+isPaused AwaitStart = false
+isPaused AwaitEnd = false
+
+-- ---- who enters
+-- whoever is named enters; 0 names nobody
+unfoldable pub waking : TaskNo → List Join
+waking k = pick (eqb (k .0) 0) [] (record { who = k; change = withState Ready } ∷ [])
+
+-- whoever waits for the end of task c's run
+abbrev pub endWaiter : Table → TaskNo → TaskNo
+endWaiter t c = taskAt (t .tasks) (c .0) .«end_waiter»
+
+-- a request's run begins for task k
+abbrev pub begins : TaskNo → Request → Millis → Join
+begins k r now = record { who = k; change = begun r now }
+
+-- task k enters, its wait over
+abbrev pub raising : TaskNo → Join
+raising k = record { who = k; change = risen }
+
+abbrev pub nothing : Table → Plan
+nothing t = record { out = stays; ins = []; rest = t .rest }
+
+-- ---- 00: the caller departs; whoever waits for this run's end enters; the earliest request for the caller, if one is queued, is taken from the pool
+-- and the caller enters with its priority and argument, scheduled start now; whoever waited for that start enters (H). The caller c, the requests rs,
+-- the earliest of them for c at place i
+abbrev pub endBy : Table → TaskNo → List Request → ℕ → Plan
+endBy t c rs i =
+    pick (ltb i (length rs))
+    (record {
+      out = leaves sleeping;
+      ins = waking (endWaiter t c) ++ (begins c (getD rs i noRequest) (t .rest .clock) ∷ waking (getD rs i noRequest .«start_waiter»));
+      rest = withRequests (removed i rs) (t .rest);
+    })
+    (record { out = leaves sleeping; ins = waking (endWaiter t c); rest = t .rest })
+
+unfoldable pub endPlan : Table → Plan
+endPlan t = endBy t (headOf (line t)) (requests (t .rest)) (placeOf (headOf (line t) .0) (requests (t .rest)))
+
+-- ---- 01: the caller departs and its end-waiter enters. It is due at the time aimed at; if that is at or before the clock, it enters at once, and
+-- entering makes that time its scheduled start
+abbrev pub restartBy : Table → TaskNo → Millis → Plan
+restartBy t c aim = record {
+  out = leaves (dueAt aim);
+  ins = waking (endWaiter t c) ++ pick (leb (aim .0) (t .rest .clock .0)) (raising c ∷ []) [];
+  rest = t .rest;
+}
+
+unfoldable pub restartPlan : Table → ℕ → ℕ → Plan
+restartPlan t p n = restartBy t (headOf (line t)) (aimAt (taskAt (t .tasks) (headOf (line t) .0) .start) (t .rest .clock) p n)
+
+-- ---- 02: count 0 changes nothing (H); otherwise the caller departs until now plus interval
+unfoldable pub pausePlan : Table → ℕ → ℕ → Plan
+pausePlan t unit n =
+    pick (eqb n 0) (nothing t)
+    (record { out = leaves (withState (Paused (record { 0 = t .rest .clock .0 + interval unit n .0 }))); ins = []; rest = t .rest })
+
+-- ---- 03: a paused task enters; any other state, a due one included: no change
+unfoldable pub cancelPlan : Table → TaskNo → Plan
+cancelPlan t k = pick (isPaused (stateAt t k)) (record { out = stays; ins = raising k ∷ []; rest = t .rest }) (nothing t)
+
+-- ---- 04, 05: option bit 7: the target's own priority, otherwise bits 3..0
+unfoldable pub levelOf : ℕ → ℕ → ℕ
+levelOf option own = pick (ltb option 128) (option % 16) own
+
+-- in 05, bit 6 waits for the run's end, bit 5 for its start, bit 4 means no argument
+unfoldable pub waitOf : ℕ → Wait
+waitOf option = pick (eqb (option / 64 % 2) 1) ForEnd (pick (eqb (option / 32 % 2) 1) ForStart Goes)
+
+unfoldable pub argumentOf : ℕ → ℕ → ℕ
+argumentOf option a = pick (eqb (option / 16 % 2) 1) 0 a
+
+-- waiting for a start that happens at once is no wait
+abbrev pub atOnce : Wait → Wait
+atOnce Goes = Goes
+atOnce ForStart = Goes
+atOnce ForEnd = ForEnd
+
+abbrev pub outOf : Wait → Out
+outOf Goes = stays
+outOf ForStart = leaves (withState AwaitStart)
+outOf ForEnd = leaves (withState AwaitEnd)
+
+abbrev pub startWaiterOf : Wait → TaskNo → TaskNo
+startWaiterOf Goes c = nobody
+startWaiterOf ForStart c = c
+startWaiterOf ForEnd c = nobody
+
+abbrev pub endWaiterOf : Wait → TaskNo → TaskNo
+endWaiterOf Goes c = nobody
+endWaiterOf ForStart c = nobody
+endWaiterOf ForEnd c = c
+
+-- the request that caller c makes for task k, at priority p with argument a
+abbrev pub asks : TaskNo → Wait → TaskNo → ℕ → ℕ → Request
+asks c wt k p a = record { target = k; priority = p; argument = a; «start_waiter» = startWaiterOf wt c; «end_waiter» = endWaiterOf wt c }
+
+-- a dormant target starts now. A caller that must wait departs first, and then the target enters
+unfoldable pub startPlan : Table → Request → Wait → Plan
+startPlan t q wt = record { out = outOf (atOnce wt); ins = begins (q .target) q (t .rest .clock) ∷ []; rest = t .rest }
+
+-- a busy target: the request is queued
+unfoldable pub queuePlan : Table → Request → Wait → Plan
+queuePlan t q wt = record { out = outOf wt; ins = []; rest = withRequests (requests (t .rest) ++ (q ∷ [])) (t .rest) }
+
+-- 04: a dormant target starts with argument 0 (H), a busy one changes nothing
+unfoldable pub startOnlyPlan : Table → ℕ → TaskNo → Plan
+startOnlyPlan t option k =
+    pick (isDormant (stateAt t k)) (startPlan t (asks (caller t) Goes k (levelOf option (taskAt (t .tasks) (k .0) .own)) 0) Goes) (nothing t)
+
+-- 05: a dormant target starts, a busy one is asked for later
+unfoldable pub requestOf : Table → ℕ → TaskNo → ℕ → Request
+requestOf t option k a = asks (caller t) (waitOf option) k (levelOf option (taskAt (t .tasks) (k .0) .own)) (argumentOf option a)
+
+unfoldable pub askPlan : Table → ℕ → TaskNo → ℕ → Plan
+askPlan t option k a =
+    pick (isDormant (stateAt t k)) (startPlan t (requestOf t option k a) (waitOf option)) (queuePlan t (requestOf t option k a) (waitOf option))
+
+-- ---- flags: the condition of a wait for any or all flags of a mask
+abbrev pub met : ℕ → Mode → ℕ → Bool
+met fs Any mask = not (eqb (bitAnd fs mask) 0)
+met fs All mask = eqb (bitAnd fs mask) mask
+
+-- whether a task waits for flags and its condition holds
+abbrev pub holds : ℕ → State → Bool
+holds fs Dormant = false
+holds fs Ready = false
+holds fs (Paused at) = false
+holds fs (Due at) = false
+holds fs (Flags m mask) = met fs m mask
+holds fs AwaitStart = false
+holds fs AwaitEnd = false
+
+-- task k enters if its state passes a test; all tasks from number k on, in ascending number
+unfoldable pub rises : (State → Bool) → ℕ → Task → List Join
+rises f k e = pick (f (e .state)) (raising (record { 0 = k }) ∷ []) []
+
+unfoldable pub risers : (State → Bool) → ℕ → List Task → List Join
+risers f k [] = []
+risers f k (e ∷ es) = rises f k e ++ risers f (suc k) es
+
+-- ---- 09: after a set, all tasks whose condition now holds enter in ascending number. Flags never reset themselves (H)
+unfoldable pub setPlan : Table → FlagNo → Plan
+setPlan t f = record { out = stays; ins = risers (holds (flagSet (t .rest .flags) (f .0))) 1 (t .tasks); rest = withFlags (flagSet (t .rest .flags) (f .0)) (t .rest) }
+
+unfoldable pub resetPlan : Table → FlagNo → Plan
+resetPlan t f = record { out = stays; ins = []; rest = withFlags (flagReset (t .rest .flags) (f .0)) (t .rest) }
+
+-- operation 0 resets, 1 sets, 2 tests
+unfoldable pub flagPlan : Table → ℕ → FlagNo → Plan
+flagPlan t operation f = pick (eqb operation 0) (resetPlan t f) (pick (eqb operation 1) (setPlan t f) (nothing t))
+
+-- ---- 0A: wait for 0 any, 1 all. Condition true already: no change. Otherwise the caller departs
+abbrev pub modeOf : ℕ → Mode
+modeOf m = pick (eqb m 0) Any All
+
+unfoldable pub waitPlan : Table → ℕ → ℕ → Plan
+waitPlan t m mask =
+    pick (met (t .rest .flags) (modeOf m) mask) (nothing t) (record { out = leaves (withState (Flags (modeOf m) mask)); ins = []; rest = t .rest })
+
+-- ---- 0B: count 0 acts as a set now; otherwise the alarm is stored
+unfoldable pub alarmPlan : Table → ℕ → ℕ → FlagNo → Plan
+alarmPlan t unit n f =
+    pick (eqb n 0) (setPlan t f)
+    (record { out = stays; ins = []; rest = withAlarm (f .0) (record { 0 = t .rest .clock .0 + interval unit n .0 }) (t .rest) })
+
+-- ---- 80: whether a wait is over, at the clock c with the flags fs
+abbrev pub over : ℕ → ℕ → State → Bool
+over c fs Dormant = false
+over c fs Ready = false
+over c fs (Paused at) = leb (at .0) c
+over c fs (Due at) = leb (at .0) c
+over c fs (Flags m mask) = met fs m mask
+over c fs AwaitStart = false
+over c fs AwaitEnd = false
+
+-- the clock gains one granule and due alarms set their flags; then, in ascending task number, each paused or due task whose time is at or before the
+-- clock, and each whose flag condition holds, enters (H)
+unfoldable pub tickPlan : Table → Plan
+tickPlan t = record { out = stays; ins = risers (over (advanced (t .rest) .clock .0) (advanced (t .rest) .flags)) 1 (t .tasks); rest = advanced (t .rest) }

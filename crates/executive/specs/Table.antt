@@ -1,0 +1,188 @@
+-- The table, and the three things that a step does to it: the caller leaves, tasks join, the rest is replaced.
+-- The types are the code's own.
+use mathlib.Core.Path.{_≡_}
+use mathlib.Core.Bool.{Bool, true, false}
+use mathlib.Core.List.{List, [], _∷_, _++_, tail}
+use Prim.Native.Nat.{ℕ, zero, suc, _+_, _≤_, _<_}
+use lib.Dec.{ltb}
+use lib.ListN.{length, getD, set, take, drop}
+use Rattle.records.specs.declared.TaskNo.{TaskNo}
+use Rattle.executive.specs.declared.Millis.{Millis}
+use Rattle.executive.specs.declared.State.{State}
+use Rattle.executive.specs.declared.State.the-variants.{Dormant}
+use Rattle.executive.specs.declared.Task.{Task}
+use Rattle.executive.specs.declared.Request.{Request}
+use Rattle.executive.specs.declared.Rest.{Rest}
+use Rattle.executive.specs.declared.Table.{Table}
+use Rattle.executive.specs.declared.Work.{Work}
+use Rattle.executive.specs.Numbers.{endOfTime}
+use Rattle.executive.specs.Queue.{Item, Moves, pick, one, behind}
+
+-- ---- blank entries
+abbrev pub nobody : TaskNo
+nobody = record { 0 = 0 }
+
+abbrev pub never : Millis
+never = record { 0 = 0 }
+
+abbrev pub noTask : Task
+noTask = record { own = 0; state = Dormant; priority = 0; argument = 0; start = never; «end_waiter» = nobody }
+
+abbrev pub noRequest : Request
+noRequest = record { target = nobody; priority = 0; argument = 0; «start_waiter» = nobody; «end_waiter» = nobody }
+
+-- ---- a line that stands at the front of an array: free places last and blank
+unfoldable pub pad : {A : Type 0} → ℕ → A → List A → List A
+pad zero d xs = xs
+pad (suc n) d [] = d ∷ pad n d []
+pad (suc n) d (x ∷ xs) = x ∷ pad n d xs
+
+-- the ready queue and the queued requests, first to last
+abbrev pub line : Table → List TaskNo
+line t = take (t .ready) (t .queue)
+
+abbrev pub requests : Rest → List Request
+requests r = take (r .queued) (r .pool)
+
+-- the places behind a line are blank
+pub record Neat (r : Rest) : Type 0 where
+  pub room : r .queued ≤ 32
+  pub clear : r .pool ≡ pad 32 noRequest (requests r)
+
+pub record Fit (t : Table) : Type 0 where
+  pub all : length (t .tasks) ≡ 16
+  pub few : t .ready ≤ 16
+  pub tidy : t .queue ≡ pad 16 nobody (line t)
+  pub neat : Neat (t .rest)
+
+-- ---- tasks are numbered from 1; number 0 is nobody
+unfoldable pub taskAt : List Task → ℕ → Task
+taskAt ts zero = noTask
+taskAt ts (suc i) = getD ts i noTask
+
+unfoldable pub putAt : List Task → ℕ → Task → List Task
+putAt ts zero e = ts
+putAt ts (suc i) e = set ts i e
+
+-- what the calls' methods ask of a table, besides a caller: the arrays in order, no time out of range
+pub record Standing (t : Table) : Type 0 where
+  pub fit : Fit t
+  pub clocked : t .rest .clock .0 ≤ endOfTime
+  pub started : (k : ℕ) → taskAt (t .tasks) k .start .0 ≤ t .rest .clock .0
+
+-- a number that names a task
+abbrev pub Names : ℕ → List Task → Type 0
+Names k ts = (0 < k) × (k ≤ length ts)
+
+-- the queue of numbers, with the priorities of a list of tasks
+abbrev pub itemOf : List Task → TaskNo → Item
+itemOf ts k = record { task = k .0; prio = taskAt ts (k .0) .priority }
+
+unfoldable pub items : List Task → List TaskNo → List Item
+items ts [] = []
+items ts (k ∷ ks) = itemOf ts k ∷ items ts ks
+
+abbrev pub view : Table → List Item
+view t = items (t .tasks) (line t)
+
+-- the number k goes behind all of equal or higher priority
+unfoldable pub enterAt : List Task → TaskNo → List TaskNo → List TaskNo
+enterAt ts k [] = k ∷ []
+enterAt ts k (j ∷ js) = pick (behind (taskAt ts (k .0) .priority) (taskAt ts (j .0) .priority)) (j ∷ enterAt ts k js) (k ∷ j ∷ js)
+
+abbrev pub headOf : List TaskNo → TaskNo
+headOf [] = nobody
+headOf (k ∷ ks) = k
+
+-- ---- the two moves: the caller leaves with entry e; task k enters with entry e
+abbrev pub withLine : List Task → List TaskNo → Table → Table
+withLine ts xs t = record { tasks = ts; queue = pad 16 nobody xs; ready = length xs; rest = t .rest }
+
+unfoldable pub departed : Task → Table → Table
+departed e t = withLine (putAt (t .tasks) (headOf (line t) .0) e) (tail (line t)) t
+
+unfoldable pub entered : TaskNo → Task → Table → Table
+entered k e t = withLine (putAt (t .tasks) (k .0) e) (enterAt (putAt (t .tasks) (k .0) e) k (line t)) t
+
+abbrev pub withRest : Rest → Table → Table
+withRest r t = record { tasks = t .tasks; queue = t .queue; ready = t .ready; rest = r }
+
+-- ---- the plan of a step
+pub data Out : Type 0 where
+  stays : Out
+  leaves : (Task → Task) → Out  -- how its departure changes the caller's entry
+
+pub record Join : Type 0 where
+  pub who : TaskNo
+  pub change : Task → Task  -- how its entry changes as it enters
+
+pub record Plan : Type 0 where
+  pub out : Out
+  pub ins : List Join
+  pub rest : Rest
+
+unfoldable pub depart : Out → Table → Table
+depart stays t = t
+depart (leaves f) t = departed (f (taskAt (t .tasks) (headOf (line t) .0))) t
+
+unfoldable pub join : Join → Table → Table
+join j t = entered (j .who) (j .change (taskAt (t .tasks) (j .who .0))) t
+
+unfoldable pub joins : List Join → Table → Table
+joins [] t = t
+joins (j ∷ js) t = joins js (join j t)
+
+unfoldable pub apply : Plan → Table → Table
+apply p t = withRest (p .rest) (joins (p .ins) (depart (p .out) t))
+
+-- ---- the same in flight: a task that must enter a queue that holds 16 leaves the mark (number 11)
+abbrev pub begin : Table → Work
+begin t = record { table = t; full = false }
+
+-- task k takes its place; it is turned away
+abbrev pub seated : TaskNo → Task → Work → Work
+seated k e w = record { table = entered k e (w .table); full = w .full }
+
+abbrev pub away : Work → Work
+away w = record { table = w .table; full = true }
+
+unfoldable pub admit : TaskNo → Task → Work → Work
+admit k e w = pick (ltb (w .table .ready) 16) (seated k e w) (away w)
+
+-- what every method in flight asks
+pub record Flying (w : Work) : Type 0 where
+  pub fit : Fit (w .table)
+
+unfoldable pub admits : List Join → Work → Work
+admits [] w = w
+admits (j ∷ js) w = admits js (admit (j .who) (j .change (taskAt (w .table .tasks) (j .who .0))) w)
+
+abbrev pub resting : Rest → Work → Work
+resting r w = record { table = withRest r (w .table); full = w .full }
+
+unfoldable pub carry : Plan → Table → Work
+carry p t = resting (p .rest) (admits (p .ins) (begin (depart (p .out) t)))
+
+-- ---- what the plan does to the queue: its departure and its entries, and no others
+abbrev pub left? : Out → Bool
+left? stays = false
+left? (leaves f) = true
+
+-- the tasks with the entry of k changed
+abbrev pub change-at : List Task → ℕ → (Task → Task) → List Task
+change-at ts k f = putAt ts k (f (taskAt ts k))
+
+-- the item that enters: its number, and the priority that its changed entry has
+abbrev pub enters-as : Join → List Task → Item
+enters-as j ts = record { task = j .who .0; prio = j .change (taskAt ts (j .who .0)) .priority }
+
+unfoldable pub entries : List Join → List Task → List Item
+entries [] ts = []
+entries (j ∷ js) ts = enters-as j ts ∷ entries js (change-at ts (j .who .0) (j .change))
+
+abbrev pub outTasks : Out → List Task → ℕ → List Task
+outTasks stays ts c = ts
+outTasks (leaves f) ts c = change-at ts c f
+
+unfoldable pub movesOf : Plan → Table → Moves
+movesOf p t = record { out = left? (p .out); ins = entries (p .ins) (outTasks (p .out) (t .tasks) (headOf (line t) .0)) }

@@ -1,0 +1,163 @@
+-- A well-formed table (01, "A table is well formed when"): a field for each of its rules, in 01's order. Rules on links and names are counts.
+use mathlib.Core.Path.{_≡_}
+use mathlib.Core.Bool.{Bool, true, false, not}
+use mathlib.Core.List.{List, [], _∷_}
+use Prim.Native.Nat.{ℕ, zero, suc, _+_, _≤_, _<_}
+use lib.Dec.{eqb, ltb}
+use lib.ListN.{length, getD}
+use Rattle.records.specs.declared.TaskNo.{TaskNo}
+use Rattle.executive.specs.declared.Millis.{Millis}
+use Rattle.executive.specs.declared.State.{State}
+use Rattle.executive.specs.declared.State.the-variants.{Dormant, Ready, Paused, Due, Flags, AwaitStart, AwaitEnd}
+use Rattle.executive.specs.declared.Task.{Task}
+use Rattle.executive.specs.declared.Request.{Request}
+use Rattle.executive.specs.declared.Rest.{Rest}
+use Rattle.executive.specs.declared.Table.{Table}
+use Rattle.executive.specs.Numbers.{mostTasks, mostQueued, flagCount, highest, mostGranule, endOfTime, longest}
+use Rattle.executive.specs.Queue.{pick, one, count, Desc}
+use Rattle.executive.specs.Table.{nobody, never, noTask, noRequest, pad, line, requests, taskAt, items}
+use Rattle.executive.specs.Plans.{met}
+
+-- ---- counting
+unfoldable pub sumOf : {A : Type 0} → (A → ℕ) → List A → ℕ
+sumOf f [] = 0
+sumOf f (x ∷ xs) = f x + sumOf f xs
+
+-- the kind of a state; 1 where a state is of kind n, else 0
+abbrev pub kindOf : State → ℕ
+kindOf Dormant = 0
+kindOf Ready = 1
+kindOf AwaitStart = 2
+kindOf AwaitEnd = 3
+kindOf (Paused n) = 4
+kindOf (Due n) = 5
+kindOf (Flags m mask) = 6
+
+abbrev pub is : ℕ → State → ℕ
+is n s = one (eqb n (kindOf s))
+
+-- how many requests name task k: as their target, as the waiter for their start, as the waiter for the end of the run that they begin
+abbrev pub targetsOf : ℕ → List Request → ℕ
+targetsOf k p = sumOf (λ (r : Request). one (eqb k (r .target .0))) p
+
+abbrev pub startsOf : ℕ → List Request → ℕ
+startsOf k p = sumOf (λ (r : Request). one (eqb k (r .«start_waiter» .0))) p
+
+abbrev pub endsOf : ℕ → List Request → ℕ
+endsOf k p = sumOf (λ (r : Request). one (eqb k (r .«end_waiter» .0))) p
+
+-- how many runs name task k as the waiter for their end
+abbrev pub runsOf : ℕ → List Task → ℕ
+runsOf k ts = sumOf (λ (e : Task). one (eqb k (e .«end_waiter» .0))) ts
+
+-- how many requests have a priority over 15; a task number over n; their own target for a waiter; two waiters; a dormant target
+abbrev pub steepOf : List Request → ℕ
+steepOf p = sumOf (λ (r : Request). one (ltb highest (r .priority))) p
+
+abbrev pub wildOf : ℕ → List Request → ℕ
+wildOf n p = sumOf (λ (r : Request). one (ltb n (r .target .0)) + one (ltb n (r .«start_waiter» .0)) + one (ltb n (r .«end_waiter» .0))) p
+
+abbrev pub selfsOf : List Request → ℕ
+selfsOf p = sumOf (λ (r : Request). one (eqb (r .target .0) (r .«start_waiter» .0)) + one (eqb (r .target .0) (r .«end_waiter» .0))) p
+
+abbrev pub twiceOf : List Request → ℕ
+twiceOf p = sumOf (λ (r : Request). pick (eqb (r .«start_waiter» .0) 0) 0 (one (not (eqb (r .«end_waiter» .0) 0)))) p
+
+abbrev pub idleOf : List Task → List Request → ℕ
+idleOf ts p = sumOf (λ (r : Request). is 0 (taskAt ts (r .target .0) .state)) p
+
+-- ---- every number is in range: entries past the task count are zero, and no name is over the count
+pub record Sizes (t : Table) : Type 0 where
+  pub tasks : length (t .tasks) ≡ mostTasks
+  pub queue : length (t .queue) ≡ mostTasks
+  pub alarms : length (t .rest .alarms) ≡ flagCount
+  pub pool : length (t .rest .pool) ≡ mostQueued
+
+pub record InRange (t : Table) : Type 0 where
+  pub sizes : Sizes t
+  pub count : (1 ≤ t .rest .count) × (t .rest .count ≤ mostTasks)
+  pub granule : (1 ≤ t .rest .granule) × (t .rest .granule ≤ mostGranule)
+  pub clock : t .rest .clock .0 ≤ endOfTime
+  pub ready : t .ready ≤ mostTasks
+  pub queued : t .rest .queued ≤ mostQueued
+  pub own : (k : ℕ) → taskAt (t .tasks) k .own ≤ highest
+  pub priority : (k : ℕ) → taskAt (t .tasks) k .priority ≤ highest
+  pub waiter : (k : ℕ) → taskAt (t .tasks) k .«end_waiter» .0 ≤ t .rest .count
+  pub beyond : (k : ℕ) → t .rest .count < k → taskAt (t .tasks) k ≡ noTask
+  pub levels : steepOf (requests (t .rest)) ≡ 0
+  pub names : wildOf (t .rest .count) (requests (t .rest)) ≡ 0
+
+-- ---- the line r holds exactly the tasks of ts whose state is of kind n, once each, in descending priority
+pub record Line (n : ℕ) (ts : List Task) (r : List TaskNo) : Type 0 where
+  pub exact : (k : ℕ) → count k (items ts r) ≡ is n (taskAt ts k .state)
+  pub sorted : Desc (items ts r)
+
+-- the ready queue holds exactly the ready tasks; its free places are zero
+pub record Queue (t : Table) : Type 0 where
+  pub exactly : Line 1 (t .tasks) (line t)
+  pub tidy : t .queue ≡ pad mostTasks nobody (line t)
+
+-- ---- a stored time is after the clock c and at most the largest interval after it
+abbrev pub Stored : ℕ → ℕ → Type 0
+Stored c at = (c < at) × (at ≤ c + longest)
+
+abbrev pub Timely : ℕ → State → Type 0
+Timely c Dormant = Unit {0}
+Timely c Ready = Unit {0}
+Timely c AwaitStart = Unit {0}
+Timely c AwaitEnd = Unit {0}
+Timely c (Paused at) = Stored c (at .0)
+Timely c (Due at) = Stored c (at .0)
+Timely c (Flags m mask) = Unit {0}
+
+-- pause and due times; an alarm that is running
+pub record Times (t : Table) : Type 0 where
+  pub tasks : (k : ℕ) → Timely (t .rest .clock .0) (taskAt (t .tasks) k .state)
+  pub alarms : (i : ℕ) → 0 < getD (t .rest .alarms) i never .0 → Stored (t .rest .clock .0) (getD (t .rest .alarms) i never .0)
+
+-- ---- a wait mask is nonzero and its condition is false, at the flags fs
+abbrev pub Unmet : ℕ → State → Type 0
+Unmet fs Dormant = Unit {0}
+Unmet fs Ready = Unit {0}
+Unmet fs AwaitStart = Unit {0}
+Unmet fs AwaitEnd = Unit {0}
+Unmet fs (Paused at) = Unit {0}
+Unmet fs (Due at) = Unit {0}
+Unmet fs (Flags m mask) = (0 < mask) × (met fs m mask ≡ false)
+
+-- ---- each request or run that names a waiter names a different task in the matching state; each such state is named once.
+-- A request names one waiter at most
+pub record Waiters (ts : List Task) (p : List Request) : Type 0 where
+  pub starts : (k : ℕ) → 0 < k → startsOf k p ≡ is 2 (taskAt ts k .state)
+  pub ends : (k : ℕ) → 0 < k → endsOf k p + runsOf k ts ≡ is 3 (taskAt ts k .state)
+  pub others : selfsOf p ≡ 0
+  pub apart : (k : ℕ) → 0 < k → eqb k (taskAt ts k .«end_waiter» .0) ≡ false
+  pub single : twiceOf p ≡ 0
+
+-- ---- a dormant task's entry: zeros but for its own priority
+pub record Zeros (e : Task) : Type 0 where
+  pub priority : e .priority ≡ 0
+  pub argument : e .argument ≡ 0
+  pub start : e .start .0 ≡ 0
+  pub waiter : e .«end_waiter» .0 ≡ 0
+
+-- ---- the rules, in 01's order
+pub record WellFormed (t : Table) : Type 0 where
+  -- every number is in range
+  pub numbers : InRange t
+  -- the ready queue holds exactly the ready tasks, once each, in descending priority
+  pub queue : Queue t
+  -- every stored pause, due and alarm time is after the clock and at most 918,000,000 ms after it
+  pub times : Times t
+  -- every last scheduled start is at or before the clock
+  pub started : (k : ℕ) → taskAt (t .tasks) k .start .0 ≤ t .rest .clock .0
+  -- each wait mask is nonzero and its condition is false now
+  pub masks : (k : ℕ) → Unmet (t .rest .flags) (taskAt (t .tasks) k .state)
+  -- queued requests name busy tasks only
+  pub busy : idleOf (t .tasks) (requests (t .rest)) ≡ 0
+  -- each request or run that names a waiter names a different task in the matching state, each such state is named once
+  pub waiters : Waiters (t .tasks) (requests (t .rest))
+  -- a dormant task holds zeros but for its own priority
+  pub dormant : (k : ℕ) → is 0 (taskAt (t .tasks) k .state) ≡ 1 → Zeros (taskAt (t .tasks) k)
+  -- the pool's places, first to last, are read as the order of asking, its free places last and zero
+  pub pool : t .rest .pool ≡ pad mostQueued noRequest (requests (t .rest))

@@ -1,0 +1,161 @@
+// The calls, a method for each kind: who departs, who enters, what becomes of the rest of the table.
+use crate::Millis;
+use crate::State;
+use crate::Table;
+use crate::Work;
+use crate::clock;
+use crate::entries;
+use crate::places;
+use crate::pool;
+use crate::pool::Found;
+use records::TaskNo;
+ghost use mathlib.Core.Path.{_≡_};
+ghost use Prim.Native.Nat.{_<_, _≤_, _+_, _^_};
+ghost use Rattle.executive.specs.Table.{Fit, Standing, Out, depart, carry};
+ghost use Rattle.executive.specs.Entries.{withState};
+ghost use Rattle.executive.specs.Plans.{isPaused, endPlan, restartPlan, pausePlan, cancelPlan, tickPlan};
+
+// Whether a task is paused; one that is due to restart is not.
+pub(crate) fn is_paused(s: State) -> bool
+    ensures { λ r. ⌜ r ≡ isPaused s ⌝ }
+{
+    match s {
+        State::Paused(_) => true,
+        State::Dormant => false,
+        State::Ready => false,
+        State::Due(_) => false,
+        State::Flags(_, _) => false,
+        State::AwaitStart => false,
+        State::AwaitEnd => false,
+    }
+}
+
+impl Table {
+    // The caller departs, in another state.
+    pub(crate) fn depart_as(self, s: State) -> Table
+        requires { ⌜ Fit self × (0 < self .ready) ⌝ }
+        ensures { λ r. ⌜ r ≡ depart (Out.leaves (withState s)) self ⌝ }
+    {
+        let queue = self.queue;
+        let tasks = self.tasks;
+        let old = places::task_at(tasks, queue[0]);
+        let e = entries::with_state(old, s);
+        self.depart(e)
+    }
+
+    // Kind 00.
+    pub(crate) fn terminate(self) -> Work
+        requires { ⌜ Fit self × (0 < self .ready) ⌝ }
+        ensures { λ r. ⌜ r ≡ carry (endPlan self) self ⌝ }
+    {
+        let queue = self.queue;
+        let k = queue[0];
+        let tasks = self.tasks;
+        let old = places::task_at(tasks, k);
+        let waiter = old.end_waiter;
+        let gone = entries::asleep(old);
+        let t = self.depart(gone);
+        let w = Work {
+            table: t,
+            full: false,
+        };
+        let w1 = w.wake(waiter);
+        let rest = self.rest;
+        let pool = rest.pool;
+        let queued = rest.queued as usize;
+        match pool::first_for(pool, queued, k) {
+            Found::At(i) => {
+                let q = pool[i];
+                let left = rest.without(i);
+                w1.run(k, q, left)
+            }
+            Found::Nothing => w1,
+        }
+    }
+
+    // Kind 01.
+    pub(crate) fn restart(self, param: u8, count: u8) -> Work
+        requires { ⌜ Standing self × (0 < self .ready) ⌝ }
+        ensures { λ r. ⌜ r ≡ carry (restartPlan self param count) self ⌝ }
+    {
+        let queue = self.queue;
+        let k = queue[0];
+        let tasks = self.tasks;
+        let old = places::task_at(tasks, k);
+        let waiter = old.end_waiter;
+        let rest = self.rest;
+        let now = rest.clock;
+        let start = old.start;
+        let aim = clock::aim_at(start, now, param, count);
+        let gone = entries::due(old, aim);
+        let t = self.depart(gone);
+        let w = Work {
+            table: t,
+            full: false,
+        };
+        let w1 = w.wake(waiter);
+        if aim.0 <= now.0 {
+            return w1.raise(k);
+        }
+        w1
+    }
+
+    // Kind 02, its interval in range.
+    pub(crate) fn pause(self, unit: u8, count: u8) -> Work
+        requires { ⌜ Fit self × (0 < self .ready) × (self .rest .clock .0 ≤ 2 ^ 40) × (unit < 5) ⌝ }
+        ensures { λ r. ⌜ r ≡ carry (pausePlan self unit count) self ⌝ }
+    {
+        if count == 0 {
+            return Work {
+                table: self,
+                full: false,
+            };
+        }
+        let queue = self.queue;
+        let tasks = self.tasks;
+        let old = places::task_at(tasks, queue[0]);
+        let wait = clock::millis_of(unit, count);
+        let until = Millis(self.rest.clock.0 + wait.0);
+        let e = entries::with_state(old, State::Paused(until));
+        let t = self.depart(e);
+        Work {
+            table: t,
+            full: false,
+        }
+    }
+
+    // Kind 03: only a paused task enters, not a due one.
+    pub(crate) fn cancel(self, k: TaskNo) -> Work
+        requires { ⌜ Fit self ⌝ }
+        ensures { λ r. ⌜ r ≡ carry (cancelPlan self k) self ⌝ }
+    {
+        let tasks = self.tasks;
+        let e = places::task_at(tasks, k);
+        let s = e.state;
+        let w = Work {
+            table: self,
+            full: false,
+        };
+        if is_paused(s) {
+            return w.raise(k);
+        }
+        w
+    }
+
+    // Kind 80.
+    pub(crate) fn tick(self) -> Work
+        requires { ⌜ Fit self × (self .rest .clock .0 + self .rest .granule ≤ 2 ^ 40) ⌝ }
+        ensures { λ r. ⌜ r ≡ carry (tickPlan self) self ⌝ }
+    {
+        let old = self.rest;
+        let rest = old.advance();
+        let now = rest.clock;
+        let flags = rest.flags;
+        let w = Work {
+            table: self,
+            full: false,
+        };
+        let w1 = w.rise_all(now, flags);
+        w1.with_rest(rest)
+    }
+}

@@ -1,0 +1,258 @@
+// The table that a configuration makes: one 40, then 1 to 16 of 41, then 42, and nothing more (01, "Records").
+use crate::Fresh;
+use crate::Millis;
+use crate::Request;
+use crate::Rest;
+use crate::State;
+use crate::Table;
+use crate::Task;
+use crate::Work;
+use records::TaskNo;
+ghost use mathlib.Core.Path.{_≡_};
+ghost use Prim.Native.Nat.{_<_, _≤_};
+ghost use lib.ListN.{getD};
+ghost use Rattle.executive.specs.Table.{Flying, pad, noTask, admits};
+ghost use Rattle.executive.specs.Check.{upTo};
+ghost use Rattle.executive.specs.Cards.{Cards};
+ghost use Rattle.executive.specs.FreshLaw.{FreshLaw};
+ghost use Rattle.executive.specs.Fresh.{placeIn, ownIn, markIn, tasksIn, configurationIn, taskRight, isConfiguration, blankRest, withTasks, dormantAt, sleepers, starter, starters, freshOf};
+
+// The byte at a place, and 0 past the end.
+fn at(s: &[u8], i: usize) -> u8
+    ensures { λ r. ⌜ r ≡ getD (now (s .entry)) i 0 ⌝ }
+{
+    if i < s.len() {
+        return s[i];
+    }
+    0
+}
+
+// Where the record of task k stands.
+fn place_in(k: u8) -> usize
+    requires { ⌜ 0 < k ⌝ }
+    ensures { λ r. ⌜ r ≡ placeIn k ⌝ }
+{
+    3 * (k as usize) - 1
+}
+
+// The own priority that the record of task k gives.
+fn own_in(s: &[u8], k: u8) -> u8
+    requires { ⌜ 0 < k ⌝ }
+    ensures { λ r. ⌜ r ≡ ownIn (now (s .entry)) k ⌝ }
+{
+    at(s, place_in(k) + 1)
+}
+
+// The mark that the record of task k gives.
+fn mark_in(s: &[u8], k: u8) -> u8
+    requires { ⌜ 0 < k ⌝ }
+    ensures { λ r. ⌜ r ≡ markIn (now (s .entry)) k ⌝ }
+{
+    at(s, place_in(k) + 2)
+}
+
+// How many 41 follow the 40, one after the other; 16 at most.
+fn tasks_in(s: &[u8]) -> u8
+    ensures { λ r. ⌜ (r ≡ tasksIn (now (s .entry))) × (r ≤ 16) ⌝ }
+{
+    let mut n: u8 = 0;
+    while n < 16 {
+        if at(s, place_in(n + 1)) != 0x41 {
+            return n;
+        }
+        n += 1;
+    }
+    n
+}
+
+// The length of the configuration that the bytes begin with, up to its 42; 0 where they begin with none.
+pub fn length_in(bytes: &[u8]) -> usize
+    ensures { λ r. ⌜ r ≡ configurationIn (now (bytes .entry)) ⌝ }
+{
+    if at(bytes, 0) != 0x40 {
+        return 0;
+    }
+    let n = tasks_in(bytes);
+    if at(bytes, place_in(n + 1)) != 0x42 {
+        return 0;
+    }
+    3 * (n as usize) + 3
+}
+
+// Whether the record of task k has its numbers in range.
+fn task_right(s: &[u8], k: u8) -> bool
+    requires { ⌜ 0 < k ⌝ }
+    ensures { λ r. ⌜ r ≡ taskRight (now (s .entry)) k ⌝ }
+{
+    if own_in(s, k) > 15 {
+        return false;
+    }
+    mark_in(s, k) <= 1
+}
+
+// Whether the records of the tasks 1 to n have.
+fn tasks_right(s: &[u8], n: u8) -> bool
+    requires { ⌜ n ≤ 16 ⌝ }
+    ensures { λ r. ⌜ r ≡ upTo (taskRight (now (s .entry))) n ⌝ }
+{
+    let mut k: u8 = 0;
+    while k < n {
+        if !task_right(s, k + 1) {
+            return false;
+        }
+        k += 1;
+    }
+    true
+}
+
+// Whether the bytes are a configuration.
+fn is_configuration(s: &[u8]) -> bool
+    ensures { λ r. ⌜ r ≡ isConfiguration (now (s .entry)) ⌝ }
+{
+    let n = tasks_in(s);
+    if n < 1 {
+        return false;
+    }
+    if s.len() != length_in(s) {
+        return false;
+    }
+    if at(s, 1) < 1 {
+        return false;
+    }
+    tasks_right(s, n)
+}
+
+// The entry of a dormant task.
+fn dormant(own: u8) -> Task
+    ensures { λ r. ⌜ r ≡ dormantAt own ⌝ }
+{
+    Task {
+        own,
+        state: State::Dormant,
+        priority: 0,
+        argument: 0,
+        start: Millis(0),
+        end_waiter: TaskNo(0),
+    }
+}
+
+// The entries of n dormant tasks, each with its own priority, and blank entries after them.
+fn all_dormant(s: &[u8], n: u8) -> [Task; 16]
+    requires { ⌜ n ≤ 16 ⌝ }
+    ensures { λ r. ⌜ r ≡ pad 16 noTask (sleepers (now (s .entry)) n 1) ⌝ }
+{
+    let mut tasks = [Task {
+        own: 0,
+        state: State::Dormant,
+        priority: 0,
+        argument: 0,
+        start: Millis(0),
+        end_waiter: TaskNo(0),
+    }; 16];
+    let mut i: usize = 0;
+    while i < n as usize {
+        let own = own_in(s, i as u8 + 1);
+        tasks[i] = dormant(own);
+        i += 1;
+    }
+    tasks
+}
+
+// The rest of a table of n tasks with nothing running or asked for.
+fn blank_rest(n: u8, granule: u8) -> Rest
+    ensures { λ r. ⌜ r ≡ blankRest n granule ⌝ }
+{
+    Rest {
+        count: n,
+        granule,
+        clock: Millis(0),
+        flags: 0,
+        alarms: [Millis(0); 32],
+        pool: [Request {
+            target: TaskNo(0),
+            priority: 0,
+            argument: 0,
+            start_waiter: TaskNo(0),
+            end_waiter: TaskNo(0),
+        }; 32],
+        queued: 0,
+    }
+}
+
+// A table with nobody ready.
+fn table_of(tasks: [Task; 16], rest: Rest) -> Table
+    ensures { λ r. ⌜ r ≡ withTasks tasks rest ⌝ }
+{
+    Table {
+        tasks,
+        queue: [TaskNo(0); 16],
+        ready: 0,
+        rest,
+    }
+}
+
+// Task k starts if it is marked: at its own priority, with argument 0 and scheduled start 0.
+fn start_at(w: Work, s: &[u8], k: u8) -> Work
+    requires { ⌜ Flying w × (0 < k) ⌝ }
+    ensures { λ r. ⌜ r ≡ admits (starter (now (s .entry)) k) w ⌝ }
+{
+    if mark_in(s, k) != 1 {
+        return w;
+    }
+    let q = Request {
+        target: TaskNo(k),
+        priority: own_in(s, k),
+        argument: 0,
+        start_waiter: TaskNo(0),
+        end_waiter: TaskNo(0),
+    };
+    w.commence(TaskNo(k), q, Millis(0))
+}
+
+// The marked tasks of 1 to n start, in ascending number.
+fn start_marked(w: Work, s: &[u8], n: u8) -> Work
+    requires { ⌜ Flying w × (n ≤ 16) ⌝ }
+    ensures { λ r. ⌜ r ≡ admits (starters (now (s .entry)) n 1) w ⌝ }
+{
+    let mut v = w;
+    let mut k: u8 = 0;
+    while k < n {
+        v = start_at(v, s, k + 1);
+        k += 1;
+    }
+    v
+}
+
+// The table of a configuration's bytes: number 0 and the table, or number 2 and the all-zero table.
+pub fn fresh(bytes: &[u8]) -> Fresh
+    ensures { λ r. ⌜ r ≡ freshOf (now (bytes .entry)) ⌝ }
+{
+    if !is_configuration(bytes) {
+        let none = all_dormant(bytes, 0);
+        let rest = blank_rest(0, 0);
+        return Fresh {
+            number: 2,
+            table: table_of(none, rest),
+        };
+    }
+    let n = tasks_in(bytes);
+    let tasks = all_dormant(bytes, n);
+    let rest = blank_rest(n, at(bytes, 1));
+    let w = Work {
+        table: table_of(tasks, rest),
+        full: false,
+    };
+    let v = start_marked(w, bytes, n);
+    let table = v.table;
+    Fresh { number: 0, table }
+}
+
+// Every fresh table is well formed, and what else specs/FreshLaw says of a configuration.
+fn fresh_law()
+    ensures { λ r. ⌜ FreshLaw ⌝ }
+{}
+
+// The bench cards P1 to P12 hold of the definitions.
+fn cards()
+    ensures { λ r. ⌜ Cards ⌝ }
+{}

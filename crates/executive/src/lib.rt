@@ -1,0 +1,125 @@
+// The executive: the nouns of its table, and the step that takes a table's state and hands the state back.
+use records::TaskNo;
+ghost use Rattle.executive.specs.Demands.{CheckRight, Demands};
+ghost use Rattle.executive.specs.QueueLaw.{QueueLaw};
+ghost use Rattle.executive.specs.Worked.{Worked};
+
+pub mod answers;
+pub mod calls;
+pub mod check;
+pub mod clock;
+pub mod configuration;
+pub mod entries;
+pub mod flags;
+pub mod places;
+pub mod pool;
+pub mod queue;
+pub mod refusals;
+pub mod starts;
+pub mod step;
+pub mod waking;
+
+// A time of the clock, or a length of time, in milliseconds.
+pub struct Millis(pub u64);
+
+// Whether a task waits for any or for all flags of a mask.
+pub enum Mode {
+    Any,
+    All,
+}
+
+// A task is in exactly one state. Dormant stands first: an entry of zeros is a dormant task's.
+pub enum State {
+    Dormant,
+    Ready,
+    Paused(Millis),
+    Due(Millis),
+    Flags(Mode, u32),
+    AwaitStart,
+    AwaitEnd,
+}
+
+// A task's entry: its own priority; its state; its run's current priority, argument and last scheduled start; who waits for its end.
+pub struct Task {
+    pub own: u8,
+    pub state: State,
+    pub priority: u8,
+    pub argument: u16,
+    pub start: Millis,
+    pub end_waiter: TaskNo,
+}
+
+// A queued start request. It names at most one waiter: for its start, or for the end of the run that it begins.
+pub struct Request {
+    pub target: TaskNo,
+    pub priority: u8,
+    pub argument: u16,
+    pub start_waiter: TaskNo,
+    pub end_waiter: TaskNo,
+}
+
+// What no task's entering or departing touches. An alarm at 0 is not running.
+pub struct Rest {
+    pub count: u8,
+    pub granule: u8,
+    pub clock: Millis,
+    pub flags: u32,
+    pub alarms: [Millis; 32],
+    pub pool: [Request; 32],
+    pub queued: u8,
+}
+
+// The table. The first `ready` places of the queue are taken; task k has its entry at place k - 1.
+pub struct Table {
+    pub tasks: [Task; 16],
+    pub queue: [TaskNo; 16],
+    pub ready: u8,
+    pub rest: Rest,
+}
+
+// A step in flight: full once a task had to enter a queue that held 16.
+pub struct Work {
+    pub table: Table,
+    pub full: bool,
+}
+
+// What a caller of kind 05 waits for.
+pub enum Wait {
+    Goes,
+    ForStart,
+    ForEnd,
+}
+
+// What an accepted call says of itself (01, Z, V and C).
+pub struct Marks {
+    pub z: bool,
+    pub v: bool,
+    pub c: bool,
+}
+
+// What a step answers: its number, Z, V and C, the active task (0 when idle) and its run's argument.
+pub struct Answer {
+    pub number: u8,
+    pub z: bool,
+    pub v: bool,
+    pub c: bool,
+    pub active: TaskNo,
+    pub argument: u16,
+}
+
+// What a step hands back: its answer, and the table's state.
+pub struct Outcome {
+    pub answer: Answer,
+    pub table: Table,
+}
+
+// What a configuration makes: number 0 and the table, or number 2 and a table of zeros.
+pub struct Fresh {
+    pub number: u8,
+    pub table: Table,
+}
+
+// The founder's demands, the queue's law and one history worked out, of every step: nothing to run, a contract that keeps the theorems in place.
+fn promised()
+    ensures { λ r. ⌜ (CheckRight → Demands) × QueueLaw × Worked ⌝ }
+{}

@@ -1,0 +1,77 @@
+// The entries by task number: one guarded read, one guarded write.
+use crate::Millis;
+use crate::State;
+use crate::Table;
+use crate::Task;
+use records::TaskNo;
+ghost use mathlib.Core.Path.{_≡_};
+ghost use Prim.Native.Nat.{_<_};
+ghost use lib.ListN.{set};
+ghost use Rattle.executive.specs.Table.{taskAt, putAt};
+ghost use Rattle.executive.specs.Plans.{stateAt};
+
+const NO_TASK: Task = Task {
+    own: 0,
+    state: State::Dormant,
+    priority: 0,
+    argument: 0,
+    start: Millis(0),
+    end_waiter: TaskNo(0),
+};
+
+// The task's entry; a blank one where there is no such task.
+pub(crate) fn task_at(tasks: [Task; 16], k: TaskNo) -> Task
+    ensures { λ r. ⌜ r ≡ taskAt tasks (k .0) ⌝ }
+{
+    let n = k.0;
+    if n == 0 {
+        return NO_TASK;
+    }
+    if 16 < n {
+        return NO_TASK;
+    }
+    let i = (n - 1) as usize;
+    tasks[i]
+}
+
+// One task's entry, lent where it lies: it is rewritten, its state and its time with the rest.
+fn rewrite(task: &mut Task, e: Task)
+    ensures { λ _. ⌜ now (task .exit) ≡ e ⌝ }
+{
+    *task = e;
+}
+
+// The entries with the one at a place rewritten; no other is touched.
+fn put_in(tasks: [Task; 16], i: usize, e: Task) -> [Task; 16]
+    requires { ⌜ i < 16 ⌝ }
+    ensures { λ r. ⌜ r ≡ set tasks i e ⌝ }
+{
+    let mut out = tasks;
+    rewrite(&mut out[i], e);
+    out
+}
+
+// The entries with one task's rewritten; a number that names no task changes none.
+pub(crate) fn put_at(tasks: [Task; 16], k: TaskNo, e: Task) -> [Task; 16]
+    ensures { λ r. ⌜ r ≡ putAt tasks (k .0) e ⌝ }
+{
+    let n = k.0;
+    if n == 0 {
+        return tasks;
+    }
+    if 16 < n {
+        return tasks;
+    }
+    put_in(tasks, (n - 1) as usize, e)
+}
+
+impl Table {
+    // The state of a task.
+    pub(crate) fn state_at(self, k: TaskNo) -> State
+        ensures { λ r. ⌜ r ≡ stateAt self k ⌝ }
+    {
+        let tasks = self.tasks;
+        let e = task_at(tasks, k);
+        e.state
+    }
+}

@@ -1,0 +1,214 @@
+// The refusals: for each number of 01, whether it is given (01, "Numbers an answer can carry").
+use crate::Millis;
+use crate::Table;
+use crate::entries;
+use crate::places;
+use records::Call;
+use records::FlagNo;
+use records::TaskNo;
+ghost use mathlib.Core.Path.{_≡_};
+ghost use Prim.Native.Nat.{_≤_, _^_};
+ghost use lib.Dec.{ltb, eqb};
+ghost use lib.ListN.{getD};
+ghost use Rattle.executive.specs.Table.{never};
+ghost use Rattle.executive.specs.Plans.{stateAt};
+ghost use Rattle.executive.specs.Refusals.{_or_, isTick, noSuchTask, nobodyActive, badBody, namesCaller, alarmRunning, poolFull, endsTime, earlyOf};
+
+pub(crate) fn is_tick(call: Call) -> bool
+    ensures { λ r. ⌜ r ≡ isTick call ⌝ }
+{
+    match call {
+        Call::Tick => true,
+        Call::Terminate => false,
+        Call::Restart { .. } => false,
+        Call::Pause { .. } => false,
+        Call::CancelPause { .. } => false,
+        Call::Start { .. } => false,
+        Call::Queue { .. } => false,
+        Call::Flag { .. } => false,
+        Call::Wait { .. } => false,
+        Call::Alarm { .. } => false,
+        Call::Granule { .. } => false,
+        Call::Task { .. } => false,
+        Call::End => false,
+    }
+}
+
+// 6 in kinds 09, 0A and 0B.
+fn bad_flag(operation: u8, f: FlagNo) -> bool
+    ensures { λ r. ⌜ r ≡ (ltb 31 (f .0) or ltb 2 operation) ⌝ }
+{
+    if 31 < f.0 {
+        return true;
+    }
+    2 < operation
+}
+
+fn bad_wait(mode: u8, mask: u32) -> bool
+    ensures { λ r. ⌜ r ≡ (ltb 1 mode or eqb mask 0) ⌝ }
+{
+    if 1 < mode {
+        return true;
+    }
+    mask == 0
+}
+
+fn bad_alarm(unit: u8, f: FlagNo) -> bool
+    ensures { λ r. ⌜ r ≡ (ltb 4 unit or ltb 31 (f .0)) ⌝ }
+{
+    if 4 < unit {
+        return true;
+    }
+    31 < f.0
+}
+
+// The alarm of a flag; none past the last flag.
+pub(crate) fn alarm_at(alarms: [Millis; 32], f: FlagNo) -> Millis
+    ensures { λ r. ⌜ r ≡ getD alarms (f .0) never ⌝ }
+{
+    if 31 < f.0 {
+        return Millis(0);
+    }
+    let i = f.0 as usize;
+    alarms[i]
+}
+
+impl Table {
+    // 5: a call, not a tick, and nobody is active.
+    fn nobody_active(self, call: Call) -> bool
+        ensures { λ r. ⌜ r ≡ nobodyActive self call ⌝ }
+    {
+        if is_tick(call) {
+            return false;
+        }
+        self.ready == 0
+    }
+
+    // 6: a number in the body is out of its range.
+    fn no_such_task(self, k: TaskNo) -> bool
+        ensures { λ r. ⌜ r ≡ noSuchTask self k ⌝ }
+    {
+        if k.0 == 0 {
+            return true;
+        }
+        self.rest.count < k.0
+    }
+
+    fn bad_start(self, option: u8, k: TaskNo) -> bool
+        ensures { λ r. ⌜ r ≡ badBody self (Call.Start option k) ⌝ }
+    {
+        if self.no_such_task(k) {
+            return true;
+        }
+        option / 16 % 8 != 0
+    }
+
+    fn bad_queue(self, option: u8, k: TaskNo) -> bool
+        ensures { λ r. ⌜ r ≡ badBody self (Call.Queue option k 0) ⌝ }
+    {
+        if self.no_such_task(k) {
+            return true;
+        }
+        option / 32 % 4 == 3
+    }
+
+    fn bad_body(self, call: Call) -> bool
+        ensures { λ r. ⌜ r ≡ badBody self call ⌝ }
+    {
+        match call {
+            Call::Pause { unit, .. } => 4 < unit,
+            Call::CancelPause { task } => self.no_such_task(task),
+            Call::Start { option, task } => self.bad_start(option, task),
+            Call::Queue { option, task, .. } => self.bad_queue(option, task),
+            Call::Flag { operation, flag } => bad_flag(operation, flag),
+            Call::Wait { mode, mask } => bad_wait(mode, mask),
+            Call::Alarm { unit, flag, .. } => bad_alarm(unit, flag),
+            Call::Terminate => false,
+            Call::Restart { .. } => false,
+            Call::Tick => false,
+            Call::Granule { .. } => false,
+            Call::Task { .. } => false,
+            Call::End => false,
+        }
+    }
+
+    // 7: 05 names its caller, with bit 6 or 5.
+    fn names_caller(self, call: Call) -> bool
+        ensures { λ r. ⌜ r ≡ namesCaller self call ⌝ }
+    {
+        let Call::Queue { option, task, .. } = call else {
+            return false;
+        };
+        let c = self.active();
+        if task.0 == c.0 {
+            return option / 32 % 4 != 0;
+        }
+        false
+    }
+
+    // 9: 0B, and the flag's alarm is running.
+    fn alarm_running(self, call: Call) -> bool
+        ensures { λ r. ⌜ r ≡ alarmRunning self call ⌝ }
+    {
+        let Call::Alarm { flag, .. } = call else {
+            return false;
+        };
+        let rest = self.rest;
+        let alarms = rest.alarms;
+        let a = alarm_at(alarms, flag);
+        a.0 != 0
+    }
+
+    // 8: 05, target busy, 32 requests queued in all.
+    fn pool_full(self, call: Call) -> bool
+        ensures { λ r. ⌜ r ≡ poolFull self call ⌝ }
+    {
+        let Call::Queue { task, .. } = call else {
+            return false;
+        };
+        let s = self.state_at(task);
+        if entries::is_dormant(s) {
+            return false;
+        }
+        32 <= self.rest.queued
+    }
+
+    // 10: a tick would carry the clock past 2^40.
+    fn ends_time(self, call: Call) -> bool
+        requires { ⌜ self .rest .clock .0 ≤ 2 ^ 40 ⌝ }
+        ensures { λ r. ⌜ r ≡ endsTime self call ⌝ }
+    {
+        if is_tick(call) {
+            let granule = self.rest.granule as u64;
+            let end = self.rest.clock.0 + granule;
+            return 1099511627776 < end;
+        }
+        false
+    }
+
+    // The number of the first refusal, in 01's order; 0 where there is none. Number 11 is left: it is judged on what the call comes to.
+    pub(crate) fn refusal(self, call: Call) -> u8
+        requires { ⌜ self .rest .clock .0 ≤ 2 ^ 40 ⌝ }
+        ensures { λ r. ⌜ r ≡ earlyOf self call ⌝ }
+    {
+        if self.nobody_active(call) {
+            return 5;
+        }
+        if self.bad_body(call) {
+            return 6;
+        }
+        if self.names_caller(call) {
+            return 7;
+        }
+        if self.alarm_running(call) {
+            return 9;
+        }
+        if self.pool_full(call) {
+            return 8;
+        }
+        if self.ends_time(call) {
+            return 10;
+        }
+        0
+    }
+}

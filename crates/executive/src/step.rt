@@ -1,0 +1,159 @@
+// The step: a call's refusal or its execution, from a call that was read and from a record's bytes.
+use crate::Outcome;
+use crate::Table;
+use crate::Work;
+use records::Call;
+use records::Got;
+use records::Kind;
+use records::kinds;
+use records::reading;
+ghost use mathlib.Core.Path.{_≡_};
+ghost use Rattle.records.specs.Writing.{bytesOf};
+ghost use Rattle.executive.specs.Table.{carry};
+ghost use Rattle.executive.specs.WellFormed.{WellFormed};
+ghost use mathlib.Core.Bool.{true};
+ghost use Rattle.executive.specs.Check.{isWellFormed};
+ghost use Rattle.executive.specs.Refusals.{planOf, isCall, earlyOf};
+ghost use Rattle.executive.specs.Steps.{isStep, performed, stepOf};
+
+// Whether a record of that kind is a call; a configuration record is none.
+fn is_call(kind: Kind) -> bool
+    ensures { λ r. ⌜ r ≡ isCall kind ⌝ }
+{
+    match kind {
+        Kind::Unknown => false,
+        Kind::Terminate => true,
+        Kind::Restart => true,
+        Kind::Pause => true,
+        Kind::CancelPause => true,
+        Kind::Start => true,
+        Kind::Queue => true,
+        Kind::Flag => true,
+        Kind::Wait => true,
+        Kind::Alarm => true,
+        Kind::Tick => true,
+        Kind::Granule => false,
+        Kind::Task => false,
+        Kind::End => false,
+    }
+}
+
+fn is_step(call: Call) -> bool
+    ensures { λ r. ⌜ r ≡ isStep call ⌝ }
+{
+    match call {
+        Call::Terminate => true,
+        Call::Restart { .. } => true,
+        Call::Pause { .. } => true,
+        Call::CancelPause { .. } => true,
+        Call::Start { .. } => true,
+        Call::Queue { .. } => true,
+        Call::Flag { .. } => true,
+        Call::Wait { .. } => true,
+        Call::Alarm { .. } => true,
+        Call::Tick => true,
+        Call::Granule { .. } => false,
+        Call::Task { .. } => false,
+        Call::End => false,
+    }
+}
+
+impl Table {
+    // Executes a call that nothing refuses.
+    fn run(self, call: Call) -> Work
+        requires { ⌜ WellFormed self × (earlyOf self call ≡ 0) ⌝ }
+        ensures { λ r. ⌜ r ≡ carry (planOf self call) self ⌝ }
+    {
+        let same = Work {
+            table: self,
+            full: false,
+        };
+        match call {
+            Call::Terminate => self.terminate(),
+            Call::Restart { parameter, count } => self.restart(parameter, count),
+            Call::Pause { unit, count } => self.pause(unit, count),
+            Call::CancelPause { task } => self.cancel(task),
+            Call::Start { option, task } => self.start_only(option, task),
+            Call::Queue {
+                option,
+                task,
+                argument,
+            } => self.start_or_queue(option, task, argument),
+            Call::Flag { operation, flag } => self.flag(operation, flag),
+            Call::Wait { mode, mask } => self.wait(mode, mask),
+            Call::Alarm { unit, count, flag } => self.alarm(unit, count, flag),
+            Call::Tick => self.tick(),
+            Call::Granule { .. } => same,
+            Call::Task { .. } => same,
+            Call::End => same,
+        }
+    }
+
+    // A call at a well-formed table: refused with the first number that is given, or accepted. Number 11 is judged on what the call comes to.
+    pub(crate) fn perform(self, call: Call) -> Outcome
+        requires { ⌜ WellFormed self ⌝ }
+        ensures { λ r. ⌜ r ≡ performed self call ⌝ }
+    {
+        let number = self.refusal(call);
+        if number != 0 {
+            return self.refuse(number);
+        }
+        let w = self.run(call);
+        if w.full {
+            return self.refuse(11);
+        }
+        let table = w.table;
+        let m = self.marks_of(call);
+        let answer = table.answer(0, m);
+        Outcome { answer, table }
+    }
+
+    // A step from a record's bytes, at a well-formed table.
+    pub(crate) fn step_checked(self, bytes: &[u8]) -> Outcome
+        requires { ⌜ isWellFormed self ≡ true ⌝ }
+        ensures { λ r. ⌜ r ≡ stepOf self (now (bytes .entry)) ⌝ }
+    {
+        if bytes.len() == 0 {
+            return self.refuse(3);
+        }
+        let kind = kinds::kind_of(bytes[0]);
+        if is_call(kind) {
+            return match reading::read(bytes) {
+                Got::Call(call) => self.perform(call),
+                Got::Refused(number) => self.refuse(number),
+            };
+        }
+        self.refuse(4)
+    }
+
+    // The same from a call that was read.
+    pub(crate) fn take_checked(self, call: Call) -> Outcome
+        requires { ⌜ isWellFormed self ≡ true ⌝ }
+        ensures { λ r. ⌜ r ≡ stepOf self (bytesOf call) ⌝ }
+    {
+        if is_step(call) {
+            return self.perform(call);
+        }
+        self.refuse(4)
+    }
+
+    // A step from a record's bytes, whatever the table and the bytes are: the answer, and the table's state.
+    pub fn step(self, bytes: &[u8]) -> Outcome
+        ensures { λ r. ⌜ r ≡ stepOf self (now (bytes .entry)) ⌝ }
+    {
+        if self.is_well_formed() {
+            return self.step_checked(bytes);
+        }
+        self.refuse(1)
+    }
+
+    // The same from a call that was read: what its record's bytes give.
+    pub fn take(self, call: Call) -> Outcome
+        ensures { λ r. ⌜ r ≡ stepOf self (bytesOf call) ⌝ }
+    {
+        if self.is_well_formed() {
+            return self.take_checked(call);
+        }
+        self.refuse(1)
+    }
+}
