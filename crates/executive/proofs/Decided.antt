@@ -18,7 +18,8 @@ use Rattle.executive.specs.WellFormed.{WellFormed}
 use Rattle.executive.specs.Check.{isWellFormed}
 use Rattle.executive.specs.Refusals.{Refusal, when, callIn, refusals, firstOf}
 use Rattle.executive.specs.Steps.{marks, answerOf, hasV, accepted, refused, outcomeOf, stepOf}
-use Rattle.executive.specs.Demands.{CheckRight, FirstAt, Decides}
+use Rattle.executive.specs.Demands.{FirstAt, Decides}
+use Rattle.executive.proofs.Checked.{well-formed-iff}
 use Rattle.executive.proofs.Performed.{refused-table}
 
 -- ---- the first of a list
@@ -133,15 +134,15 @@ pub answers-active : (t : Table) (s : List ℕ) → isWellFormed t ≡ true → 
 unfolding stepOf
 answers-active t s w = active-is t (firstOf (refusals t s)) (callIn s) (not-one t s w)
 
--- ---- number 1, once the check is known to say `WellFormed`
+-- ---- number 1: exactly for a table that is not well formed
 one-first : (t : Table) (s : List ℕ) → isWellFormed t ≡ false → firstOf (refusals t s) ≡ 1
 unfolding refusals firstOf
 one-first t s w = rw w refl
 
-pub unformed : CheckRight → (t : Table) (s : List ℕ) → (stepOf t s .answer .number ≡ 1) ↔ (WellFormed t → ⊥)
+pub unformed : (t : Table) (s : List ℕ) → (stepOf t s .answer .number ≡ 1) ↔ (WellFormed t → ⊥)
 unfolding stepOf
-unformed iff t s = (λ e w. not-one t s (iff t .1 w) (sym (number-is t (firstOf (refusals t s)) (callIn s)) ∙ e), λ n. number-is t (firstOf (refusals t s)) (callIn s) ∙ go (isWellFormed t) refl n)
+unformed t s = (λ e w. not-one t s (well-formed-iff t .1 w) (sym (number-is t (firstOf (refusals t s)) (callIn s)) ∙ e), λ n. number-is t (firstOf (refusals t s)) (callIn s) ∙ go (isWellFormed t) refl n)
   where
     go : (b : Bool) → isWellFormed t ≡ b → (WellFormed t → ⊥) → firstOf (refusals t s) ≡ 1
-    go true e n = absurd (n (iff t .0 e))
+    go true e n = absurd (n (well-formed-iff t .0 e))
     go false e n = one-first t s e

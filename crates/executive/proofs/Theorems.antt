@@ -22,7 +22,7 @@ use Rattle.executive.specs.Rests.{placeOf}
 use Rattle.executive.specs.Plans.{caller, endWaiter, waking, endPlan, restartPlan}
 use Rattle.executive.specs.WellFormed.{WellFormed}
 use Rattle.executive.specs.Steps.{stepOf}
-use Rattle.executive.specs.Demands.{CheckRight, planIn, after, history, AllBytes, IsReady, Dispatched, NotYet, Overtaking, departedOf, enteredOf, Restarts, Demands}
+use Rattle.executive.specs.Demands.{planIn, after, history, AllBytes, IsReady, Dispatched, NotYet, Overtaking, departedOf, enteredOf, Restarts, Demands}
 use Rattle.executive.proofs.Law.{eqb-self, not-zero, first, first-only}
 use Rattle.executive.proofs.Overtake.{Still, played, overtaken, play-count}
 use Rattle.executive.proofs.Moved.{apply-view}
@@ -33,6 +33,7 @@ use Rattle.executive.proofs.Links.{take, place-target}
 use Rattle.executive.proofs.Plans.{runs}
 use Rattle.executive.proofs.Performed.{step-is, step-kept}
 use Rattle.executive.proofs.Decided.{decided, unformed, order, refusal-keeps, answers-active}
+use Rattle.executive.proofs.Checked.{well-formed-iff, checked-once}
 use Rattle.executive.proofs.Chosen.{prio-is, dispatches}
 
 -- ---- demand 1, over any records
@@ -45,11 +46,11 @@ pub executed : (t : Table) (s : List ℕ) → WellFormed t → Bytes s → stepO
 executed t s w b = step-is t s w b .table
 
 -- ---- demand 2
-pub dispatched : CheckRight → (t : Table) (ss : List (List ℕ)) (s : List ℕ) → WellFormed t → AllBytes ss → Bytes s
+pub dispatched : (t : Table) (ss : List (List ℕ)) (s : List ℕ) → WellFormed t → AllBytes ss → Bytes s
     → Dispatched (stepOf (after t ss) s .table) (stepOf (after t ss) s .answer .active .0)
-dispatched iff t ss s w bs b =
+dispatched t ss s w bs b =
     let v : WellFormed (after t ss) = kept t ss w bs in
-    rw (answers-active (after t ss) s (iff (after t ss) .1 v)) (dispatches (stepOf (after t ss) s .table) (formed (step-kept (after t ss) s v b)))
+    rw (answers-active (after t ss) s (well-formed-iff (after t ss) .1 v)) (dispatches (stepOf (after t ss) s .table) (formed (step-kept (after t ss) s v b)))
 
 -- ---- demand 3
 -- what a step does to the queue is what its plan says
@@ -155,20 +156,21 @@ module _ (t : Table) (w : WellFormed t) (h : 0 < t .ready) where
       let o = take (t .tasks) rs (c .0) 0 i l (place-target (c .0) rs l) (ok-up (formed w .links)) in
       rw (lt-ltb i (length rs) l) (record { departs = refl; enters = again c (endWaiter t c) (getD rs i noRequest .«start_waiter») (begun (getD rs i noRequest) (t .rest .clock)) _ waiter-other (o .2) })
 
--- ---- all of them, once the check is known to say `WellFormed`
-pub demands : CheckRight → Demands
-demands iff = record {
+-- ---- all of them
+pub demands : Demands
+demands = record {
   refusal-keeps = refusal-keeps;
   decided = decided;
-  unformed = unformed iff;
+  unformed = unformed;
   order = order;
   kept = kept;
   executed = executed;
-  dispatched = dispatched iff;
+  dispatched = dispatched;
   overtaking = overtaking;
   accounted = accounted;
   restarts = λ t p n w h. restarts t w h p n;
   begins-again = begins-again;
   step-determined = λ t s x y p q. p ∙ sym q;
+  check-determined = checked-once;
   fresh-determined = λ s x y p q. p ∙ sym q;
 }

@@ -18,7 +18,7 @@ use Rattle.executive.specs.Time.{aimAt}
 use Rattle.executive.specs.Rests.{placeOf}
 use Rattle.executive.specs.Plans.{caller, nothing, endPlan, restartPlan}
 use Rattle.executive.specs.WellFormed.{is, WellFormed}
-use Rattle.executive.specs.Check.{isWellFormed}
+use Rattle.executive.specs.Check.{Checked}
 use Rattle.executive.specs.Refusals.{Refusal, when, planOf, callIn, callRefusals, refusals, firstOf}
 use Rattle.executive.specs.Steps.{stepOf}
 use Rattle.executive.specs.Fresh.{freshOf}
@@ -105,10 +105,6 @@ pub record Restarts (p : Plan) (t : Table) : Type 0 where
   pub departs : movesOf p t .out ≡ true
   pub enters : count (caller t .0) (movesOf p t .ins) ≡ 1
 
--- that the check's computation says `WellFormed`: what number 1 rests on
-abbrev pub CheckRight : Type 0
-CheckRight = (t : Table) → (isWellFormed t ≡ true) ↔ WellFormed t
-
 -- ---- all of it: t is any table, s any record, ss any records
 pub record Demands : Type 0 where
   -- 1: a refusal changes nothing, and its number is the first of the list whose condition holds, number 1 exactly for a table that is not well formed; the list is
@@ -134,4 +130,5 @@ pub record Demands : Type 0 where
   pub begins-again : (t : Table) → WellFormed t → 0 < t .ready → placeOf (caller t .0) (requests (t .rest)) < length (requests (t .rest)) → Restarts (endPlan t) t
   -- any two outcomes that a public entry's contract allows are equal
   pub step-determined : (t : Table) (s : List ℕ) (x y : Outcome) → x ≡ stepOf t s → y ≡ stepOf t s → x ≡ y
+  pub check-determined : (t : Table) (x y : ℕ) → Checked t x → Checked t y → x ≡ y
   pub fresh-determined : (s : List ℕ) (x y : Fresh) → x ≡ freshOf s → y ≡ freshOf s → x ≡ y

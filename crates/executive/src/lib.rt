@@ -1,6 +1,6 @@
 // The executive: the nouns of its table, and the step that takes a table's state and hands the state back.
 use records::TaskNo;
-ghost use Rattle.executive.specs.Demands.{CheckRight, Demands};
+ghost use Rattle.executive.specs.Demands.{Demands};
 ghost use Rattle.executive.specs.QueueLaw.{QueueLaw};
 ghost use Rattle.executive.specs.Worked.{Worked};
 
@@ -121,5 +121,5 @@ pub struct Fresh {
 
 // The founder's demands, the queue's law and one history worked out, of every step: nothing to run, a contract that keeps the theorems in place.
 fn promised()
-    ensures { λ r. ⌜ (CheckRight → Demands) × QueueLaw × Worked ⌝ }
+    ensures { λ r. ⌜ Demands × QueueLaw × Worked ⌝ }
 {}

@@ -1,0 +1,138 @@
+use borrow.Author.Needs.{needs}
+use native.Mathlib.Omega.{arith}
+use mathlib.Core.Path.{ap}
+use lib.ListN.{length}
+use Rattle.bench.proofs.Adding.{then}
+use Rattle.bench.proofs.Digits.{decimal-one, decimal-more, decimal-length}
+use Prim.Native.Nat.{ℕ, _<_}
+use borrow.Fn.Kinds.{In}
+use borrow.Fn.PlainCycle.{Measures, is, falls, and}
+use Rattle.bench.proofs.glyphs.digits.Reads as digits
+use Rattle.bench.proofs.glyphs.digits.Kinds as digits-kinds
+use Rattle.bench.proofs.glyphs.+digits.Lts-digits as digits-lts
+use Rattle.bench.proofs.glyphs.put.Reads as put-reads
+use Rattle.bench.proofs.glyphs.+digits.{statement}
+use Rattle.bench.proofs.glyphs.+digits.Tie.{close}
+
+abbrev μ-digits : Measures 1 digits-kinds.ps ℕ
+μ-digits κs a = a .1 .1 .0
+
+abbrev digits-at : ℕ → In 1 digits-kinds.ps
+digits-at t = and 1 digits-kinds.ps (is 1 digits-kinds.ps μ-digits t) digits.Pre
+
+abbrev digits-below : ℕ → In 1 digits-kinds.ps
+digits-below t = and 1 digits-kinds.ps (falls 1 digits-kinds.ps _<_ μ-digits t) digits.Pre
+
+digits-cast-put : (t : ℕ) → digits-lts.Need-cast-put (
+  put-reads.Asked,
+  put-reads.Learnt,
+  digits-below t,
+  digits.Post,
+) (digits-at t) digits.Post
+digits-cast-put t c = search needs
+
+digits-add-put : (t : ℕ) → digits-lts.Need-add-put (
+  put-reads.Asked,
+  put-reads.Learnt,
+  digits-below t,
+  digits.Post,
+) (digits-at t) digits.Post
+digits-add-put t c = search needs
+
+digits-put-requires : (t : ℕ) → digits-lts.Need-put-requires (
+  put-reads.Asked,
+  put-reads.Learnt,
+  digits-below t,
+  digits.Post,
+) (digits-at t) digits.Post
+digits-put-requires t c κs = omega (arith, ap length (decimal-one (c .before .before .before .args .n) (c .before .if1 .taken)))
+
+digits-same-length : (t : ℕ) → digits-lts.Need-same-length (
+  put-reads.Asked,
+  put-reads.Learnt,
+  digits-below t,
+  digits.Post,
+) (digits-at t) digits.Post
+digits-same-length t c = search needs
+
+digits-returns : (t : ℕ) → digits-lts.Need-returns (
+  put-reads.Asked,
+  put-reads.Learnt,
+  digits-below t,
+  digits.Post,
+) (digits-at t) digits.Post
+digits-returns t c = rw (decimal-one (c .before .before .before .before .before .before .args .n) (c .before .before .before .before .if1 .taken)) (c .before .before .put .ensures)
+
+digits-digits-requires : (t : ℕ) → digits-lts.Need-digits-requires (
+  put-reads.Asked,
+  put-reads.Learnt,
+  digits-below t,
+  digits.Post,
+) (digits-at t) digits.Post
+digits-digits-requires t c κs = omega (arith, decimal-length (c .before .before .before .args .n) (c .before .if1 .left))
+
+digits-cast-put-2 : (t : ℕ) → digits-lts.Need-cast-put-2 (
+  put-reads.Asked,
+  put-reads.Learnt,
+  digits-below t,
+  digits.Post,
+) (digits-at t) digits.Post
+digits-cast-put-2 t c = search needs
+
+digits-add-put-2 : (t : ℕ) → digits-lts.Need-add-put-2 (
+  put-reads.Asked,
+  put-reads.Learnt,
+  digits-below t,
+  digits.Post,
+) (digits-at t) digits.Post
+digits-add-put-2 t c = search needs
+
+digits-put-requires-2 : (t : ℕ) → digits-lts.Need-put-requires-2 (
+  put-reads.Asked,
+  put-reads.Learnt,
+  digits-below t,
+  digits.Post,
+) (digits-at t) digits.Post
+digits-put-requires-2 t c κs =
+    let d = c .before .before .before in
+    omega (arith, decimal-length (d .before .before .before .before .args .n) (d .before .before .if1 .left), d .digits .ensures .place, d .digits .ensures .size)
+
+digits-same-length-2 : (t : ℕ) → digits-lts.Need-same-length-2 (
+  put-reads.Asked,
+  put-reads.Learnt,
+  digits-below t,
+  digits.Post,
+) (digits-at t) digits.Post
+digits-same-length-2 t c = search needs
+
+digits-returns-2 : (t : ℕ) → digits-lts.Need-returns-2 (
+  put-reads.Asked,
+  put-reads.Learnt,
+  digits-below t,
+  digits.Post,
+) (digits-at t) digits.Post
+digits-returns-2 t c =
+    let p = c .before .before in
+    let d = p .before .before .before .before in
+    rw (decimal-more (d .before .before .before .before .args .n) (d .before .before .if1 .left)) (then (d .digits .ensures) (p .put2 .ensures))
+
+pub +digits-spec : {M : Type 1} → statement M
++digits-spec = close μ-digits λ t. digits-lts.spec (
+  put-reads.Asked,
+  put-reads.Learnt,
+  digits-below t,
+  digits.Post,
+)
+    (digits-at t)
+    digits.Post
+    (digits-cast-put t)
+    (digits-add-put t)
+    (digits-put-requires t)
+    (digits-same-length t)
+    (digits-returns t)
+    (digits-digits-requires t)
+    (digits-cast-put-2 t)
+    (digits-add-put-2 t)
+    (digits-put-requires-2 t)
+    (digits-same-length-2 t)
+    (digits-returns-2 t)

@@ -1,0 +1,10 @@
+use Rattle.bench.proofs.Adding.{then}
+use borrow.Author.Needs.{needs}
+use Rattle.bench.proofs.glyphs.bits.Statement.{statement}
+use Rattle.bench.proofs.glyphs.bits.Tie as tie
+
+returns : tie.Need-returns
+returns c = then (then (c .before .before .before .before .before .before .before .before .before .before .bit .ensures) (c .before .before .before .before .before .before .bit2 .ensures)) (c .before .before .bit3 .ensures)
+
+pub bits-spec : {M : Type 1} → statement M
+bits-spec = tie.close (tie.spec (λ c κs. search needs) (λ c κs. search needs) (λ c κs. search needs) (λ c. search needs) returns)

@@ -1,0 +1,177 @@
+// The listing of an input, piece by piece: from its start on, into buffers that are lent.
+use crate::Filled;
+use crate::Next;
+use crate::Run;
+use crate::lines;
+use crate::steps;
+use executive::Table;
+use executive::configuration;
+use records::TaskNo;
+ghost use mathlib.Core.Path.{_≡_};
+ghost use Prim.Native.Nat.{_≤_, _-_};
+ghost use lib.ListN.{length, take};
+ghost use Rattle.bench.specs.declared.Next.the-variants.{Step};
+ghost use Rattle.executive.specs.Table.{headOf};
+ghost use Rattle.bench.specs.Glyphs.{Adds};
+ghost use Rattle.bench.specs.Lines.{headerOf};
+ghost use Rattle.bench.specs.Pieces.{firstOf, startOf, isMore, after, withNext, Fills, FillsFrom, Promise};
+
+// What is told first, of an input of that length whose configuration gave that number.
+fn first(length: usize, number: u8) -> Next
+    ensures { λ r. ⌜ r ≡ firstOf length number ⌝ }
+{
+    if 65536 < length {
+        return Next::Stop(12);
+    }
+    if number == 0 {
+        return Next::Header;
+    }
+    Next::Stop(2)
+}
+
+// The start of an input's listing: the configuration is read.
+pub fn start(input: &[u8]) -> Run
+    ensures { λ r. ⌜ r ≡ startOf (now (input .entry)) ⌝ }
+{
+    let at = configuration::length_in(input);
+    let made = configuration::fresh(&input[..at]);
+    let next = first(input.len(), made.number);
+    let table = made.table;
+    Run {
+        next,
+        at,
+        number: 1,
+        table,
+    }
+}
+
+// Whether there is more to tell.
+fn is_more(next: Next) -> bool
+    ensures { λ r. ⌜ r ≡ isMore next ⌝ }
+{
+    match next {
+        Next::Header => true,
+        Next::Step => true,
+        Next::Stop(_) => true,
+        Next::Nothing => false,
+    }
+}
+
+// The number after a step's.
+fn number_after(n: u32) -> u32
+    ensures { λ r. ⌜ r ≡ after n ⌝ }
+{
+    if n < 4294967295 {
+        return n + 1;
+    }
+    n
+}
+
+// The active task: the head of the queue, 0 when it is empty.
+fn active(queue: [TaskNo; 16], ready: u8) -> u8
+    ensures { λ r. ⌜ r ≡ headOf (take ready queue) .0 ⌝ }
+{
+    if ready == 0 {
+        return 0;
+    }
+    let head = queue[0];
+    head.0
+}
+
+// The header of a table.
+fn header(table: Table, out: &mut [u8]) -> usize
+    requires { ⌜ 64 ≤ length (now out) ⌝ }
+    ensures { λ r. ⌜ Adds (now (out .entry)) 0 (now (out .exit)) r (headerOf table) ⌝ }
+{
+    let rest = table.rest;
+    let queue = table.queue;
+    lines::header_line(out, 0, rest.granule, rest.count, active(queue, table.ready))
+}
+
+// The lines of the steps from where a listing stands, into a buffer that is used up to a place.
+fn go_on(input: &[u8], run: Run, out: &mut [u8], from: usize) -> Filled
+    requires { ⌜ from ≤ length (now out) ⌝ }
+    ensures { λ r. ⌜ FillsFrom from (now (input .entry)) (withNext Step run) (now (out .entry)) (now (out .exit)) r ⌝ }
+{
+    let mut used = from;
+    let mut at = run.at;
+    let mut number = run.number;
+    let mut table = run.table;
+    while 64 <= out.len() - used {
+        let n = steps::whole_at(input, at);
+        if n == 0 {
+            used = steps::last_line(input, at, out, used);
+            return Filled {
+                used,
+                more: false,
+                run: Run {
+                    next: Next::Nothing,
+                    at,
+                    number,
+                    table,
+                },
+            };
+        }
+        let end = at + n;
+        let outcome = table.step(&input[at..end]);
+        used = lines::step_line(out, used, number, input[at], outcome.answer);
+        number = number_after(number);
+        at = end;
+        table = outcome.table;
+    }
+    Filled {
+        used,
+        more: true,
+        run: Run {
+            next: Next::Step,
+            at,
+            number,
+            table,
+        },
+    }
+}
+
+// Fills a buffer with the whole lines that go into it, from where a listing stands. Its other bytes stay.
+pub fn fill(input: &[u8], run: Run, out: &mut [u8]) -> Filled
+    ensures { λ r. ⌜ Fills (now (input .entry)) run (now (out .entry)) (now (out .exit)) r ⌝ }
+{
+    let next = run.next;
+    let table = run.table;
+    if out.len() < 64 {
+        return Filled {
+            used: 0,
+            more: is_more(next),
+            run,
+        };
+    }
+    match next {
+        Next::Header => {
+            let used = header(table, out);
+            go_on(input, run, out, used)
+        }
+        Next::Step => go_on(input, run, out, 0),
+        Next::Stop(n) => {
+            let used = lines::stop_line(out, 0, n);
+            Filled {
+                used,
+                more: false,
+                run: Run {
+                    next: Next::Nothing,
+                    at: run.at,
+                    number: run.number,
+                    table,
+                },
+            }
+        }
+        Next::Nothing => Filled {
+            used: 0,
+            more: false,
+            run,
+        },
+    }
+}
+
+// The pieces, from the start on, are the listing.
+fn promised()
+    ensures { λ _. ⌜ Promise ⌝ }
+{}

@@ -1,0 +1,303 @@
+//! The bench cards and the listing of document 01, and the check of a table, on this program.
+
+use crate::bench::listing;
+use crate::executive::*;
+
+/// The input of document 01's listing.
+pub const PAPER_INPUT: [u8; 39] = [
+    0x40, 0x0A, 0x41, 0x07, 0x01, 0x41, 0x05, 0x01, 0x41, 0x07, 0x00, 0x42, 0x04, 0x80, 0x03, 0x02,
+    0x00, 0x0F, 0x80, 0x05, 0xA0, 0x02, 0x00, 0x04, 0x80, 0x0A, 0x00, 0x00, 0x00, 0x00, 0x01, 0x00,
+    0x09, 0x01, 0x00, 0x02, 0x05, 0x01, 0x00,
+];
+
+/// The output of document 01's listing.
+pub const PAPER_OUTPUT: &[u8] = b"granule 10 tasks 3 active 1
+1 04 0 000 1
+2 02 0 000 3
+3 80 0 000 3
+4 05 0 100 2
+5 80 0 000 1
+6 0A 0 000 2
+7 00 0 000 3
+8 09 0 000 3
+9 02 6 010 3
+10 00 0 000 1
+end
+";
+
+/// Runs every card; true if all hold.
+pub fn cards() -> bool {
+    let all: [(&str, fn() -> bool); 16] = [
+        ("01's listing", || {
+            listing::<true>(&PAPER_INPUT, Fault::None) == PAPER_OUTPUT
+        }),
+        ("P1", || table(1, &[(7, 1), (7, 1)]).queue[0] == 1),
+        ("P2", p2),
+        ("P3", p3),
+        ("P4", || {
+            ended_at(420_000, 0).state == State::Ready && ended_at(420_000, 0).started == 300_000
+        }),
+        ("P5", p5),
+        ("P6", p6),
+        ("P7", p7),
+        ("P8", p8),
+        ("P9", p9),
+        ("P10", p10),
+        ("P11", p11),
+        ("P12", p12),
+        ("order at an end", order_at_an_end),
+        ("refusals change nothing", refusals_change_nothing),
+        ("broken tables give 1", broken_tables),
+    ];
+    let mut right = true;
+    for (name, card) in all {
+        let holds = card();
+        println!("{name}: {}", if holds { "holds" } else { "DOES NOT HOLD" });
+        right &= holds;
+    }
+    right
+}
+
+/// The fresh table of a granule and tasks of own priority and mark.
+fn table(granule: u8, tasks: &[(u8, u8)]) -> Table {
+    let mut bytes = vec![0x40, granule];
+    tasks
+        .iter()
+        .for_each(|(own, mark)| bytes.extend([0x41, *own, *mark]));
+    bytes.push(0x42);
+    fresh(&bytes).expect("a good configuration")
+}
+
+/// Steps that must all be accepted; the last answer.
+fn accepted(table: &mut Table, records: &[&[u8]]) -> Answer {
+    let mut last = Answer::default();
+    for record in records {
+        last = step(table, record);
+        assert_eq!(last.number, 0, "{record:02X?} on {table:?}");
+    }
+    last
+}
+
+fn zvc(answer: Answer) -> (u8, bool, bool, bool) {
+    (answer.number, answer.z, answer.v, answer.c)
+}
+
+fn p2() -> bool {
+    let mut t = table(100, &[(7, 1), (7, 1)]);
+    let idle = accepted(&mut t, &[&[2, 0, 1], &[2, 0, 99]]).active == 0;
+    accepted(&mut t, &[&[0x80]]);
+    idle && t.queue[..3] == [1, 2, 0]
+}
+
+fn p3() -> bool {
+    let paused = |unit: u8, count: u8| {
+        let mut t = table(1, &[(7, 1)]);
+        accepted(&mut t, &[&[2, unit, count]]);
+        t.task(1).state
+    };
+    paused(2, 30) == State::Paused(30_000) && paused(4, 255) == State::Paused(918_000_000)
+}
+
+/// The one task, last scheduled at `started`, after its run ended at `clock` by 01, 5 minutes.
+fn ended_at(clock: u64, started: u64) -> Task {
+    let mut t = table(1, &[(7, 1)]);
+    t.clock = clock;
+    t.tasks[0].started = started;
+    accepted(&mut t, &[&[1, 3, 5]]);
+    t.tasks[0]
+}
+
+fn p5() -> bool {
+    let (early, exact) = (ended_at(540_000, 300_000), ended_at(600_000, 300_000));
+    early.state == State::Due(600_000)
+        && early.started == 300_000
+        && exact.state == State::Ready
+        && exact.started == 600_000
+}
+
+fn p6() -> bool {
+    let mut t = table(1, &[(7, 1)]);
+    t.clock = 5;
+    let answer = step(&mut t, &[1, 5, 9]);
+    zvc(answer) == (0, false, true, false) && answer.active == 1 && t.tasks[0].started == 5
+}
+
+fn p7() -> bool {
+    let mut t = table(1, &[(7, 1), (5, 1)]);
+    accepted(
+        &mut t,
+        &[&[0x0A, 1, 0, 0, 0, 3], &[9, 1, 0], &[9, 0, 0], &[9, 1, 1]],
+    );
+    t.task(1).state == State::WaitAll(3)
+}
+
+fn p8() -> bool {
+    let mut t = table(1, &[(7, 1)]);
+    for n in 0..32 {
+        accepted(&mut t, &[&[5, 0x80, 1, 0, n]]);
+    }
+    let full = step(&mut t, &[5, 0x80, 1, 0, 99]);
+    let begun = accepted(&mut t, &[&[0]]);
+    let again = step(&mut t, &[5, 0x80, 1, 0, 99]);
+    full.number == 8 && begun.argument == 0 && t.asked == 32 && again.number == 0 && again.z
+}
+
+fn p9() -> bool {
+    let mut t = table(1, &[(7, 1), (7, 1)]);
+    let before = t;
+    let answer = step(&mut t, &[4, 0x80, 2]);
+    zvc(answer) == (0, true, false, false) && t == before
+}
+
+fn p10() -> bool {
+    let mut t = table(1, &[(7, 1)]);
+    let waits = step(&mut t, &[5, 0xA0, 1, 0, 1]);
+    let queues = step(&mut t, &[5, 0x80, 1, 0, 1]);
+    zvc(waits) == (7, false, true, false) && zvc(queues) == (0, true, false, false) && t.asked == 1
+}
+
+fn p11() -> bool {
+    let mut t = table(1, &[(7, 1)]);
+    t.clock = LAST_CLOCK - 1;
+    let lands = step(&mut t, &[0x80]);
+    let past = step(&mut t, &[0x80]);
+    lands.number == 0 && t.clock == LAST_CLOCK && zvc(past) == (10, false, false, false)
+}
+
+fn p12() -> bool {
+    let mut t = table(1, &[(7, 0)]);
+    zvc(step(&mut t, &[0])) == (5, false, false, false)
+}
+
+/// Task 3 waits for task 1's end, task 4 for the start of task 1's next run: 3, then 1, then 4.
+fn order_at_an_end() -> bool {
+    let mut t = table(1, &[(7, 0), (1, 1), (7, 1), (7, 1)]);
+    accepted(&mut t, &[&[5, 0xC7, 1, 0, 1], &[5, 0xA7, 1, 0, 2]]);
+    let waiting = t.queue[..3] == [1, 2, 0] && t.task(1).end_waiter == 3;
+    accepted(&mut t, &[&[0]]);
+    waiting && t.queue[..5] == [3, 1, 4, 2, 0] && t.task(1).argument == 2 && t.asked == 0
+}
+
+/// Each refusal has its number by the order of document 01, and keeps the table.
+fn refusals_change_nothing() -> bool {
+    let mut t = table(1, &[(7, 1), (7, 0)]);
+    accepted(&mut t, &[&[0x0B, 0, 9, 4]]);
+    let before = t;
+    let all: [(&[u8], u8); 16] = [
+        (&[], 3),
+        (&[0, 0], 3),
+        (&[0x40], 4),
+        (&[0x42], 4),
+        (&[6], 4),
+        (&[5, 0x60, 1, 0], 3),
+        (&[5, 0x60, 1, 0, 0], 6),
+        (&[5, 0x40, 1, 0, 0], 7),
+        (&[2, 5, 0], 6),
+        (&[2, 8, 1], 6),
+        (&[3, 3], 6),
+        (&[4, 0x10, 2], 6),
+        (&[9, 3, 0], 6),
+        (&[0x0A, 0, 0, 0, 0, 0], 6),
+        (&[0x0B, 5, 0, 4], 6),
+        (&[0x0B, 0, 0, 4], 9),
+    ];
+    all.iter().all(|(record, number)| {
+        let v = matches!(number, 4 | 6 | 7);
+        let answer = step(&mut t, record);
+        zvc(answer) == (*number, false, v, false) && answer.active == 1 && t == before
+    })
+}
+
+/// A good table with something of everything: 1 waits for 2's end, 4 for a start, 3 is due, 5 waits
+/// for flags, 6 is paused, 7 is dormant.
+fn rich_table() -> Table {
+    let marked = (7, 1);
+    let mut t = table(
+        10,
+        &[
+            marked,
+            (2, 0),
+            marked,
+            marked,
+            marked,
+            marked,
+            (7, 0),
+            (1, 1),
+        ],
+    );
+    accepted(
+        &mut t,
+        &[&[5, 0xC0, 2, 0, 1], &[1, 0, 99], &[5, 0xA0, 2, 0, 1]],
+    );
+    accepted(
+        &mut t,
+        &[
+            &[0x0A, 1, 0, 0, 0, 6],
+            &[2, 0, 99],
+            &[0x0B, 2, 1, 7],
+            &[9, 1, 1],
+            &[0x80],
+        ],
+    );
+    t
+}
+
+/// Each rule of the sentence, broken once or more in the rich table.
+const BREAKS: [fn(&mut Table); 34] = [
+    |t| t.count = 0,
+    |t| t.count = 17,
+    |t| t.granule = 0,
+    |t| t.clock = LAST_CLOCK + 1,
+    |t| t.tasks[6].own = 16,
+    |t| t.tasks[2].priority = 16,
+    |t| t.tasks[1].end_waiter = 9,
+    |t| t.pool[0].task = 0,
+    |t| t.pool[0].priority = 16,
+    |t| t.pool[0].start_waiter = 9,
+    |t| t.asked = 33,
+    |t| t.queued = 17,
+    |t| t.queue[0] = 9,
+    |t| t.queue.swap(0, 1),
+    |t| t.queue[15] = 1,
+    |t| t.queued -= 1,
+    |t| t.queue[1] = t.queue[0],
+    |t| t.tasks[6].state = State::Ready,
+    |t| t.tasks[5].state = State::Paused(t.clock),
+    |t| t.tasks[5].state = State::Due(t.clock + LONGEST + 1),
+    |t| t.alarms[0] = t.clock,
+    |t| t.alarms[31] = t.clock + LONGEST + 1,
+    |t| t.tasks[1].started = t.clock + 1,
+    |t| t.tasks[4].state = State::WaitAny(0),
+    |t| t.tasks[4].state = State::WaitAny(2),
+    |t| t.tasks[4].state = State::WaitAll(2),
+    |t| t.pool[0].task = 7,
+    |t| t.tasks[1].end_waiter = 0,
+    |t| t.pool[0].end_waiter = 1,
+    |t| t.pool[1].end_waiter = 1,
+    |t| t.pool[0].task = 4,
+    |t| t.tasks[6].argument = 1,
+    |t| t.tasks[8].own = 1,
+    |t| t.pool[2].argument = 1,
+];
+
+/// On each broken table every step answers 1 and keeps it.
+fn broken_tables() -> bool {
+    let good = rich_table();
+    well_formed(&good)
+        && BREAKS.iter().enumerate().all(|(place, spoil)| {
+            let mut broken = good;
+            spoil(&mut broken);
+            let kept = broken;
+            let right = [&[][..], &[6], &[0x80]].iter().all(|record| {
+                step(&mut broken, record)
+                    == Answer {
+                        number: 1,
+                        ..Answer::default()
+                    }
+            });
+            if !right || broken != kept {
+                println!("broken table {place} was not found");
+            }
+            right && broken == kept
+        })
+}

@@ -1,0 +1,201 @@
+//! What a set of runs has met: kinds, numbers and ways of waking; and what it never met.
+
+use crate::bench::{cut, LONGEST_INPUT};
+use crate::executive::{fresh_from_start, step, Answer, State, Table};
+
+const KINDS: [(u8, &str); 10] = [
+    (0x00, "terminate"),
+    (0x01, "terminate, restart"),
+    (0x02, "pause"),
+    (0x03, "cancel a pause"),
+    (0x04, "start if dormant"),
+    (0x05, "start or queue"),
+    (0x09, "flag"),
+    (0x0A, "wait for flags"),
+    (0x0B, "alarm"),
+    (0x80, "tick"),
+];
+
+/// The refusal numbers that a bench run can reach.
+const REACHABLE: [usize; 9] = [2, 3, 4, 5, 6, 7, 8, 9, 12];
+/// Those that it cannot, and why.
+const UNREACHABLE: [(usize, &str); 4] = [
+    (1, "a step leaves a well-formed table"),
+    (10, "65,536 bytes are too few ticks for 2^40 ms"),
+    (11, "a full queue holds every task"),
+    (20, "nothing is written into a buffer"),
+];
+
+const WAYS: [&str; 15] = [
+    "pause end",
+    "pause cancelled",
+    "due restart",
+    "catch-up at once",
+    "V restart",
+    "flag, any, by 09",
+    "flag, all, by 09",
+    "flag by an alarm at a tick",
+    "flag by 0B with count 0",
+    "start waiter",
+    "end waiter of 00",
+    "end waiter of 01",
+    "queued request begun by 00",
+    "started by 04",
+    "started by 05",
+];
+
+#[derive(Clone, Default)]
+pub struct Coverage {
+    runs: u64,
+    bytes: u64,
+    accepted: [u64; KINDS.len()],
+    refused: [u64; KINDS.len()],
+    numbers: [u64; 32],
+    ways: [u64; WAYS.len()],
+    changed_by_refusal: u64,
+}
+
+impl Coverage {
+    /// Goes through a run, step by step, on this program's own executive.
+    pub fn watch(&mut self, input: &[u8]) {
+        self.runs += 1;
+        self.bytes += input.len() as u64;
+        if input.len() > LONGEST_INPUT {
+            self.numbers[12] += 1;
+            return;
+        }
+        let Some((mut table, used)) = fresh_from_start(input) else {
+            self.numbers[2] += 1;
+            return;
+        };
+        let mut rest = &input[used..];
+        while !rest.is_empty() {
+            match cut(rest) {
+                Ok((record, more)) => {
+                    self.watch_step(&mut table, record);
+                    rest = more;
+                }
+                Err(stop) => {
+                    self.numbers[stop as usize] += 1;
+                    return;
+                }
+            }
+        }
+    }
+
+    fn watch_step(&mut self, table: &mut Table, record: &[u8]) {
+        let before = *table;
+        let answer: Answer = step(table, record);
+        let kind = KINDS
+            .iter()
+            .position(|(kind, _)| *kind == record[0])
+            .expect("a carried kind");
+        self.numbers[answer.number as usize] += 1;
+        if answer.number != 0 {
+            self.refused[kind] += 1;
+            self.changed_by_refusal += u64::from(*table != before);
+            return;
+        }
+        self.accepted[kind] += 1;
+        for number in 1..=before.count {
+            let (old, new) = (before.task(number).state, table.task(number).state);
+            let caller = number == before.queue[0];
+            if new == State::Ready && (old != State::Ready || caller) {
+                if let Some(way) = way_of_waking(record, old) {
+                    self.ways[way] += 1;
+                }
+            }
+        }
+    }
+
+    pub fn add(&mut self, other: &Coverage) {
+        fn sum(to: &mut [u64], from: &[u64]) {
+            to.iter_mut().zip(from).for_each(|(to, from)| *to += from);
+        }
+        self.runs += other.runs;
+        self.bytes += other.bytes;
+        self.changed_by_refusal += other.changed_by_refusal;
+        sum(&mut self.accepted, &other.accepted);
+        sum(&mut self.refused, &other.refused);
+        sum(&mut self.numbers, &other.numbers);
+        sum(&mut self.ways, &other.ways);
+    }
+
+    /// Prints the table; true if everything was met that can be, and nothing that cannot.
+    pub fn print(&self) -> bool {
+        let mut missed = Vec::new();
+        let steps: u64 = self.accepted.iter().chain(&self.refused).sum();
+        println!("{} runs, {} bytes, {} steps", self.runs, self.bytes, steps);
+        println!("kind                          accepted    refused");
+        for (at, (kind, name)) in KINDS.iter().enumerate() {
+            println!(
+                "{kind:02X} {name:<22} {:>12} {:>10}",
+                self.accepted[at], self.refused[at]
+            );
+            note(&mut missed, self.accepted[at], || {
+                format!("kind {kind:02X} accepted")
+            });
+        }
+        println!("number                             met");
+        for number in REACHABLE {
+            println!("{number:<25} {:>12}", self.numbers[number]);
+            note(&mut missed, self.numbers[number], || {
+                format!("number {number}")
+            });
+        }
+        for (number, why) in UNREACHABLE {
+            println!(
+                "{number:<25} {:>12}  (out of a bench run's reach: {why})",
+                self.numbers[number]
+            );
+        }
+        println!("way of waking                      met");
+        for (way, met) in WAYS.iter().zip(self.ways) {
+            println!("{way:<27} {met:>10}");
+            note(&mut missed, met, || format!("way of waking '{way}'"));
+        }
+        missed.iter().for_each(|what| println!("NEVER MET: {what}"));
+        missed.is_empty() && self.nothing_impossible()
+    }
+
+    /// False, and said so, where a step answered what no bench run can, or a refusal changed something.
+    fn nothing_impossible(&self) -> bool {
+        let met = UNREACHABLE
+            .iter()
+            .any(|(number, _)| self.numbers[*number] > 0);
+        if met || self.changed_by_refusal > 0 {
+            println!(
+                "WRONG in the second program itself: an unreachable number or a changed table"
+            );
+        }
+        !met && self.changed_by_refusal == 0
+    }
+}
+
+fn note(missed: &mut Vec<String>, met: u64, what: impl Fn() -> String) {
+    if met == 0 {
+        missed.push(what());
+    }
+}
+
+/// The place in `WAYS` of an entry into the queue by an accepted step; `old` is the state before.
+fn way_of_waking(record: &[u8], old: State) -> Option<usize> {
+    match (record[0], old) {
+        (0x80, State::Paused(_)) => Some(0),
+        (0x03, State::Paused(_)) => Some(1),
+        (0x80, State::Due(_)) => Some(2),
+        (0x01, State::Ready) if record[1] & 7 > 4 => Some(4),
+        (0x01, State::Ready) if record[1] & 0x80 == 0 && record[2] > 0 => Some(3),
+        (0x09, State::WaitAny(_)) => Some(5),
+        (0x09, State::WaitAll(_)) => Some(6),
+        (0x80, State::WaitAny(_) | State::WaitAll(_)) => Some(7),
+        (0x0B, State::WaitAny(_) | State::WaitAll(_)) => Some(8),
+        (0x00, State::WaitStart) => Some(9),
+        (0x00, State::WaitEnd) => Some(10),
+        (0x01, State::WaitEnd) => Some(11),
+        (0x00, State::Ready) => Some(12),
+        (0x04, State::Dormant) => Some(13),
+        (0x05, State::Dormant) => Some(14),
+        _ => None,
+    }
+}

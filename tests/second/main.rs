@@ -1,0 +1,100 @@
+//! The second program: the executive of document 01 again, to hold the proved one against.
+
+mod bench;
+mod cards;
+mod compare;
+mod coverage;
+mod executive;
+mod runs;
+mod speed;
+
+use executive::Fault;
+use std::io::{Read, Write};
+use std::process::ExitCode;
+
+const USAGE: &str = "usage: second listing [--no-check] [--fault NAME] < input
+       second cards
+       second trial
+       second compare PROGRAM [--runs N] [--seed S]
+       second speed PROGRAM [--rounds N]
+       second run INDEX [--seed S]";
+
+pub const FAULTS: [(&str, Fault); 5] = [
+    ("equal-in-front", Fault::EqualInFront),
+    ("drifting-catch-up", Fault::DriftingCatchUp),
+    ("cancel-wakes-due", Fault::CancelWakesDue),
+    ("remembered-flag", Fault::RememberedFlag),
+    ("lost-start", Fault::LostStart),
+];
+
+fn main() -> ExitCode {
+    let words: Vec<String> = std::env::args().skip(1).collect();
+    let words: Vec<&str> = words.iter().map(String::as_str).collect();
+    let right = match words.as_slice() {
+        ["listing", options @ ..] => listing(options),
+        ["cards"] => Some(cards::cards()),
+        ["trial"] => Some(compare::trial()),
+        ["compare", program, options @ ..] => options_of(options, [20_000, 1])
+            .map(|[runs, seed]| compare::compare(program, runs, seed)),
+        ["speed", program] => Some(speed::speed(program, 15)),
+        ["speed", program, "--rounds", rounds] => rounds
+            .parse()
+            .ok()
+            .filter(|rounds| *rounds > 0)
+            .map(|rounds| speed::speed(program, rounds)),
+        ["run", index, options @ ..] => print_run(index, options),
+        _ => None,
+    };
+    match right {
+        Some(true) => ExitCode::SUCCESS,
+        Some(false) => ExitCode::from(1),
+        None => {
+            eprintln!("{USAGE}");
+            ExitCode::from(2)
+        }
+    }
+}
+
+/// `--runs N` and `--seed S`, in any order, over what they are without.
+fn options_of(mut words: &[&str], mut values: [u64; 2]) -> Option<[u64; 2]> {
+    while let [name, value, rest @ ..] = words {
+        let place = ["--runs", "--seed"]
+            .iter()
+            .position(|known| known == name)?;
+        values[place] = value.parse().ok()?;
+        words = rest;
+    }
+    words.is_empty().then_some(values)
+}
+
+/// The bench: standard input to standard output.
+fn listing(options: &[&str]) -> Option<bool> {
+    let mut input = Vec::new();
+    let most = bench::LONGEST_INPUT as u64 + 1;
+    let fault = match options {
+        ["--fault", name] => FAULTS.iter().find(|(known, _)| known == name)?.1,
+        [] | ["--no-check"] => Fault::None,
+        _ => return None,
+    };
+    if std::io::stdin()
+        .lock()
+        .take(most)
+        .read_to_end(&mut input)
+        .is_err()
+    {
+        return Some(false);
+    }
+    let output = if options.is_empty() {
+        bench::listing::<true>(&input, fault)
+    } else {
+        bench::listing::<false>(&input, fault)
+    };
+    Some(std::io::stdout().lock().write_all(&output).is_ok())
+}
+
+/// A generated run's bytes, to look at one.
+fn print_run(index: &str, options: &[&str]) -> Option<bool> {
+    let [_, seed] = options_of(options, [0, 1])?;
+    let bytes = runs::run(seed, index.parse().ok()?);
+    Some(std::io::stdout().lock().write_all(&bytes).is_ok())
+}
