@@ -1,12 +1,12 @@
-//! The speed of a bench program against this program, as processes on the same long inputs.
+//! The speed of a bench program against this program, as processes on the same long inputs. What
+//! is timed is processor time, so that other work on the machine counts little.
 
 use crate::bench::{cut, LONGEST_INPUT};
 use crate::compare::Program;
 use crate::executive::fresh_from_start;
-use std::time::Instant;
 
 /// Processes timed together as one sample.
-const TOGETHER: u32 = 5;
+const TOGETHER: u32 = 10;
 
 /// Prints times, steps per second and ratios for the three mixes; false where outputs differ.
 pub fn speed(path: &str, rounds: usize) -> bool {
@@ -49,16 +49,39 @@ pub fn speed(path: &str, rounds: usize) -> bool {
     true
 }
 
+/// As the C library of Linux has it: times in seconds and microseconds, then counts.
+#[repr(C)]
+#[derive(Default)]
+struct Usage {
+    user: [i64; 2],
+    system: [i64; 2],
+    counts: [i64; 14],
+}
+
+extern "C" {
+    fn getrusage(who: i32, usage: *mut Usage) -> i32;
+}
+
+/// The processor seconds of all processes that were started here and have ended.
+fn spent() -> f64 {
+    const CHILDREN: i32 = -1;
+    let mut usage = Usage::default();
+    // SAFETY: the structure is the C library's, and it is ours to be written.
+    unsafe { getrusage(CHILDREN, &mut usage) };
+    let seconds = |time: [i64; 2]| time[0] as f64 + time[1] as f64 * 1e-6;
+    seconds(usage.user) + seconds(usage.system)
+}
+
 /// The seconds of each round for each program, the programs taking turns.
 fn sample_all(programs: &[Program], input: &[u8], rounds: usize) -> Vec<Vec<f64>> {
     let mut times = vec![Vec::new(); programs.len()];
     for _ in 0..rounds {
         for (program, times) in programs.iter().zip(&mut times) {
-            let begun = Instant::now();
+            let begun = spent();
             for _ in 0..TOGETHER {
                 drop(program.output(input));
             }
-            times.push(begun.elapsed().as_secs_f64() / f64::from(TOGETHER));
+            times.push((spent() - begun) / f64::from(TOGETHER));
         }
     }
     times
