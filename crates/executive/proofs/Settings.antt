@@ -3,8 +3,6 @@ use Prim.Native.Nat.{ℕ, zero, suc, _+_, _-_, _≤_, _<_}
 use mathlib.Core.Path.{_≡_, refl, ap, sym, _∙_}
 use mathlib.Core.Bool.{Bool, true, false}
 use mathlib.Core.List.{List, [], _∷_, _++_, append-assoc, append-nil}
-use mathlib.Core.Logic.{⊎-elim}
-use native.Mathlib.Nat.{not-suc-le-zero, le-of-suc-le-suc, eq-or-lt-of-le}
 use native.Mathlib.Numerals.{add-one}
 use native.Mathlib.Omega.{arith}
 use borrow.Author.Tests.{eq-eqb, ne-eqb}
@@ -13,42 +11,9 @@ use Rattle.executive.specs.declared.Task.{Task}
 use Rattle.executive.specs.declared.Work.{Work}
 use Rattle.executive.specs.Queue.{pick}
 use Rattle.executive.specs.Table.{noTask, pad, Fit, Join, admits}
-use Rattle.executive.specs.Check.{upTo}
 use Rattle.executive.specs.Fresh.{placeIn, ownIn, tasksFrom, withTasks, blankRest, dormantAt, sleepers, starter, starters}
 use Rattle.executive.proofs.Pad.{pad-more, length-pad}
 use Rattle.executive.proofs.Flight.{admits-append}
-
--- ---- a test at each number from 1 to n
-both : (a b : Bool) → pick a b false ≡ true → (a ≡ true) × (b ≡ true)
-both true b e = (refl, e)
-both false b e = (e, absurd (let z : _≡_ {A = ℕ} 0 1 = cc in omega arith))
-
-neither : (a : Bool) → pick a false false ≡ false
-neither true = refl
-neither false = refl
-
-module _ (f : ℕ → Bool) where
-  pub all-more : (i : ℕ) → upTo f i ≡ true → f (i + 1) ≡ true → upTo f (i + 1) ≡ true
-  unfolding upTo
-  all-more i a h = rw (add-one, a) (rw add-one at h)
-
-  pub all-not : (n i : ℕ) → i < n → f (i + 1) ≡ false → upTo f n ≡ false
-  unfolding upTo
-  all-not zero i h e = absurd (not-suc-le-zero h)
-  all-not (suc n) i h e =
-      ⊎-elim (λ q. let z : i + 1 ≡ suc n = omega arith in rw (rw z at e) (neither (upTo f n))) (λ l. rw (all-not n i l e) refl) (eq-or-lt-of-le (le-of-suc-le-suc h))
-
-  pub all-get : (n k : ℕ) → upTo f n ≡ true → 0 < k → k ≤ n → f k ≡ true
-  unfolding upTo
-  all-get zero k a h l = absurd (omega arith)
-  all-get (suc n) k a h l =
-      let p = both (upTo f n) (f (suc n)) a in
-      ⊎-elim (λ e. rw e (p .1)) (λ m. all-get n k (p .0) h (le-of-suc-le-suc m)) (eq-or-lt-of-le l)
-
-  pub all-make : (n : ℕ) → ((k : ℕ) → 0 < k → k ≤ n → f k ≡ true) → upTo f n ≡ true
-  unfolding upTo
-  all-make zero h = refl
-  all-make (suc n) h = rw (all-make n (λ k g l. h k g (omega arith))) (h (suc n) (omega arith) (omega arith))
 
 -- ---- the 41 counted: n were met, and the next one stands at the place of task n + 1
 module _ (s : List ℕ) (n : ℕ) where

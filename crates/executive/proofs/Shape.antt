@@ -9,7 +9,7 @@ use lib.Dec.{eqb, leb, ltb}
 use lib.ListN.{length, getD, List·getD-append, List·getD-eq-default}
 use Rattle.executive.specs.Queue.{pick}
 use Rattle.executive.specs.Check.{_and_}
-use Rattle.executive.proofs.Settings.{all-get}
+use Rattle.executive.proofs.Tally.{all-get}
 use Rattle.executive.specs.Fresh.{granuleIn, placeIn, ownIn, markIn, tasksFrom, tasksIn, configurationIn, taskRight, isConfiguration}
 
 -- ---- what a configuration's test says

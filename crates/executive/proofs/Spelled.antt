@@ -13,7 +13,7 @@ use Rattle.executive.specs.Queue.{pick}
 use Rattle.executive.specs.Check.{_and_}
 use Rattle.executive.specs.Fresh.{granuleIn, placeIn, ownIn, markIn, tasksFrom, tasksIn, configurationIn, taskRight, isConfiguration}
 use Rattle.executive.specs.FreshLaw.{Entry, recordsOf, AllRight, Configuration}
-use Rattle.executive.proofs.Settings.{all-make}
+use Rattle.executive.proofs.Tally.{all-make}
 use Rattle.executive.proofs.Shape.{Told, told}
 
 -- ---- from the test to the words: the tasks are read off the bytes

@@ -6,7 +6,7 @@ use Prim.Native.Nat.{_≤_, _-_}
 use mathlib.Core.Bool.{true}
 use Rattle.executive.specs.Check.{upTo}
 use Rattle.executive.specs.Fresh.{taskRight}
-use Rattle.executive.proofs.Settings.{all-more, all-not}
+use Rattle.executive.proofs.Tally.{all-more, all-not}
 use Rattle.executive.proofs.configuration.tasks_right.Statement.{statement}
 use Rattle.executive.proofs.configuration.tasks_right.Tie as tie
 
