@@ -6,6 +6,7 @@ pub mod Pad
 pub mod Fits
 pub mod Interval
 pub mod Flight
+pub mod Next
 pub mod Ends
 pub mod Tally
 pub mod Descent

@@ -2,10 +2,12 @@
 use Prim.Native.Nat.{ℕ, suc, _+_, _-_}
 use mathlib.Core.List.{List, [], _∷_, _++_}
 use lib.ListN.{take, drop}
-use lib.Dec.{ltb}
+use mathlib.Core.Bool.{Bool, false}
+use lib.Dec.{ltb, leb, eqb}
 use Rattle.executive.specs.declared.pool.Found.{Found}
 use Rattle.executive.specs.declared.pool.Found.the-variants.{At, Nothing}
 use Rattle.records.specs.declared.TaskNo.{TaskNo}
+use Rattle.executive.specs.declared.Millis.{Millis}
 use Rattle.executive.specs.declared.Task.{Task}
 use Rattle.executive.specs.Queue.{pick, behind}
 use Rattle.executive.specs.Table.{taskAt}
@@ -25,3 +27,12 @@ closedAt d p at = take at p ++ (drop (at + 1) p ++ (d ∷ []))
 
 unfoldable pub foundAt : ℕ → ℕ → Found
 foundAt i n = pick (ltb i n) (At i) Nothing
+
+-- the number of the next that passes a test, of those numbered from i on; the number past the last where none does
+unfoldable pub nextOf : {A : Type 0} → (A → Bool) → ℕ → List A → ℕ
+nextOf f i [] = i
+nextOf f i (x ∷ xs) = pick (f x) i (nextOf f (suc i) xs)
+
+-- an alarm is due when it is running and its time has come
+abbrev pub isDue : ℕ → Millis → Bool
+isDue c a = pick (eqb (a .0) 0) false (leb (a .0) c)

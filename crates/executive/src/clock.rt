@@ -4,7 +4,9 @@ use crate::Rest;
 ghost use mathlib.Core.Path.{_≡_};
 ghost use Prim.Native.Nat.{_<_, _≤_, _+_, _^_};
 ghost use Rattle.executive.specs.Time.{interval, aimAt};
-ghost use Rattle.executive.specs.Rests.{rung, advanced};
+ghost use lib.ListN.{drop};
+ghost use Rattle.executive.specs.Places.{isDue, nextOf};
+ghost use Rattle.executive.specs.Rests.{advanced};
 
 // The word with one bit.
 pub(crate) fn bit_of(n: usize) -> u32
@@ -45,38 +47,50 @@ pub(crate) fn aim_at(start: Millis, now: Millis, param: u8, count: u8) -> Millis
     Millis(now.0 + wait.0)
 }
 
-impl Rest {
-    // An alarm, if it is due, sets its flag and is cleared.
-    pub(crate) fn ring(mut self, i: usize) -> Rest
-        requires { ⌜ i < 32 ⌝ }
-        ensures { λ r. ⌜ r ≡ rung self i ⌝ }
-    {
-        let alarms = self.alarms;
-        let a = alarms[i];
-        if a.0 == 0 {
-            return self;
-        }
-        if self.clock.0 < a.0 {
-            return self;
-        }
-        self.alarms[i] = Millis(0);
-        self.flags = self.flags | bit_of(i);
-        self
+// Whether an alarm is due: it is running, and its time has come.
+fn is_due(alarm: Millis, now: Millis) -> bool
+    ensures { λ r. ⌜ r ≡ isDue (now .0) alarm ⌝ }
+{
+    if alarm.0 == 0 {
+        return false;
     }
+    alarm.0 <= now.0
+}
 
-    // The clock gains a granule, and the due alarms ring.
-    pub(crate) fn advance(self) -> Rest
+// The place of the next alarm that is due, from a place on; 32 where there is none.
+fn next_due(alarms: [Millis; 32], from: usize, now: Millis) -> usize
+    requires { ⌜ from ≤ 32 ⌝ }
+    ensures { λ r. ⌜ r ≡ nextOf (isDue (now .0)) from (drop from alarms) ⌝ }
+{
+    let mut i = from;
+    while i < 32 {
+        let alarm = alarms[i];
+        if is_due(alarm, now) {
+            return i;
+        }
+        i += 1;
+    }
+    i
+}
+
+impl Rest {
+    // The clock gains a granule, and the due alarms ring: each sets its flag and is cleared. Only they are touched.
+    pub(crate) fn advance(mut self) -> Rest
         requires { ⌜ self .clock .0 + self .granule ≤ 2 ^ 40 ⌝ }
         ensures { λ r. ⌜ r ≡ advanced self ⌝ }
     {
-        let mut r = self;
         let now = Millis(self.clock.0 + self.granule as u64);
-        r.clock = now;
-        let mut i: usize = 0;
+        let mut alarms = self.alarms;
+        let mut flags = self.flags;
+        let mut i = next_due(alarms, 0, now);
         while i < 32 {
-            r = r.ring(i);
-            i += 1;
+            alarms[i] = Millis(0);
+            flags = flags | bit_of(i);
+            i = next_due(alarms, i + 1, now);
         }
-        r
+        self.clock = now;
+        self.alarms = alarms;
+        self.flags = flags;
+        self
     }
 }

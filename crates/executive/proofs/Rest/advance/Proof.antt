@@ -1,46 +1,85 @@
+use Prim.Native.Nat.{ℕ, _+_, _-_, _^_, _≤_, _<_}
+use mathlib.Core.Bool.{true}
 use mathlib.Core.Path.{_≡_, refl, sym, ap, _∙_}
 use native.Mathlib.Omega.{arith}
 use borrow.Author.Needs.{needs}
-use Prim.Native.Nat.{_≤_, _-_}
+use lib.Bits.{bitOr}
+use lib.ListN.{length, length-map, getD, set, length-set}
+use Rattle.executive.specs.declared.Millis.{Millis}
+use Rattle.executive.specs.Places.{isDue}
 use Rattle.executive.specs.Rests.{each, rung, advanced}
-use Rattle.executive.proofs.Flight.{each-turn, each-end}
+use Rattle.executive.specs.Table.{never}
+use Rattle.executive.proofs.Flight.{each-end}
+use Rattle.executive.proofs.Next.{ringing, ring-on, ring-turn}
 use Rattle.executive.proofs.Rest.advance.Statement.{statement}
 use Rattle.executive.proofs.Rest.advance.Tie as tie
 
 abbrev Inv-loop : tie.InvT-loop
-Inv-loop r₀ i₀ r i = (i ≤ 32) × (each rung (32 - i) i r ≡ each rung 32 0 r₀)
+Inv-loop self now alarms₀ flags₀ i₀ alarms flags i =
+    (i ≤ 32) × (length alarms ≡ 32) × (i < 32 → isDue (now .0) (getD alarms i never) ≡ true)
+    × (each rung (32 - i) i (ringing self now alarms flags) ≡ each rung 32 0 (ringing self now alarms₀ flags₀))
 
 abbrev μ-loop : tie.MeasureT-loop
-μ-loop r₀ i₀ r i = 32 - i
+μ-loop self now alarms₀ flags₀ i₀ alarms flags i = 32 - i
 
-cast-t5 : tie.Need-cast-t5 Inv-loop μ-loop
-cast-t5 c = search needs
+cast-t6 : tie.Need-cast-t6 Inv-loop μ-loop
+cast-t6 c = search needs
 
-add-t6 : tie.Need-add-t6 Inv-loop μ-loop
-add-t6 c = omega (arith, c .before .before .pre)
+add-t7 : tie.Need-add-t7 Inv-loop μ-loop
+add-t7 c = omega (arith, c .before .before .pre)
+
+next-due-requires : tie.Need-next-due-requires Inv-loop μ-loop
+next-due-requires c κs = search needs
 
 loop-holds : tie.Need-loop-holds Inv-loop μ-loop
-loop-holds c = (omega arith, refl)
+loop-holds c =
+    let s = c .before .before .before .before in
+    let a = s .args .self in
+    let l : length (a .alarms) ≡ 32 = sym (length-map (a .alarms) _) ∙ s .good .0 .1 .1 .1 .1 .1 .1 .0 .1 .0 .1 in
+    let h = ring-on a (record { 0 = a .clock .0 + a .granule }) (a .alarms) (a .flags) l 0 (c .next-due .result) (omega arith) (c .next-due .ensures) in
+    (h .1, l, h .2, sym (h .3))
 
-ring-requires : tie.Need-ring-requires Inv-loop μ-loop
-ring-requires c κs = omega arith
+mul-alarms : tie.Need-mul-alarms Inv-loop μ-loop
+mul-alarms c = omega arith
 
-add-i : tie.Need-add-i Inv-loop μ-loop
-add-i c = omega arith
+array-set-from-alarms : tie.Need-array-set-from-alarms Inv-loop μ-loop
+array-set-from-alarms c = omega arith
+
+bit-of-requires : tie.Need-bit-of-requires Inv-loop μ-loop
+bit-of-requires c κs = search needs
+
+add-next-due : tie.Need-add-next-due Inv-loop μ-loop
+add-next-due c = omega arith
+
+next-due-requires-2 : tie.Need-next-due-requires-2 Inv-loop μ-loop
+next-due-requires-2 c κs = search needs
 
 loop-less : tie.Need-loop-less Inv-loop μ-loop
-loop-less c = omega arith
+loop-less c =
+    let s = c .before .before .before .before .before .before .before .before in
+    let a = s .args .self in
+    let v = c .before .before .before .loop in
+    let l : length (set (v .alarms) (v .i) never) ≡ 32 = length-set (v .alarms) (v .i) never ∙ v .inv .1 in
+    let h = ring-on a (record { 0 = a .clock .0 + a .granule }) (set (v .alarms) (v .i) never) (v .flags) l (v .i + 1) (c .next-due2 .result) (omega arith) (c .next-due2 .ensures) in
+    omega (arith, h .0)
 
 loop-again : tie.Need-loop-again Inv-loop μ-loop
 loop-again c =
-    let v = c .before .before .loop in
-    (omega arith, rw (c .ring .ensures) (sym (each-turn rung 32 (v .i) (v .r) (c .before .loop-test .taken)) ∙ v .inv .1))
+    let s = c .before .before .before .before .before .before .before .before in
+    let a = s .args .self in
+    let v = c .before .before .before .loop in
+    let now : Millis = record { 0 = a .clock .0 + a .granule } in
+    let l : length (set (v .alarms) (v .i) never) ≡ 32 = length-set (v .alarms) (v .i) never ∙ v .inv .1 in
+    let u : v .i < 32 = c .before .before .loop-test .taken in
+    let h = ring-on a now (set (v .alarms) (v .i) never) (bitOr (v .flags) (2 ^ (v .i))) l (v .i + 1) (c .next-due2 .result) (omega arith) (c .next-due2 .ensures) in
+    (h .1, l, h .2, rw (c .before .bit-of .ensures) (sym (h .3) ∙ sym (ring-turn a now (v .alarms) (v .flags) (v .i) u (v .inv .2 u)) ∙ v .inv .3))
 
 returns : tie.Need-returns Inv-loop μ-loop
 unfolding advanced
 returns c =
+    let a = c .before .before .before .before .before .before .args .self in
     let v = c .before .loop in
-    sym (each-end rung 32 (v .i) (v .r) (c .loop-test .left)) ∙ v .inv .1
+    sym (each-end rung 32 (v .i) (ringing a (record { 0 = a .clock .0 + a .granule }) (v .alarms) (v .flags)) (c .loop-test .left)) ∙ v .inv .3
 
 pub advance-spec : {M : Type 1} → statement M
 advance-spec =
@@ -48,11 +87,15 @@ advance-spec =
     (tie.spec
     Inv-loop
     μ-loop
-    cast-t5
-    add-t6
+    cast-t6
+    add-t7
+    next-due-requires
     loop-holds
-    ring-requires
-    add-i
+    mul-alarms
+    array-set-from-alarms
+    bit-of-requires
+    add-next-due
+    next-due-requires-2
     loop-less
     loop-again
     returns)
