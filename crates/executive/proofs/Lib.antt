@@ -11,6 +11,7 @@ pub mod Ends
 pub mod Tally
 pub mod Descent
 pub mod Both
+pub mod Passes
 pub mod Blanks
 pub mod Rules
 pub mod Checked

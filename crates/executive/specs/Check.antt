@@ -5,7 +5,7 @@ use mathlib.Core.Logic.{_↔_}
 use mathlib.Core.Bool.{Bool, true, false, not}
 use mathlib.Core.List.{List, [], _∷_}
 use lib.Dec.{eqb, leb, ltb}
-use lib.ListN.{length, drop}
+use lib.ListN.{length, drop, take}
 use Rattle.records.specs.declared.TaskNo.{TaskNo}
 use Rattle.executive.specs.declared.Millis.{Millis}
 use Rattle.executive.specs.declared.State.{State}
@@ -13,10 +13,6 @@ use Rattle.executive.specs.declared.State.the-variants.{Dormant, Ready, 
 use Rattle.executive.specs.declared.Task.{Task}
 use Rattle.executive.specs.declared.Request.{Request}
 use Rattle.executive.specs.declared.Table.{Table}
-use Rattle.executive.specs.declared.check.Rule.{Rule}
-use Rattle.executive.specs.declared.check.Rule.the-variants.{Numbered, Blank, Timed, Begun, Masked, Asleep}
-use Rattle.executive.specs.declared.check.PoolRule.{PoolRule}
-use Rattle.executive.specs.declared.check.PoolRule.the-variants.{Named, Apart, Free}
 use Rattle.executive.specs.declared.check.Link.{Link}
 use Rattle.executive.specs.declared.check.Link.the-variants.{AtStart, AtEnd}
 use Rattle.executive.specs.Numbers.{mostTasks, mostQueued, flagCount, highest, mostGranule, endOfTime, longest}
@@ -209,20 +205,41 @@ pub record Decided : Type 0 where
   pub iff : (t : Table) → (isWellFormed t ≡ true) ↔ WellFormed t
   pub once : (t : Table) (r s : ℕ) → Checked t r → Checked t s → r ≡ s
 
--- ---- the tests on one entry, and on one request, by the names that the code's two loops take; whom a request names as a waiter
-abbrev pub entryKeeps : Rule → Task → Bool
-entryKeeps (Numbered n) e = entryInRange n e
-entryKeeps Blank e = isBlank e
-entryKeeps (Timed now) e = taskTimely (now .0) e
-entryKeeps (Begun now) e = isStarted (now .0) e
-entryKeeps (Masked fs) e = taskUnmet fs e
-entryKeeps Asleep e = sleepsRight e
+-- ---- the rules as the code takes them, fewer passes and another order (`Passes` says that it is the same test)
+-- all rules on one entry of n tasks, at the clock c with the flags fs; all rules on one request, and those that do not look at its target's entry
+abbrev pub entryRight : ℕ → ℕ → ℕ → Task → Bool
+entryRight n c fs e = entryInRange n e and taskTimely c e and isStarted c e and taskUnmet fs e and sleepsRight e
 
-abbrev pub requestKeeps : PoolRule → Request → Bool
-requestKeeps (Named n) r = requestInRange n r
-requestKeeps Apart r = namesOthers r
-requestKeeps Free r = isFree r
+abbrev pub requestFits : ℕ → Request → Bool
+requestFits n r = requestInRange n r and namesOthers r and ltb 0 (r .target .0)
 
+abbrev pub requestRight : List Task → ℕ → Request → Bool
+requestRight ts n r = requestInRange n r and namesOthers r and targetBusy ts r
+
+-- a task that waits for no start and no end, and for whose end nobody waits; a request that names no waiter
+abbrev pub isQuiet : Task → Bool
+isQuiet e = not (eqb 2 (kindOf (e .state))) and not (eqb 3 (kindOf (e .state))) and eqb (e .«end_waiter» .0) 0
+
+abbrev pub isLone : Request → Bool
+isLone r = eqb (r .«start_waiter» .0) 0 and eqb (r .«end_waiter» .0) 0
+
+-- the ready queue q of r tasks; the pool p of k requests
+abbrev pub lineRight : List Task → ℕ → ℕ → List TaskNo → Bool
+lineRight ts n r q = falls ts n highest (take r q) and upTo (exactAt ts (take r q)) n and allOf isNobody (drop r q)
+
+abbrev pub askedRight : List Task → ℕ → ℕ → List Request → Bool
+askedRight ts n k p = allOf (requestRight ts n) (take k p) and upTo (waitersAt ts (take k p)) n and allOf isFree (drop k p)
+
+unfoldable pub inPasses : Table → Bool
+inPasses t =
+    inBounds (t .rest .count) (t .rest .granule) (t .rest .clock) (t .ready) (t .rest .queued)
+    and allOf (entryRight (t .rest .count) (t .rest .clock .0) (t .rest .flags)) (t .tasks)
+    and allOf isBlank (drop (t .rest .count) (t .tasks))
+    and allOf (alarmRight (t .rest .clock .0)) (t .rest .alarms)
+    and lineRight (t .tasks) (t .rest .count) (t .ready) (t .queue)
+    and askedRight (t .tasks) (t .rest .count) (t .rest .queued) (t .rest .pool)
+
+-- ---- whom a request names as a waiter
 abbrev pub linkOf : Link → Request → ℕ
 linkOf AtStart r = r .«start_waiter» .0
 linkOf AtEnd r = r .«end_waiter» .0

@@ -1,4 +1,4 @@
-// The check of a table (01, "A table is well formed when"): a function for each rule, in 01's order; number 0 exactly for a well-formed table, else 1.
+// The check of a table (01, "A table is well formed when"): the rules on one entry and on one request each in one pass; number 0 exactly for a well-formed table, else 1.
 use crate::Millis;
 use crate::Mode;
 use crate::Request;
@@ -12,26 +12,9 @@ ghost use Prim.Native.Nat.{_≤_, _<_, _+_};
 ghost use lib.Dec.{eqb};
 ghost use lib.ListN.{drop, take};
 ghost use Rattle.executive.specs.Queue.{one};
-ghost use Rattle.executive.specs.WellFormed.{kindOf, runsOf};
-ghost use Rattle.executive.specs.Check.{upTo, allOf, inBounds, entryInRange, isZero, isBlank, requestInRange, isTask, isNobody, falls, standsIn, exactAt, isStored, isTimely, alarmRight, isUnmet, targetBusy, waitersAt, namesOthers, sleepsRight, isFree, entryKeeps, requestKeeps, linkOf, linksIn, numbersRight, queueRight, timesRight, startedRight, masksRight, busyRight, waitersRight, dormantRight, poolRight, isWellFormed, Checked, Decided};
+ghost use Rattle.executive.specs.WellFormed.{kindOf, is, runsOf};
+ghost use Rattle.executive.specs.Check.{upTo, allOf, inBounds, entryInRange, isZero, isBlank, requestInRange, isTask, isNobody, falls, standsIn, exactAt, isStored, isTimely, alarmRight, isUnmet, waitersAt, namesOthers, sleepsRight, isFree, entryRight, requestFits, requestRight, isQuiet, isLone, lineRight, askedRight, linkOf, linksIn, isWellFormed, Checked, Decided};
 ghost use Rattle.executive.specs.Broken.{Broken};
-
-// A rule on a single entry, with what it needs to know of the table.
-pub enum Rule {
-    Numbered(u8),
-    Blank,
-    Timed(Millis),
-    Begun(Millis),
-    Masked(u32),
-    Asleep,
-}
-
-// A rule on a single place of the pool.
-pub enum PoolRule {
-    Named(u8),
-    Apart,
-    Free,
-}
 
 // What a request's waiter waits for: its start, or the end of the run that it begins.
 pub enum Link {
@@ -167,30 +150,50 @@ fn is_unmet(s: State, flags: u32) -> bool
     }
 }
 
-// An entry keeps a rule.
-fn entry_keeps(e: Task, rule: Rule) -> bool
-    ensures { λ r. ⌜ r ≡ entryKeeps rule e ⌝ }
+// The rules on one entry alone: its numbers, its stored time, its last scheduled start, its wait mask, its zeros while it is dormant.
+fn entry_right(e: Task, count: u8, now: Millis, flags: u32) -> bool
+    ensures { λ r. ⌜ r ≡ entryRight count (now .0) flags e ⌝ }
 {
     let s = e.state;
-    match rule {
-        Rule::Numbered(count) => entry_in_range(e, count),
-        Rule::Timed(now) => is_timely(s, now),
-        Rule::Begun(now) => e.start.0 <= now.0,
-        Rule::Masked(flags) => is_unmet(s, flags),
-        Rule::Blank => is_blank(e),
-        Rule::Asleep => sleeps_right(e),
+    if !entry_in_range(e, count) {
+        return false;
     }
+    if !is_timely(s, now) {
+        return false;
+    }
+    if now.0 < e.start.0 {
+        return false;
+    }
+    if !is_unmet(s, flags) {
+        return false;
+    }
+    sleeps_right(e)
 }
 
-// All entries from a place on keep a rule.
-fn all_keep(tasks: [Task; 16], from: usize, rule: Rule) -> bool
+// All sixteen entries keep the rules on one entry, in one pass.
+fn entries_right(tasks: [Task; 16], count: u8, now: Millis, flags: u32) -> bool
+    ensures { λ r. ⌜ r ≡ allOf (entryRight count (now .0) flags) tasks ⌝ }
+{
+    let mut i: usize = 0;
+    while i < 16 {
+        let e = tasks[i];
+        if !entry_right(e, count, now, flags) {
+            return false;
+        }
+        i += 1;
+    }
+    true
+}
+
+// The entries past the task count are zero.
+fn blank_past(tasks: [Task; 16], from: usize) -> bool
     requires { ⌜ from ≤ 16 ⌝ }
-    ensures { λ r. ⌜ r ≡ allOf (entryKeeps rule) (drop from tasks) ⌝ }
+    ensures { λ r. ⌜ r ≡ allOf isBlank (drop from tasks) ⌝ }
 {
     let mut i = from;
     while i < 16 {
         let e = tasks[i];
-        if !entry_keeps(e, rule) {
+        if !is_blank(e) {
             return false;
         }
         i += 1;
@@ -247,26 +250,15 @@ fn is_free(q: Request) -> bool
     q.end_waiter.0 == 0
 }
 
-// A place of the pool keeps a rule.
-fn request_keeps(q: Request, rule: PoolRule) -> bool
-    ensures { λ r. ⌜ r ≡ requestKeeps rule q ⌝ }
+// The pool's free places are zero.
+fn free_from(pool: [Request; 32], queued: usize) -> bool
+    requires { ⌜ queued ≤ 32 ⌝ }
+    ensures { λ r. ⌜ r ≡ allOf isFree (drop queued pool) ⌝ }
 {
-    match rule {
-        PoolRule::Named(count) => request_in_range(q, count),
-        PoolRule::Apart => names_others(q),
-        PoolRule::Free => is_free(q),
-    }
-}
-
-// All places of the pool, from one up to another, keep a rule.
-fn pool_keeps(pool: [Request; 32], from: usize, to: usize, rule: PoolRule) -> bool
-    requires { ⌜ (from ≤ to) × (to ≤ 32) ⌝ }
-    ensures { λ r. ⌜ r ≡ allOf (requestKeeps rule) (drop from (take to pool)) ⌝ }
-{
-    let mut i = from;
-    while i < to {
+    let mut i = queued;
+    while i < 32 {
         let q = pool[i];
-        if !request_keeps(q, rule) {
+        if !is_free(q) {
             return false;
         }
         i += 1;
@@ -274,24 +266,34 @@ fn pool_keeps(pool: [Request; 32], from: usize, to: usize, rule: PoolRule) -> bo
     true
 }
 
-// A request names a busy task.
-fn target_busy(tasks: [Task; 16], q: Request) -> bool
-    ensures { λ r. ⌜ r ≡ targetBusy tasks q ⌝ }
+// The rules on one request alone: its numbers, its waiter, that it has a target.
+fn request_fits(q: Request, count: u8) -> bool
+    ensures { λ r. ⌜ r ≡ requestFits count q ⌝ }
 {
-    let k = q.target;
-    let e = places::task_at(tasks, k);
-    let s = e.state;
-    0 != kind_of(s)
+    if !request_in_range(q, count) {
+        return false;
+    }
+    if !names_others(q) {
+        return false;
+    }
+    0 < q.target.0
 }
 
-fn all_busy(tasks: [Task; 16], pool: [Request; 32], queued: usize) -> bool
-    requires { ⌜ queued ≤ 32 ⌝ }
-    ensures { λ r. ⌜ r ≡ allOf (targetBusy tasks) (take queued pool) ⌝ }
+// All queued requests keep the rules on one request, and name busy tasks only; in one pass.
+fn requests_right(tasks: [Task; 16], pool: [Request; 32], queued: usize, count: u8) -> bool
+    requires { ⌜ (queued ≤ 32) × (count ≤ 16) ⌝ }
+    ensures { λ r. ⌜ r ≡ allOf (requestRight tasks count) (take queued pool) ⌝ }
 {
     let mut i: usize = 0;
     while i < queued {
         let q = pool[i];
-        if !target_busy(tasks, q) {
+        if !request_fits(q, count) {
+            return false;
+        }
+        let k = q.target.0 - 1;
+        let e = tasks[k as usize];
+        let s = e.state;
+        if 0 == kind_of(s) {
             return false;
         }
         i += 1;
@@ -346,7 +348,7 @@ fn is_task(k: TaskNo, count: u8) -> bool
 
 // Those ready are tasks, in descending priority.
 fn descends(tasks: [Task; 16], queue: [TaskNo; 16], ready: usize, count: u8) -> bool
-    requires { ⌜ ready ≤ 16 ⌝ }
+    requires { ⌜ (ready ≤ 16) × (count ≤ 16) ⌝ }
     ensures { λ r. ⌜ r ≡ falls tasks count 15 (take ready queue) ⌝ }
 {
     let mut p: u8 = 15;
@@ -356,7 +358,8 @@ fn descends(tasks: [Task; 16], queue: [TaskNo; 16], ready: usize, count: u8) -> 
         if !is_task(k, count) {
             return false;
         }
-        let e = places::task_at(tasks, k);
+        let n = k.0 - 1;
+        let e = tasks[n as usize];
         if p < e.priority {
             return false;
         }
@@ -431,26 +434,26 @@ fn runs_in(tasks: [Task; 16], k: u8) -> u8
     c
 }
 
-// Task k stands in the queue once if it is ready, else nowhere.
-fn exact_at(tasks: [Task; 16], queue: [TaskNo; 16], ready: usize, k: u8) -> bool
+// A task in state s, by its number k, stands in the queue once if it is ready, else nowhere.
+fn exact_at(s: State, queue: [TaskNo; 16], ready: usize, k: u8) -> bool
     requires { ⌜ ready ≤ 16 ⌝ }
-    ensures { λ r. ⌜ r ≡ exactAt tasks (take ready queue) k ⌝ }
+    ensures { λ r. ⌜ r ≡ eqb (standsIn k (take ready queue)) (is 1 s) ⌝ }
 {
     let n = stands_in(queue, ready, k);
-    let e = places::task_at(tasks, TaskNo(k));
-    let s = e.state;
     let kind = kind_of(s);
     let want = plus_if(0, 1, kind);
     n == want
 }
 
 fn all_exact(tasks: [Task; 16], queue: [TaskNo; 16], ready: usize, count: u8) -> bool
-    requires { ⌜ ready ≤ 16 ⌝ }
+    requires { ⌜ (ready ≤ 16) × (count ≤ 16) ⌝ }
     ensures { λ r. ⌜ r ≡ upTo (exactAt tasks (take ready queue)) count ⌝ }
 {
     let mut k: u8 = 0;
     while k < count {
-        if !exact_at(tasks, queue, ready, k + 1) {
+        let e = tasks[k as usize];
+        let s = e.state;
+        if !exact_at(s, queue, ready, k + 1) {
             return false;
         }
         k += 1;
@@ -491,139 +494,128 @@ fn all_waiters(tasks: [Task; 16], pool: [Request; 32], queued: usize, count: u8)
     true
 }
 
+// A task that waits for no start and no end, and for whose end nobody waits.
+fn is_quiet(e: Task) -> bool
+    ensures { λ r. ⌜ r ≡ isQuiet e ⌝ }
+{
+    let s = e.state;
+    let kind = kind_of(s);
+    if 2 == kind {
+        return false;
+    }
+    if 3 == kind {
+        return false;
+    }
+    e.end_waiter.0 == 0
+}
+
+fn all_quiet(tasks: [Task; 16]) -> bool
+    ensures { λ r. ⌜ r ≡ allOf isQuiet tasks ⌝ }
+{
+    let mut i: usize = 0;
+    while i < 16 {
+        let e = tasks[i];
+        if !is_quiet(e) {
+            return false;
+        }
+        i += 1;
+    }
+    true
+}
+
+// A request that names no waiter.
+fn is_lone(q: Request) -> bool
+    ensures { λ r. ⌜ r ≡ isLone q ⌝ }
+{
+    if q.start_waiter.0 != 0 {
+        return false;
+    }
+    q.end_waiter.0 == 0
+}
+
+fn all_lone(pool: [Request; 32], queued: usize) -> bool
+    requires { ⌜ queued ≤ 32 ⌝ }
+    ensures { λ r. ⌜ r ≡ allOf isLone (take queued pool) ⌝ }
+{
+    let mut i: usize = 0;
+    while i < queued {
+        let q = pool[i];
+        if !is_lone(q) {
+            return false;
+        }
+        i += 1;
+    }
+    true
+}
+
+// Each task is named once in the way that it waits, else not at all. Where nobody waits and nobody is named there is nothing to count.
+fn waiters_right(tasks: [Task; 16], pool: [Request; 32], queued: usize, count: u8) -> bool
+    requires { ⌜ queued ≤ 32 ⌝ }
+    ensures { λ r. ⌜ r ≡ upTo (waitersAt tasks (take queued pool)) count ⌝ }
+{
+    if !all_quiet(tasks) {
+        return all_waiters(tasks, pool, queued, count);
+    }
+    if !all_lone(pool, queued) {
+        return all_waiters(tasks, pool, queued, count);
+    }
+    true
+}
+
+// The ready queue holds exactly the ready tasks, once each, in descending priority; its free places are zero.
+fn queue_right(tasks: [Task; 16], queue: [TaskNo; 16], ready: usize, count: u8) -> bool
+    requires { ⌜ (ready ≤ 16) × (count ≤ 16) ⌝ }
+    ensures { λ r. ⌜ r ≡ lineRight tasks count ready queue ⌝ }
+{
+    if !descends(tasks, queue, ready, count) {
+        return false;
+    }
+    all_exact(tasks, queue, ready, count) && blank_from(queue, ready)
+}
+
+// The requests, their waiters and those of the runs; the pool's free places are last and zero.
+fn pool_right(tasks: [Task; 16], pool: [Request; 32], queued: usize, count: u8) -> bool
+    requires { ⌜ (queued ≤ 32) × (count ≤ 16) ⌝ }
+    ensures { λ r. ⌜ r ≡ askedRight tasks count queued pool ⌝ }
+{
+    if !requests_right(tasks, pool, queued, count) {
+        return false;
+    }
+    waiters_right(tasks, pool, queued, count) && free_from(pool, queued)
+}
+
 // What is shown of the check: it decides the rules, with one answer for each table; and it refuses tables that are broken in one rule each.
 fn check_shown()
     ensures { λ r. ⌜ Decided × Broken ⌝ }
 {}
 
 impl Table {
-    // Every number is in range, and the entries past the task count are zero.
-    fn numbers_right(self) -> bool
-        ensures { λ r. ⌜ r ≡ numbersRight self ⌝ }
-    {
-        let rest = self.rest;
-        let count = rest.count;
-        let clock = rest.clock;
-        let tasks = self.tasks;
-        let pool = rest.pool;
-        if !in_bounds(count, rest.granule, clock, self.ready, rest.queued) {
-            return false;
-        }
-        if !all_keep(tasks, 0, Rule::Numbered(count)) {
-            return false;
-        }
-        all_keep(tasks, count as usize, Rule::Blank)
-            && pool_keeps(pool, 0, rest.queued as usize, PoolRule::Named(count))
-    }
-
-    // The ready queue holds exactly the ready tasks, once each, in descending priority; its free places are zero.
-    fn queue_right(self) -> bool
-        requires { ⌜ self .ready ≤ 16 ⌝ }
-        ensures { λ r. ⌜ r ≡ queueRight self ⌝ }
-    {
-        let tasks = self.tasks;
-        let queue = self.queue;
-        let ready = self.ready as usize;
-        let count = self.rest.count;
-        if !descends(tasks, queue, ready, count) {
-            return false;
-        }
-        all_exact(tasks, queue, ready, count) && blank_from(queue, ready)
-    }
-
-    // Every stored pause, due and alarm time is after the clock and at most 918,000,000 ms after it.
-    fn times_right(self) -> bool
-        ensures { λ r. ⌜ r ≡ timesRight self ⌝ }
-    {
-        let tasks = self.tasks;
-        let now = self.rest.clock;
-        let alarms = self.rest.alarms;
-        all_keep(tasks, 0, Rule::Timed(now)) && all_alarms(alarms, now)
-    }
-
-    // Every last scheduled start is at or before the clock.
-    fn started_right(self) -> bool
-        ensures { λ r. ⌜ r ≡ startedRight self ⌝ }
-    {
-        let tasks = self.tasks;
-        let now = self.rest.clock;
-        all_keep(tasks, 0, Rule::Begun(now))
-    }
-
-    // Each wait mask is nonzero and its condition is false now.
-    fn masks_right(self) -> bool
-        ensures { λ r. ⌜ r ≡ masksRight self ⌝ }
-    {
-        let tasks = self.tasks;
-        let flags = self.rest.flags;
-        all_keep(tasks, 0, Rule::Masked(flags))
-    }
-
-    // Queued requests name busy tasks only.
-    fn busy_right(self) -> bool
-        requires { ⌜ self .rest .queued ≤ 32 ⌝ }
-        ensures { λ r. ⌜ r ≡ busyRight self ⌝ }
-    {
-        let tasks = self.tasks;
-        let pool = self.rest.pool;
-        all_busy(tasks, pool, self.rest.queued as usize)
-    }
-
-    // Each request or run that names a waiter names a different task in the matching state, each such state is named once.
-    fn waiters_right(self) -> bool
-        requires { ⌜ self .rest .queued ≤ 32 ⌝ }
-        ensures { λ r. ⌜ r ≡ waitersRight self ⌝ }
-    {
-        let tasks = self.tasks;
-        let pool = self.rest.pool;
-        let queued = self.rest.queued as usize;
-        let count = self.rest.count;
-        all_waiters(tasks, pool, queued, count) && pool_keeps(pool, 0, queued, PoolRule::Apart)
-    }
-
-    // A dormant task holds zeros but for its own priority.
-    fn dormant_right(self) -> bool
-        ensures { λ r. ⌜ r ≡ dormantRight self ⌝ }
-    {
-        let tasks = self.tasks;
-        all_keep(tasks, 0, Rule::Asleep)
-    }
-
-    // The pool's free places are last and zero.
-    fn pool_right(self) -> bool
-        requires { ⌜ self .rest .queued ≤ 32 ⌝ }
-        ensures { λ r. ⌜ r ≡ poolRight self ⌝ }
-    {
-        let pool = self.rest.pool;
-        pool_keeps(pool, self.rest.queued as usize, 32, PoolRule::Free)
-    }
-
-    // The table keeps every rule.
+    // The table keeps every rule: the numbers, the entries, the alarms, the ready queue, the pool. Each array is taken out once.
     pub(crate) fn is_well_formed(self) -> bool
         ensures { λ r. ⌜ r ≡ isWellFormed self ⌝ }
     {
-        if !self.numbers_right() {
+        let count = self.rest.count;
+        let now = self.rest.clock;
+        if !in_bounds(count, self.rest.granule, now, self.ready, self.rest.queued) {
             return false;
         }
-        if !self.queue_right() {
+        let tasks = self.tasks;
+        if !entries_right(tasks, count, now, self.rest.flags) {
             return false;
         }
-        if !self.times_right() {
+        if !blank_past(tasks, count as usize) {
             return false;
         }
-        if !self.started_right() {
+        let alarms = self.rest.alarms;
+        if !all_alarms(alarms, now) {
             return false;
         }
-        if !self.masks_right() {
+        let queue = self.queue;
+        if !queue_right(tasks, queue, self.ready as usize, count) {
             return false;
         }
-        if !self.busy_right() {
-            return false;
-        }
-        if !self.waiters_right() {
-            return false;
-        }
-        self.dormant_right() && self.pool_right()
+        let pool = self.rest.pool;
+        pool_right(tasks, pool, self.rest.queued as usize, count)
     }
 
     // The check of a table: 0 if it is well formed, 1 if it is not.

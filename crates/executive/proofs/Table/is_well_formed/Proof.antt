@@ -1,116 +1,125 @@
-use Rattle.executive.proofs.Both.{here, beyond, onward, shut}
-use Rattle.executive.specs.Check.{numbersRight, queueRight, timesRight, startedRight, masksRight, busyRight, isWellFormed, waitersRight}
-use mathlib.Core.Path.{sym, _∙_}
+use Rattle.executive.proofs.Both.{here, beyond, onward}
+use Rattle.executive.specs.Check.{allOf, isBlank, inBounds, alarmRight, entryRight, inPasses}
+use mathlib.Core.Path.{_≡_, sym, _∙_}
 use borrow.Author.Tests.{not-true, not-false}
-use Rattle.executive.proofs.Rules.{numbers-get}
+use lib.ListN.{length, length-map, drop}
+use Rattle.executive.proofs.Rules.{bounds-get}
+use Rattle.executive.proofs.Passes.{sized}
 use borrow.Author.Needs.{needs}
 use Rattle.executive.proofs.Table.is_well_formed.Statement.{statement}
 use Rattle.executive.proofs.Table.is_well_formed.Tie as tie
 
-numbers-right-requires : tie.Need-numbers-right-requires
-numbers-right-requires c κs = search needs
+in-bounds-requires : tie.Need-in-bounds-requires
+in-bounds-requires c κs = search needs
 
 returns : tie.Need-returns
-unfolding isWellFormed
-returns c = here _ _ (sym (c .before .numbers-right .ensures) ∙ not-true _ (c .if1 .taken))
+unfolding inPasses
+returns c =
+    let t = c .before .before .before .args .self in
+    let l1 : length (t .tasks) ≡ 16 = sym (length-map (t .tasks) _) ∙ c .before .before .before .good .0 .1 .1 .0 .1 .0 .1 in
+    let l2 : length (t .queue) ≡ 16 = sym (length-map (t .queue) _) ∙ c .before .before .before .good .0 .1 .1 .1 .0 .1 .0 .1 in
+    let l3 : length (t .rest .alarms) ≡ 32 = sym (length-map (t .rest .alarms) _) ∙ c .before .before .before .good .0 .1 .1 .1 .1 .1 .0 .1 .1 .1 .1 .1 .1 .0 .1 .0 .1 in
+    let l4 : length (t .rest .pool) ≡ 32 = sym (length-map (t .rest .pool) _) ∙ c .before .before .before .good .0 .1 .1 .1 .1 .1 .0 .1 .1 .1 .1 .1 .1 .1 .0 .1 .0 .1 in
+    sized t l1 l2 l3 l4 (here _ _ (sym (c .before .in-bounds .ensures) ∙ not-true _ (c .if1 .taken)))
 
-queue-right-requires : tie.Need-queue-right-requires
-queue-right-requires c κs = numbers-get (c .before .before .args .self) (sym (c .before .numbers-right .ensures) ∙ not-false _ (c .if1 .left)) .range .ready
+entries-right-requires : tie.Need-entries-right-requires
+entries-right-requires c κs = search needs
 
 returns-2 : tie.Need-returns-2
-unfolding isWellFormed
+unfolding inPasses
 returns-2 c =
-    let t = c .before .before .before .before .args .self in
-    beyond (numbersRight t) _ (here _ _ (sym (c .before .queue-right .ensures) ∙ not-true _ (c .if2 .taken)))
+    let t = c .before .before .before .before .before .before .args .self in
+    let l1 : length (t .tasks) ≡ 16 = sym (length-map (t .tasks) _) ∙ c .before .before .before .before .before .before .good .0 .1 .1 .0 .1 .0 .1 in
+    let l2 : length (t .queue) ≡ 16 = sym (length-map (t .queue) _) ∙ c .before .before .before .before .before .before .good .0 .1 .1 .1 .0 .1 .0 .1 in
+    let l3 : length (t .rest .alarms) ≡ 32 = sym (length-map (t .rest .alarms) _) ∙ c .before .before .before .before .before .before .good .0 .1 .1 .1 .1 .1 .0 .1 .1 .1 .1 .1 .1 .0 .1 .0 .1 in
+    let l4 : length (t .rest .pool) ≡ 32 = sym (length-map (t .rest .pool) _) ∙ c .before .before .before .before .before .before .good .0 .1 .1 .1 .1 .1 .0 .1 .1 .1 .1 .1 .1 .1 .0 .1 .0 .1 in
+    sized t l1 l2 l3 l4 (beyond (inBounds (t .rest .count) (t .rest .granule) (t .rest .clock) (t .ready) (t .rest .queued)) _ (here _ _ (sym (c .before .entries-right .ensures) ∙ not-true _ (c .if2 .taken))))
 
-times-right-requires : tie.Need-times-right-requires
-times-right-requires c κs = search needs
+cast-blank-past : tie.Need-cast-blank-past
+cast-blank-past c = search needs
+
+blank-past-requires : tie.Need-blank-past-requires
+blank-past-requires c κs =
+    let t = c .before .before .before .before .before .before .args .self in
+    bounds-get (t .rest .count) (t .rest .granule) (t .rest .clock) (t .ready) (t .rest .queued) (sym (c .before .before .before .before .in-bounds .ensures) ∙ not-false _ (c .before .before .before .if1 .left)) .count .1
 
 returns-3 : tie.Need-returns-3
-unfolding isWellFormed
+unfolding inPasses
 returns-3 c =
-    let t = c .before .before .before .before .before .before .args .self in
-    beyond (numbersRight t) _ (beyond (queueRight t) _ (here _ _ (sym (c .before .times-right .ensures) ∙ not-true _ (c .if3 .taken))))
+    let t = c .before .before .before .before .before .before .before .before .args .self in
+    let l1 : length (t .tasks) ≡ 16 = sym (length-map (t .tasks) _) ∙ c .before .before .before .before .before .before .before .before .good .0 .1 .1 .0 .1 .0 .1 in
+    let l2 : length (t .queue) ≡ 16 = sym (length-map (t .queue) _) ∙ c .before .before .before .before .before .before .before .before .good .0 .1 .1 .1 .0 .1 .0 .1 in
+    let l3 : length (t .rest .alarms) ≡ 32 = sym (length-map (t .rest .alarms) _) ∙ c .before .before .before .before .before .before .before .before .good .0 .1 .1 .1 .1 .1 .0 .1 .1 .1 .1 .1 .1 .0 .1 .0 .1 in
+    let l4 : length (t .rest .pool) ≡ 32 = sym (length-map (t .rest .pool) _) ∙ c .before .before .before .before .before .before .before .before .good .0 .1 .1 .1 .1 .1 .0 .1 .1 .1 .1 .1 .1 .1 .0 .1 .0 .1 in
+    sized t l1 l2 l3 l4 (beyond (inBounds (t .rest .count) (t .rest .granule) (t .rest .clock) (t .ready) (t .rest .queued)) _ (beyond (allOf (entryRight (t .rest .count) (t .rest .clock .0) (t .rest .flags)) (t .tasks)) _ (here _ _ (sym (c .before .blank-past .ensures) ∙ not-true _ (c .if3 .taken)))))
 
-started-right-requires : tie.Need-started-right-requires
-started-right-requires c κs = search needs
+all-alarms-requires : tie.Need-all-alarms-requires
+all-alarms-requires c κs = search needs
 
 returns-4 : tie.Need-returns-4
-unfolding isWellFormed
+unfolding inPasses
 returns-4 c =
-    let t = c .before .before .before .before .before .before .before .before .args .self in
-    beyond (numbersRight t) _ (beyond (queueRight t) _ (beyond (timesRight t) _ (here _ _ (sym (c .before .started-right .ensures) ∙ not-true _ (c .if4 .taken)))))
+    let t = c .before .before .before .before .before .before .before .before .before .before .before .args .self in
+    let l1 : length (t .tasks) ≡ 16 = sym (length-map (t .tasks) _) ∙ c .before .before .before .before .before .before .before .before .before .before .before .good .0 .1 .1 .0 .1 .0 .1 in
+    let l2 : length (t .queue) ≡ 16 = sym (length-map (t .queue) _) ∙ c .before .before .before .before .before .before .before .before .before .before .before .good .0 .1 .1 .1 .0 .1 .0 .1 in
+    let l3 : length (t .rest .alarms) ≡ 32 = sym (length-map (t .rest .alarms) _) ∙ c .before .before .before .before .before .before .before .before .before .before .before .good .0 .1 .1 .1 .1 .1 .0 .1 .1 .1 .1 .1 .1 .0 .1 .0 .1 in
+    let l4 : length (t .rest .pool) ≡ 32 = sym (length-map (t .rest .pool) _) ∙ c .before .before .before .before .before .before .before .before .before .before .before .good .0 .1 .1 .1 .1 .1 .0 .1 .1 .1 .1 .1 .1 .1 .0 .1 .0 .1 in
+    sized t l1 l2 l3 l4 (beyond (inBounds (t .rest .count) (t .rest .granule) (t .rest .clock) (t .ready) (t .rest .queued)) _ (beyond (allOf (entryRight (t .rest .count) (t .rest .clock .0) (t .rest .flags)) (t .tasks)) _ (beyond (allOf isBlank (drop (t .rest .count) (t .tasks))) _ (here _ _ (sym (c .before .all-alarms .ensures) ∙ not-true _ (c .if4 .taken))))))
 
-masks-right-requires : tie.Need-masks-right-requires
-masks-right-requires c κs = search needs
+cast-queue-right : tie.Need-cast-queue-right
+cast-queue-right c = search needs
+
+queue-right-requires : tie.Need-queue-right-requires
+queue-right-requires c κs =
+    let t = c .before .before .before .before .before .before .before .before .before .before .before .before .before .args .self in
+    let w = bounds-get (t .rest .count) (t .rest .granule) (t .rest .clock) (t .ready) (t .rest .queued) (sym (c .before .before .before .before .before .before .before .before .before .before .before .in-bounds .ensures) ∙ not-false _ (c .before .before .before .before .before .before .before .before .before .before .if1 .left)) in
+    (w .ready, w .count .1)
 
 returns-5 : tie.Need-returns-5
-unfolding isWellFormed
+unfolding inPasses
 returns-5 c =
-    let t = c .before .before .before .before .before .before .before .before .before .before .args .self in
-    beyond (numbersRight t) _ (beyond (queueRight t) _ (beyond (timesRight t) _ (beyond (startedRight t) _ (here _ _ (sym (c .before .masks-right .ensures) ∙ not-true _ (c .if5 .taken))))))
+    let t = c .before .before .before .before .before .before .before .before .before .before .before .before .before .before .before .args .self in
+    let l1 : length (t .tasks) ≡ 16 = sym (length-map (t .tasks) _) ∙ c .before .before .before .before .before .before .before .before .before .before .before .before .before .before .before .good .0 .1 .1 .0 .1 .0 .1 in
+    let l2 : length (t .queue) ≡ 16 = sym (length-map (t .queue) _) ∙ c .before .before .before .before .before .before .before .before .before .before .before .before .before .before .before .good .0 .1 .1 .1 .0 .1 .0 .1 in
+    let l3 : length (t .rest .alarms) ≡ 32 = sym (length-map (t .rest .alarms) _) ∙ c .before .before .before .before .before .before .before .before .before .before .before .before .before .before .before .good .0 .1 .1 .1 .1 .1 .0 .1 .1 .1 .1 .1 .1 .0 .1 .0 .1 in
+    let l4 : length (t .rest .pool) ≡ 32 = sym (length-map (t .rest .pool) _) ∙ c .before .before .before .before .before .before .before .before .before .before .before .before .before .before .before .good .0 .1 .1 .1 .1 .1 .0 .1 .1 .1 .1 .1 .1 .1 .0 .1 .0 .1 in
+    sized t l1 l2 l3 l4 (beyond (inBounds (t .rest .count) (t .rest .granule) (t .rest .clock) (t .ready) (t .rest .queued)) _ (beyond (allOf (entryRight (t .rest .count) (t .rest .clock .0) (t .rest .flags)) (t .tasks)) _ (beyond (allOf isBlank (drop (t .rest .count) (t .tasks))) _ (beyond (allOf (alarmRight (t .rest .clock .0)) (t .rest .alarms)) _ (here _ _ (sym (c .before .queue-right .ensures) ∙ not-true _ (c .if5 .taken)))))))
 
-busy-right-requires : tie.Need-busy-right-requires
-busy-right-requires c κs = numbers-get (c .before .before .before .before .before .before .before .before .before .before .args .self) (sym (c .before .before .before .before .before .before .before .before .before .numbers-right .ensures) ∙ not-false _ (c .before .before .before .before .before .before .before .before .if1 .left)) .range .queued
-
-returns-6 : tie.Need-returns-6
-unfolding isWellFormed
-returns-6 c =
-    let t = c .before .before .before .before .before .before .before .before .before .before .before .before .args .self in
-    beyond (numbersRight t) _ (beyond (queueRight t) _ (beyond (timesRight t) _ (beyond (startedRight t) _ (beyond (masksRight t) _ (here _ _ (sym (c .before .busy-right .ensures) ∙ not-true _ (c .if6 .taken)))))))
-
-waiters-right-requires : tie.Need-waiters-right-requires
-waiters-right-requires c κs = numbers-get (c .before .before .before .before .before .before .before .before .before .before .before .before .args .self) (sym (c .before .before .before .before .before .before .before .before .before .before .before .numbers-right .ensures) ∙ not-false _ (c .before .before .before .before .before .before .before .before .before .before .if1 .left)) .range .queued
-
-returns-7 : tie.Need-returns-7
-unfolding isWellFormed
-returns-7 c =
-    let t = c .before .before .before .before .before .before .before .before .before .before .before .before .before .before .args .self in
-    beyond (numbersRight t) _ (beyond (queueRight t) _ (beyond (timesRight t) _ (beyond (startedRight t) _ (beyond (masksRight t) _ (beyond (busyRight t) _ (here _ _ (sym (c .before .waiters-right .ensures) ∙ not-true _ (c .if7 .taken))))))))
-
-dormant-right-requires : tie.Need-dormant-right-requires
-dormant-right-requires c κs = search needs
+cast-pool-right : tie.Need-cast-pool-right
+cast-pool-right c = search needs
 
 pool-right-requires : tie.Need-pool-right-requires
-pool-right-requires c κs = numbers-get (c .before .before .before .before .before .before .before .before .before .before .before .before .before .before .before .before .args .self) (sym (c .before .before .before .before .before .before .before .before .before .before .before .before .before .before .before .numbers-right .ensures) ∙ not-false _ (c .before .before .before .before .before .before .before .before .before .before .before .before .before .before .if1 .left)) .range .queued
+pool-right-requires c κs =
+    let t = c .before .before .before .before .before .before .before .before .before .before .before .before .before .before .before .before .before .args .self in
+    let w = bounds-get (t .rest .count) (t .rest .granule) (t .rest .clock) (t .ready) (t .rest .queued) (sym (c .before .before .before .before .before .before .before .before .before .before .before .before .before .before .before .in-bounds .ensures) ∙ not-false _ (c .before .before .before .before .before .before .before .before .before .before .before .before .before .before .if1 .left)) in
+    (w .queued, w .count .1)
 
-returns-8 : tie.Need-returns-8
-unfolding isWellFormed
-returns-8 c =
-    onward _ _ _ (sym (c .before .before .before .before .before .before .before .before .before .before .before .before .before .before .before .before .numbers-right .ensures) ∙ not-false _ (c .before .before .before .before .before .before .before .before .before .before .before .before .before .before .before .if1 .left))
-    (onward _ _ _ (sym (c .before .before .before .before .before .before .before .before .before .before .before .before .before .before .queue-right .ensures) ∙ not-false _ (c .before .before .before .before .before .before .before .before .before .before .before .before .before .if2 .left))
-    (onward _ _ _ (sym (c .before .before .before .before .before .before .before .before .before .before .before .before .times-right .ensures) ∙ not-false _ (c .before .before .before .before .before .before .before .before .before .before .before .if3 .left))
-    (onward _ _ _ (sym (c .before .before .before .before .before .before .before .before .before .before .started-right .ensures) ∙ not-false _ (c .before .before .before .before .before .before .before .before .before .if4 .left))
-    (onward _ _ _ (sym (c .before .before .before .before .before .before .before .before .masks-right .ensures) ∙ not-false _ (c .before .before .before .before .before .before .before .if5 .left))
-    (onward _ _ _ (sym (c .before .before .before .before .before .before .busy-right .ensures) ∙ not-false _ (c .before .before .before .before .before .if6 .left))
-    (onward _ _ _ (sym (c .before .before .before .before .waiters-right .ensures) ∙ not-false _ (c .before .before .before .if7 .left))
-    (onward _ _ _ (sym (c .before .before .dormant-right .ensures) ∙ c .before .if8 .taken) (c .pool-right .ensures))))))))
-
-returns-9 : tie.Need-returns-9
-unfolding isWellFormed
-returns-9 c =
-    let t = c .before .before .before .before .before .before .before .before .before .before .before .before .before .before .before .before .args .self in
-    shut (c .if8 .left) (beyond (numbersRight t) _ (beyond (queueRight t) _ (beyond (timesRight t) _ (beyond (startedRight t) _ (beyond (masksRight t) _ (beyond (busyRight t) _ (beyond (waitersRight t) _ (here _ _ (sym (c .before .dormant-right .ensures) ∙ c .if8 .left)))))))))
+returns-6 : tie.Need-returns-6
+unfolding inPasses
+returns-6 c =
+    let t = c .before .before .before .before .before .before .before .before .before .before .before .before .before .before .before .before .before .before .args .self in
+    let l1 : length (t .tasks) ≡ 16 = sym (length-map (t .tasks) _) ∙ c .before .before .before .before .before .before .before .before .before .before .before .before .before .before .before .before .before .before .good .0 .1 .1 .0 .1 .0 .1 in
+    let l2 : length (t .queue) ≡ 16 = sym (length-map (t .queue) _) ∙ c .before .before .before .before .before .before .before .before .before .before .before .before .before .before .before .before .before .before .good .0 .1 .1 .1 .0 .1 .0 .1 in
+    let l3 : length (t .rest .alarms) ≡ 32 = sym (length-map (t .rest .alarms) _) ∙ c .before .before .before .before .before .before .before .before .before .before .before .before .before .before .before .before .before .before .good .0 .1 .1 .1 .1 .1 .0 .1 .1 .1 .1 .1 .1 .0 .1 .0 .1 in
+    let l4 : length (t .rest .pool) ≡ 32 = sym (length-map (t .rest .pool) _) ∙ c .before .before .before .before .before .before .before .before .before .before .before .before .before .before .before .before .before .before .good .0 .1 .1 .1 .1 .1 .0 .1 .1 .1 .1 .1 .1 .1 .0 .1 .0 .1 in
+    sized t l1 l2 l3 l4 (onward _ _ _ (sym (c .before .before .before .before .before .before .before .before .before .before .before .before .before .before .before .before .in-bounds .ensures) ∙ not-false _ (c .before .before .before .before .before .before .before .before .before .before .before .before .before .before .before .if1 .left)) (onward _ _ _ (sym (c .before .before .before .before .before .before .before .before .before .before .before .before .before .entries-right .ensures) ∙ not-false _ (c .before .before .before .before .before .before .before .before .before .before .before .before .if2 .left)) (onward _ _ _ (sym (c .before .before .before .before .before .before .before .before .before .before .before .blank-past .ensures) ∙ not-false _ (c .before .before .before .before .before .before .before .before .before .before .if3 .left)) (onward _ _ _ (sym (c .before .before .before .before .before .before .before .before .all-alarms .ensures) ∙ not-false _ (c .before .before .before .before .before .before .before .if4 .left)) (onward _ _ _ (sym (c .before .before .before .before .queue-right .ensures) ∙ not-false _ (c .before .before .before .if5 .left)) (c .pool-right .ensures))))))
 
 pub is-well-formed-spec : {M : Type 1} → statement M
 is-well-formed-spec =
     tie.close
     (tie.spec
-    numbers-right-requires
+    in-bounds-requires
     returns
-    queue-right-requires
+    entries-right-requires
     returns-2
-    times-right-requires
+    cast-blank-past
+    blank-past-requires
     returns-3
-    started-right-requires
+    all-alarms-requires
     returns-4
-    masks-right-requires
+    cast-queue-right
+    queue-right-requires
     returns-5
-    busy-right-requires
-    returns-6
-    waiters-right-requires
-    returns-7
-    dormant-right-requires
+    cast-pool-right
     pool-right-requires
-    returns-8
-    returns-9)
+    returns-6)

@@ -3,34 +3,41 @@ use native.Mathlib.Omega.{arith}
 use Prim.Native.Nat.{_≤_, _-_}
 use mathlib.Core.Bool.{true}
 use borrow.Author.Tests.{not-true, not-false}
+use borrow.Author.Needs.{needs}
 use lib.ListN.{take}
 use Rattle.executive.specs.Check.{upTo, exactAt}
 use Rattle.executive.proofs.Tally.{all-none, all-more, all-not}
+use Rattle.executive.proofs.Passes.{exact-next}
 use Rattle.executive.proofs.check.all_exact.Statement.{statement}
 use Rattle.executive.proofs.check.all_exact.Tie as tie
 
 abbrev Inv-loop : tie.InvT-loop
-Inv-loop tasks queue ready count k₀ k = (k ≤ count) × (upTo (exactAt tasks (take ready queue)) k ≡ true)
+Inv-loop queue ready count tasks k₀ k = (k ≤ count) × (upTo (exactAt tasks (take ready queue)) k ≡ true)
 
 abbrev μ-loop : tie.MeasureT-loop
-μ-loop tasks queue ready count k₀ k = count - k
+μ-loop queue ready count tasks k₀ k = count - k
 
 loop-holds : tie.Need-loop-holds Inv-loop μ-loop
-loop-holds c =
-    let s = c in
-    (omega arith, all-none (exactAt (s .args .tasks) (take (s .args .ready) (s .args .queue))))
+loop-holds c = (omega arith, all-none (exactAt (c .args .t1) (take (c .args .ready) (c .args .queue))))
+
+cast-e : tie.Need-cast-e Inv-loop μ-loop
+cast-e c = omega arith
+
+mul-e : tie.Need-mul-e Inv-loop μ-loop
+mul-e c = omega arith
+
+array-copy-out-e : tie.Need-array-copy-out-e Inv-loop μ-loop
+array-copy-out-e c = omega arith
 
 add-exact-at : tie.Need-add-exact-at Inv-loop μ-loop
 add-exact-at c = omega arith
 
 exact-at-requires : tie.Need-exact-at-requires Inv-loop μ-loop
-exact-at-requires c κs = c .before .before .pre
+exact-at-requires c κs = c .before .before .before .pre .0
 
 returns : tie.Need-returns Inv-loop μ-loop
 returns c =
-    let s = c .before .before .before .before in
-    let v = c .before .before .before .loop in
-    sym (all-not (exactAt (s .args .tasks) (take (s .args .ready) (s .args .queue))) (s .args .count) (v .k) (c .before .before .loop-test .taken) (sym (c .before .exact-at .ensures) ∙ not-true _ (c .if1 .taken)))
+    sym (all-not (exactAt (c .before .before .before .before .before .args .t1) (take (c .before .before .before .before .before .args .ready) (c .before .before .before .before .before .args .queue))) (c .before .before .before .before .before .args .count) (c .before .before .before .before .loop .k) (c .before .before .before .loop-test .taken) (sym (exact-next (c .before .before .before .before .before .args .t1) (take (c .before .before .before .before .before .args .ready) (c .before .before .before .before .before .args .queue)) (c .before .before .before .before .loop .k)) ∙ sym (c .before .exact-at .ensures) ∙ not-true _ (c .if1 .taken)))
 
 add-k : tie.Need-add-k Inv-loop μ-loop
 add-k c = omega arith
@@ -40,16 +47,12 @@ loop-less c = omega arith
 
 loop-again : tie.Need-loop-again Inv-loop μ-loop
 loop-again c =
-    let s = c .before .before .before .before in
-    let v = c .before .before .before .loop in
-    (omega arith, all-more (exactAt (s .args .tasks) (take (s .args .ready) (s .args .queue))) (v .k) (v .inv .1) (sym (c .before .exact-at .ensures) ∙ not-false _ (c .if1 .left)))
+    (omega arith, all-more (exactAt (c .before .before .before .before .before .args .t1) (take (c .before .before .before .before .before .args .ready) (c .before .before .before .before .before .args .queue))) (c .before .before .before .before .loop .k) (c .before .before .before .before .loop .inv .1) (sym (exact-next (c .before .before .before .before .before .args .t1) (take (c .before .before .before .before .before .args .ready) (c .before .before .before .before .before .args .queue)) (c .before .before .before .before .loop .k)) ∙ sym (c .before .exact-at .ensures) ∙ not-false _ (c .if1 .left)))
 
 returns-2 : tie.Need-returns-2 Inv-loop μ-loop
 returns-2 c =
-    let s = c .before .before in
-    let v = c .before .loop in
-    let e : v .k ≡ s .args .count = omega arith in
-    sym (rw e at (v .inv .1))
+    let e : c .before .loop .k ≡ c .before .before .args .count = omega arith in
+    sym (rw e at (c .before .loop .inv .1))
 
 pub all-exact-spec : {M : Type 1} → statement M
 all-exact-spec =
@@ -58,6 +61,9 @@ all-exact-spec =
     Inv-loop
     μ-loop
     loop-holds
+    cast-e
+    mul-e
+    array-copy-out-e
     add-exact-at
     exact-at-requires
     returns

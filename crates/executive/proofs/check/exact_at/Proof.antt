@@ -1,15 +1,11 @@
 use mathlib.Core.Path.{refl}
 use native.Mathlib.Nat.{add-zero}
-use Rattle.executive.specs.Check.{exactAt}
 use borrow.Author.Needs.{needs}
 use Rattle.executive.proofs.check.exact_at.Statement.{statement}
 use Rattle.executive.proofs.check.exact_at.Tie as tie
 
 stands-in-requires : tie.Need-stands-in-requires
 stands-in-requires c κs = search needs
-
-task-at-requires : tie.Need-task-at-requires
-task-at-requires c κs = search needs
 
 kind-of-requires : tie.Need-kind-of-requires
 kind-of-requires c κs = search needs
@@ -18,10 +14,13 @@ plus-if-requires : tie.Need-plus-if-requires
 plus-if-requires c κs = search needs
 
 returns : tie.Need-returns
-unfolding exactAt
-returns c = rw (c .before .before .before .stands-in .ensures, c .plus-if .ensures, c .before .kind-of .ensures, c .before .before .task-at .ensures) (rw add-zero refl)
+returns c = rw (c .before .before .stands-in .ensures, c .plus-if .ensures, c .before .kind-of .ensures) (rw add-zero refl)
 
 pub exact-at-spec : {M : Type 1} → statement M
 exact-at-spec =
     tie.close
-    (tie.spec stands-in-requires task-at-requires kind-of-requires plus-if-requires returns)
+    (tie.spec
+    stands-in-requires
+    kind-of-requires
+    plus-if-requires
+    returns)

@@ -4,17 +4,17 @@ use native.Mathlib.Omega.{arith}
 use borrow.Author.Needs.{needs}
 use borrow.Author.Tests.{not-true, not-false}
 use Prim.Native.Nat.{_≤_, _-_}
-use Rattle.executive.specs.Check.{allOf, entryKeeps}
+use Rattle.executive.specs.Check.{allOf, isQuiet}
 use Rattle.executive.proofs.Tally.{every-turn, every-not, every-end}
 use Rattle.executive.specs.Table.{noTask}
-use Rattle.executive.proofs.check.all_keep.Statement.{statement}
-use Rattle.executive.proofs.check.all_keep.Tie as tie
+use Rattle.executive.proofs.check.all_quiet.Statement.{statement}
+use Rattle.executive.proofs.check.all_quiet.Tie as tie
 
 abbrev Inv-loop : tie.InvT-loop
-Inv-loop from rule tasks i₀ i = (i ≤ 16) × (allOf (entryKeeps rule) (drop i tasks) ≡ allOf (entryKeeps rule) (drop from tasks))
+Inv-loop tasks i₀ i = (i ≤ 16) × (allOf isQuiet (drop i tasks) ≡ allOf isQuiet tasks)
 
 abbrev μ-loop : tie.MeasureT-loop
-μ-loop from rule tasks i₀ i = 16 - i
+μ-loop tasks i₀ i = 16 - i
 
 loop-holds : tie.Need-loop-holds Inv-loop μ-loop
 loop-holds c = (omega arith, refl)
@@ -25,15 +25,15 @@ mul-e c = omega arith
 array-copy-out-e : tie.Need-array-copy-out-e Inv-loop μ-loop
 array-copy-out-e c = omega arith
 
-entry-keeps-requires : tie.Need-entry-keeps-requires Inv-loop μ-loop
-entry-keeps-requires c κs = search needs
+is-quiet-requires : tie.Need-is-quiet-requires Inv-loop μ-loop
+is-quiet-requires c κs = search needs
 
 returns : tie.Need-returns Inv-loop μ-loop
 returns c =
     let s = c .before .before .before .before .before in
     let v = c .before .before .before .before .loop in
     let l = s .good .0 .1 .0 .1 in
-    sym (sym (v .inv .1) ∙ every-not (entryKeeps (s .args .rule)) noTask (s .args .t1) (v .i) (omega arith) (sym (c .before .entry-keeps .ensures) ∙ not-true _ (c .if1 .taken)))
+    sym (sym (v .inv .1) ∙ every-not isQuiet noTask (s .args .t1) (v .i) (omega arith) (sym (c .before .is-quiet .ensures) ∙ not-true _ (c .if1 .taken)))
 
 add-i : tie.Need-add-i Inv-loop μ-loop
 add-i c = omega arith
@@ -46,17 +46,17 @@ loop-again c =
     let s = c .before .before .before .before .before in
     let v = c .before .before .before .before .loop in
     let l = s .good .0 .1 .0 .1 in
-    (omega arith, every-turn (entryKeeps (s .args .rule)) noTask (s .args .t1) (v .i) (omega arith) (sym (c .before .entry-keeps .ensures) ∙ not-false _ (c .if1 .left)) ∙ v .inv .1)
+    (omega arith, every-turn isQuiet noTask (s .args .t1) (v .i) (omega arith) (sym (c .before .is-quiet .ensures) ∙ not-false _ (c .if1 .left)) ∙ v .inv .1)
 
 returns-2 : tie.Need-returns-2 Inv-loop μ-loop
 returns-2 c =
     let s = c .before .before in
     let v = c .before .loop in
     let l = s .good .0 .1 .0 .1 in
-    sym (every-end (entryKeeps (s .args .rule)) noTask (s .args .t1) (v .i) (omega arith)) ∙ v .inv .1
+    sym (every-end isQuiet noTask (s .args .t1) (v .i) (omega arith)) ∙ v .inv .1
 
-pub all-keep-spec : {M : Type 1} → statement M
-all-keep-spec =
+pub all-quiet-spec : {M : Type 1} → statement M
+all-quiet-spec =
     tie.close
     (tie.spec
     Inv-loop
@@ -64,7 +64,7 @@ all-keep-spec =
     loop-holds
     mul-e
     array-copy-out-e
-    entry-keeps-requires
+    is-quiet-requires
     returns
     add-i
     loop-less
