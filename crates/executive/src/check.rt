@@ -5,13 +5,13 @@ use crate::Request;
 use crate::State;
 use crate::Table;
 use crate::Task;
-use crate::places;
 use records::TaskNo;
 ghost use mathlib.Core.Path.{_≡_};
 ghost use Prim.Native.Nat.{_≤_, _<_, _+_};
 ghost use lib.Dec.{eqb};
 ghost use lib.ListN.{drop, take};
 ghost use Rattle.executive.specs.Queue.{one};
+ghost use Rattle.executive.specs.Table.{taskAt};
 ghost use Rattle.executive.specs.WellFormed.{kindOf, is, runsOf};
 ghost use Rattle.executive.specs.Check.{upTo, allOf, inBounds, entryInRange, isZero, isBlank, requestInRange, isTask, isNobody, falls, standsIn, exactAt, isStored, isTimely, alarmRight, isUnmet, waitersAt, namesOthers, sleepsRight, isFree, entryRight, requestFits, requestRight, isQuiet, isLone, lineRight, askedRight, linkOf, linksIn, isWellFormed, Checked, Decided};
 ghost use Rattle.executive.specs.Broken.{Broken};
@@ -461,12 +461,11 @@ fn all_exact(tasks: [Task; 16], queue: [TaskNo; 16], ready: usize, count: u8) ->
     true
 }
 
-// Task k is named once in the way that it waits, else not at all; its own run does not name it.
-fn waiters_at(tasks: [Task; 16], pool: [Request; 32], queued: usize, k: u8) -> bool
-    requires { ⌜ queued ≤ 32 ⌝ }
+// Task k, whose entry is e, is named once in the way that it waits, else not at all; its own run does not name it.
+fn waiters_at(e: Task, tasks: [Task; 16], pool: [Request; 32], queued: usize, k: u8) -> bool
+    requires { ⌜ (queued ≤ 32) × (e ≡ taskAt tasks k) ⌝ }
     ensures { λ r. ⌜ r ≡ waitersAt tasks (take queued pool) k ⌝ }
 {
-    let e = places::task_at(tasks, TaskNo(k));
     let s = e.state;
     let kind = kind_of(s);
     let starts = links_in(pool, queued, Link::AtStart, k);
@@ -481,12 +480,13 @@ fn waiters_at(tasks: [Task; 16], pool: [Request; 32], queued: usize, k: u8) -> b
 }
 
 fn all_waiters(tasks: [Task; 16], pool: [Request; 32], queued: usize, count: u8) -> bool
-    requires { ⌜ queued ≤ 32 ⌝ }
+    requires { ⌜ (queued ≤ 32) × (count ≤ 16) ⌝ }
     ensures { λ r. ⌜ r ≡ upTo (waitersAt tasks (take queued pool)) count ⌝ }
 {
     let mut k: u8 = 0;
     while k < count {
-        if !waiters_at(tasks, pool, queued, k + 1) {
+        let e = tasks[k as usize];
+        if !waiters_at(e, tasks, pool, queued, k + 1) {
             return false;
         }
         k += 1;
@@ -550,7 +550,7 @@ fn all_lone(pool: [Request; 32], queued: usize) -> bool
 
 // Each task is named once in the way that it waits, else not at all. Where nobody waits and nobody is named there is nothing to count.
 fn waiters_right(tasks: [Task; 16], pool: [Request; 32], queued: usize, count: u8) -> bool
-    requires { ⌜ queued ≤ 32 ⌝ }
+    requires { ⌜ (queued ≤ 32) × (count ≤ 16) ⌝ }
     ensures { λ r. ⌜ r ≡ upTo (waitersAt tasks (take queued pool)) count ⌝ }
 {
     if !all_quiet(tasks) {

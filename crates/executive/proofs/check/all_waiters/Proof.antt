@@ -6,31 +6,37 @@ use borrow.Author.Tests.{not-true, not-false}
 use lib.ListN.{take}
 use Rattle.executive.specs.Check.{upTo, waitersAt}
 use Rattle.executive.proofs.Tally.{all-none, all-more, all-not}
+use Rattle.executive.proofs.Passes.{at-next}
 use Rattle.executive.proofs.check.all_waiters.Statement.{statement}
 use Rattle.executive.proofs.check.all_waiters.Tie as tie
 
 abbrev Inv-loop : tie.InvT-loop
-Inv-loop tasks pool queued count k₀ k = (k ≤ count) × (upTo (waitersAt tasks (take queued pool)) k ≡ true)
+Inv-loop pool queued count tasks k₀ k = (k ≤ count) × (upTo (waitersAt tasks (take queued pool)) k ≡ true)
 
 abbrev μ-loop : tie.MeasureT-loop
-μ-loop tasks pool queued count k₀ k = count - k
+μ-loop pool queued count tasks k₀ k = count - k
 
 loop-holds : tie.Need-loop-holds Inv-loop μ-loop
-loop-holds c =
-    let s = c in
-    (omega arith, all-none (waitersAt (s .args .tasks) (take (s .args .queued) (s .args .pool))))
+loop-holds c = (omega arith, all-none (waitersAt (c .args .t1) (take (c .args .queued) (c .args .pool))))
+
+cast-e : tie.Need-cast-e Inv-loop μ-loop
+cast-e c = omega arith
+
+mul-e : tie.Need-mul-e Inv-loop μ-loop
+mul-e c = omega arith
+
+array-copy-out-e : tie.Need-array-copy-out-e Inv-loop μ-loop
+array-copy-out-e c = omega arith
 
 add-waiters-at : tie.Need-add-waiters-at Inv-loop μ-loop
 add-waiters-at c = omega arith
 
 waiters-at-requires : tie.Need-waiters-at-requires Inv-loop μ-loop
-waiters-at-requires c κs = c .before .before .pre
+waiters-at-requires c κs = (c .before .before .before .pre .0, sym (at-next (c .before .before .before .args .t1) (c .before .before .loop .k)))
 
 returns : tie.Need-returns Inv-loop μ-loop
 returns c =
-    let s = c .before .before .before .before in
-    let v = c .before .before .before .loop in
-    sym (all-not (waitersAt (s .args .tasks) (take (s .args .queued) (s .args .pool))) (s .args .count) (v .k) (c .before .before .loop-test .taken) (sym (c .before .waiters-at .ensures) ∙ not-true _ (c .if1 .taken)))
+    sym (all-not (waitersAt (c .before .before .before .before .before .args .t1) (take (c .before .before .before .before .before .args .queued) (c .before .before .before .before .before .args .pool))) (c .before .before .before .before .before .args .count) (c .before .before .before .before .loop .k) (c .before .before .before .loop-test .taken) (sym (c .before .waiters-at .ensures) ∙ not-true _ (c .if1 .taken)))
 
 add-k : tie.Need-add-k Inv-loop μ-loop
 add-k c = omega arith
@@ -40,16 +46,12 @@ loop-less c = omega arith
 
 loop-again : tie.Need-loop-again Inv-loop μ-loop
 loop-again c =
-    let s = c .before .before .before .before in
-    let v = c .before .before .before .loop in
-    (omega arith, all-more (waitersAt (s .args .tasks) (take (s .args .queued) (s .args .pool))) (v .k) (v .inv .1) (sym (c .before .waiters-at .ensures) ∙ not-false _ (c .if1 .left)))
+    (omega arith, all-more (waitersAt (c .before .before .before .before .before .args .t1) (take (c .before .before .before .before .before .args .queued) (c .before .before .before .before .before .args .pool))) (c .before .before .before .before .loop .k) (c .before .before .before .before .loop .inv .1) (sym (c .before .waiters-at .ensures) ∙ not-false _ (c .if1 .left)))
 
 returns-2 : tie.Need-returns-2 Inv-loop μ-loop
 returns-2 c =
-    let s = c .before .before in
-    let v = c .before .loop in
-    let e : v .k ≡ s .args .count = omega arith in
-    sym (rw e at (v .inv .1))
+    let e : c .before .loop .k ≡ c .before .before .args .count = omega arith in
+    sym (rw e at (c .before .loop .inv .1))
 
 pub all-waiters-spec : {M : Type 1} → statement M
 all-waiters-spec =
@@ -58,6 +60,9 @@ all-waiters-spec =
     Inv-loop
     μ-loop
     loop-holds
+    cast-e
+    mul-e
+    array-copy-out-e
     add-waiters-at
     waiters-at-requires
     returns

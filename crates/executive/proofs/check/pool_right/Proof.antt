@@ -14,7 +14,7 @@ returns : tie.Need-returns
 returns c = here _ _ (sym (c .before .requests-right .ensures) ∙ not-true _ (c .if1 .taken))
 
 waiters-right-requires : tie.Need-waiters-right-requires
-waiters-right-requires c κs = c .before .before .pre .0
+waiters-right-requires c κs = c .before .before .pre
 
 free-from-requires : tie.Need-free-from-requires
 free-from-requires c κs = c .before .before .before .before .pre .0

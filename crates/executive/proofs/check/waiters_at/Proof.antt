@@ -10,24 +10,21 @@ use borrow.Author.Needs.{needs}
 use Rattle.executive.proofs.check.waiters_at.Statement.{statement}
 use Rattle.executive.proofs.check.waiters_at.Tie as tie
 
-task-at-requires : tie.Need-task-at-requires
-task-at-requires c κs = search needs
-
 kind-of-requires : tie.Need-kind-of-requires
 kind-of-requires c κs = search needs
 
 links-in-requires : tie.Need-links-in-requires
-links-in-requires c κs = search needs
+links-in-requires c κs = c .before .pre .0
 
 plus-if-requires : tie.Need-plus-if-requires
 plus-if-requires c κs = search needs
 
 returns : tie.Need-returns
 unfolding waitersAt
-returns c = here _ _ (ne-eqb _ _ (rw (c .before .before .links-in .ensures .1, c .before .plus-if .ensures, c .before .before .before .kind-of .ensures, c .before .before .before .before .task-at .ensures, add-zero) at (c .if1 .taken)))
+returns c = here _ _ (ne-eqb _ _ (rw (c .before .before .links-in .ensures .1, c .before .plus-if .ensures, c .before .before .before .kind-of .ensures, c .before .before .before .before .pre .1, add-zero) at (c .if1 .taken)))
 
 links-in-requires-2 : tie.Need-links-in-requires-2
-links-in-requires-2 c κs = search needs
+links-in-requires-2 c κs = c .before .before .before .before .pre .0
 
 runs-in-requires : tie.Need-runs-in-requires
 runs-in-requires c κs = search needs
@@ -40,17 +37,16 @@ add-if2 c = search needs
 
 returns-2 : tie.Need-returns-2
 unfolding waitersAt
-returns-2 c = onward _ _ _ (eq-eqb _ _ (rw (c .before .before .before .before .before .before .before .links-in .ensures .1, c .before .before .before .before .before .before .plus-if .ensures, c .before .before .before .before .before .before .before .before .kind-of .ensures, c .before .before .before .before .before .before .before .before .before .task-at .ensures, add-zero) at (c .before .before .before .before .before .if1 .left))) (onward _ _ _ (eq-eqb _ _ (rw (c .before .before .before .before .links-in2 .ensures .1, c .before .before .before .runs-in .ensures .1, c .before .before .plus-if2 .ensures, c .before .before .before .before .before .before .before .before .kind-of .ensures, c .before .before .before .before .before .before .before .before .before .task-at .ensures, add-zero) at (c .before .if2 .taken))) (rw (c .before .before .before .before .before .before .before .before .before .task-at .ensures)))
+returns-2 c = onward _ _ _ (eq-eqb _ _ (rw (c .before .before .before .before .before .before .before .links-in .ensures .1, c .before .before .before .before .before .before .plus-if .ensures, c .before .before .before .before .before .before .before .before .kind-of .ensures, c .before .before .before .before .before .before .before .before .before .pre .1, add-zero) at (c .before .before .before .before .before .if1 .left))) (onward _ _ _ (eq-eqb _ _ (rw (c .before .before .before .before .links-in2 .ensures .1, c .before .before .before .runs-in .ensures .1, c .before .before .plus-if2 .ensures, c .before .before .before .before .before .before .before .before .kind-of .ensures, c .before .before .before .before .before .before .before .before .before .pre .1, add-zero) at (c .before .if2 .taken))) (rw (c .before .before .before .before .before .before .before .before .before .pre .1)))
 
 returns-3 : tie.Need-returns-3
 unfolding waitersAt
-returns-3 c = shut (ne-eqb _ _ (c .if2 .left)) (beyond (eqb (startsOf (c .before .before .before .before .before .before .before .before .before .args .k) (take (c .before .before .before .before .before .before .before .before .before .args .queued) (c .before .before .before .before .before .before .before .before .before .args .pool))) (is 2 (taskAt (c .before .before .before .before .before .before .before .before .before .args .tasks) (c .before .before .before .before .before .before .before .before .before .args .k) .state))) _ (here _ _ (ne-eqb _ _ (rw (c .before .before .before .links-in2 .ensures .1, c .before .before .runs-in .ensures .1, c .before .plus-if2 .ensures, c .before .before .before .before .before .before .before .kind-of .ensures, c .before .before .before .before .before .before .before .before .task-at .ensures, add-zero) at (c .if2 .left)))))
+returns-3 c = shut (ne-eqb _ _ (c .if2 .left)) (beyond (eqb (startsOf (c .before .before .before .before .before .before .before .before .args .k) (take (c .before .before .before .before .before .before .before .before .args .queued) (c .before .before .before .before .before .before .before .before .args .pool))) (is 2 (taskAt (c .before .before .before .before .before .before .before .before .args .tasks) (c .before .before .before .before .before .before .before .before .args .k) .state))) _ (here _ _ (ne-eqb _ _ (rw (c .before .before .before .links-in2 .ensures .1, c .before .before .runs-in .ensures .1, c .before .plus-if2 .ensures, c .before .before .before .before .before .before .before .kind-of .ensures, c .before .before .before .before .before .before .before .before .pre .1, add-zero) at (c .if2 .left)))))
 
 pub waiters-at-spec : {M : Type 1} → statement M
 waiters-at-spec =
     tie.close
     (tie.spec
-    task-at-requires
     kind-of-requires
     links-in-requires
     plus-if-requires
