@@ -1,5 +1,5 @@
 -- The check in fewer passes is the check in 01's order; where nobody waits and nobody is named there is nothing to count.
-use Prim.Native.Nat.{ℕ, zero, suc, _+_, _-_, _≤_, _<_}
+use Prim.Native.Nat.{ℕ, _+_, _-_, _≤_, _<_}
 use mathlib.Core.Path.{_≡_, refl, ap, sym, _∙_}
 use mathlib.Core.Bool.{Bool, true, false, not}
 use mathlib.Core.List.{List, [], _∷_}
@@ -13,10 +13,10 @@ use Rattle.executive.specs.declared.Task.{Task}
 use Rattle.executive.specs.declared.Request.{Request}
 use Rattle.executive.specs.declared.Table.{Table}
 use Rattle.executive.specs.Numbers.{highest}
-use Rattle.executive.specs.Queue.{pick, one}
-use Rattle.executive.specs.Table.{noTask, line, requests, taskAt}
-use Rattle.executive.specs.WellFormed.{sumOf, kindOf, is, startsOf, endsOf, runsOf}
-use Rattle.executive.specs.Check.{_and_, upTo, allOf, entryInRange, requestInRange, isBlank, sizesRight, inBounds, numbersRight, isTask, falls, standsIn, exactAt, queueRight, alarmRight, taskTimely, timesRight, isStarted, startedRight, taskUnmet, masksRight, targetBusy, busyRight, waitersAt, namesOthers, waitersRight, sleepsRight, dormantRight, isFree, poolRight, isWellFormed, entryRight, requestFits, requestRight, isQuiet, isLone, lineRight, askedRight, inPasses}
+use Rattle.executive.specs.Queue.{one}
+use Rattle.executive.specs.Table.{noTask, requests, taskAt}
+use Rattle.executive.specs.WellFormed.{kindOf, is, startsOf, endsOf, runsOf}
+use Rattle.executive.specs.Check.{_and_, upTo, allOf, entryInRange, requestInRange, isBlank, sizesRight, inBounds, numbersRight, isTask, standsIn, exactAt, queueRight, alarmRight, taskTimely, timesRight, isStarted, startedRight, taskUnmet, masksRight, targetBusy, busyRight, waitersAt, namesOthers, waitersRight, sleepsRight, dormantRight, poolRight, isWellFormed, entryRight, requestFits, requestRight, isQuiet, isLone, lineRight, inPasses}
 use Rattle.executive.proofs.Tasks.{at-none, at-task}
 use Rattle.executive.proofs.Tally.{both, all-make}
 use Rattle.executive.proofs.Both.{split, paired, none-one, of-not, sum-none}

@@ -1,7 +1,8 @@
 use Rattle.executive.proofs.Both.{here, beyond, onward}
-use Rattle.executive.specs.Check.{allOf, isBlank, inBounds, alarmRight, entryRight, inPasses}
+use Rattle.executive.specs.Check.{allOf, isBlank, inBounds, alarmRight, entryRight, inPasses, isWellFormed}
 use mathlib.Core.Path.{_≡_, sym, _∙_}
 use borrow.Author.Tests.{not-true, not-false}
+use mathlib.Core.Bool.{Bool}
 use lib.ListN.{length, length-map, drop}
 use Rattle.executive.proofs.Rules.{bounds-get}
 use Rattle.executive.proofs.Passes.{sized}
@@ -9,18 +10,25 @@ use borrow.Author.Needs.{needs}
 use Rattle.executive.proofs.Table.is_well_formed.Statement.{statement}
 use Rattle.executive.proofs.Table.is_well_formed.Tie as tie
 
+-- the sizes of a table's arrays are those of its type
+of-size : (s : tie.Start) {r : Bool} → r ≡ inPasses (s .args .self) → r ≡ isWellFormed (s .args .self)
+of-size s =
+    let t = s .args .self in
+    let l1 : length (t .tasks) ≡ 16 = sym (length-map (t .tasks) _) ∙ s .good .0 .1 .1 .0 .1 .0 .1 in
+    let l2 : length (t .queue) ≡ 16 = sym (length-map (t .queue) _) ∙ s .good .0 .1 .1 .1 .0 .1 .0 .1 in
+    let l3 : length (t .rest .alarms) ≡ 32 = sym (length-map (t .rest .alarms) _) ∙ s .good .0 .1 .1 .1 .1 .1 .0 .1 .1 .1 .1 .1 .1 .0 .1 .0 .1 in
+    let l4 : length (t .rest .pool) ≡ 32 = sym (length-map (t .rest .pool) _) ∙ s .good .0 .1 .1 .1 .1 .1 .0 .1 .1 .1 .1 .1 .1 .1 .0 .1 .0 .1 in
+    sized t l1 l2 l3 l4
+
 in-bounds-requires : tie.Need-in-bounds-requires
 in-bounds-requires c κs = search needs
 
 returns : tie.Need-returns
 unfolding inPasses
 returns c =
-    let t = c .before .before .before .args .self in
-    let l1 : length (t .tasks) ≡ 16 = sym (length-map (t .tasks) _) ∙ c .before .before .before .good .0 .1 .1 .0 .1 .0 .1 in
-    let l2 : length (t .queue) ≡ 16 = sym (length-map (t .queue) _) ∙ c .before .before .before .good .0 .1 .1 .1 .0 .1 .0 .1 in
-    let l3 : length (t .rest .alarms) ≡ 32 = sym (length-map (t .rest .alarms) _) ∙ c .before .before .before .good .0 .1 .1 .1 .1 .1 .0 .1 .1 .1 .1 .1 .1 .0 .1 .0 .1 in
-    let l4 : length (t .rest .pool) ≡ 32 = sym (length-map (t .rest .pool) _) ∙ c .before .before .before .good .0 .1 .1 .1 .1 .1 .0 .1 .1 .1 .1 .1 .1 .1 .0 .1 .0 .1 in
-    sized t l1 l2 l3 l4 (here _ _ (sym (c .before .in-bounds .ensures) ∙ not-true _ (c .if1 .taken)))
+    let s = c .before .before .before in
+    let t = s .args .self in
+    of-size s (here _ _ (sym (c .before .in-bounds .ensures) ∙ not-true _ (c .if1 .taken)))
 
 entries-right-requires : tie.Need-entries-right-requires
 entries-right-requires c κs = search needs
@@ -28,12 +36,9 @@ entries-right-requires c κs = search needs
 returns-2 : tie.Need-returns-2
 unfolding inPasses
 returns-2 c =
-    let t = c .before .before .before .before .before .before .args .self in
-    let l1 : length (t .tasks) ≡ 16 = sym (length-map (t .tasks) _) ∙ c .before .before .before .before .before .before .good .0 .1 .1 .0 .1 .0 .1 in
-    let l2 : length (t .queue) ≡ 16 = sym (length-map (t .queue) _) ∙ c .before .before .before .before .before .before .good .0 .1 .1 .1 .0 .1 .0 .1 in
-    let l3 : length (t .rest .alarms) ≡ 32 = sym (length-map (t .rest .alarms) _) ∙ c .before .before .before .before .before .before .good .0 .1 .1 .1 .1 .1 .0 .1 .1 .1 .1 .1 .1 .0 .1 .0 .1 in
-    let l4 : length (t .rest .pool) ≡ 32 = sym (length-map (t .rest .pool) _) ∙ c .before .before .before .before .before .before .good .0 .1 .1 .1 .1 .1 .0 .1 .1 .1 .1 .1 .1 .1 .0 .1 .0 .1 in
-    sized t l1 l2 l3 l4 (beyond (inBounds (t .rest .count) (t .rest .granule) (t .rest .clock) (t .ready) (t .rest .queued)) _ (here _ _ (sym (c .before .entries-right .ensures) ∙ not-true _ (c .if2 .taken))))
+    let s = c .before .before .before .before .before .before in
+    let t = s .args .self in
+    of-size s (beyond (inBounds (t .rest .count) (t .rest .granule) (t .rest .clock) (t .ready) (t .rest .queued)) _ (here _ _ (sym (c .before .entries-right .ensures) ∙ not-true _ (c .if2 .taken))))
 
 cast-blank-past : tie.Need-cast-blank-past
 cast-blank-past c = search needs
@@ -46,12 +51,9 @@ blank-past-requires c κs =
 returns-3 : tie.Need-returns-3
 unfolding inPasses
 returns-3 c =
-    let t = c .before .before .before .before .before .before .before .before .args .self in
-    let l1 : length (t .tasks) ≡ 16 = sym (length-map (t .tasks) _) ∙ c .before .before .before .before .before .before .before .before .good .0 .1 .1 .0 .1 .0 .1 in
-    let l2 : length (t .queue) ≡ 16 = sym (length-map (t .queue) _) ∙ c .before .before .before .before .before .before .before .before .good .0 .1 .1 .1 .0 .1 .0 .1 in
-    let l3 : length (t .rest .alarms) ≡ 32 = sym (length-map (t .rest .alarms) _) ∙ c .before .before .before .before .before .before .before .before .good .0 .1 .1 .1 .1 .1 .0 .1 .1 .1 .1 .1 .1 .0 .1 .0 .1 in
-    let l4 : length (t .rest .pool) ≡ 32 = sym (length-map (t .rest .pool) _) ∙ c .before .before .before .before .before .before .before .before .good .0 .1 .1 .1 .1 .1 .0 .1 .1 .1 .1 .1 .1 .1 .0 .1 .0 .1 in
-    sized t l1 l2 l3 l4 (beyond (inBounds (t .rest .count) (t .rest .granule) (t .rest .clock) (t .ready) (t .rest .queued)) _ (beyond (allOf (entryRight (t .rest .count) (t .rest .clock .0) (t .rest .flags)) (t .tasks)) _ (here _ _ (sym (c .before .blank-past .ensures) ∙ not-true _ (c .if3 .taken)))))
+    let s = c .before .before .before .before .before .before .before .before in
+    let t = s .args .self in
+    of-size s (beyond (inBounds (t .rest .count) (t .rest .granule) (t .rest .clock) (t .ready) (t .rest .queued)) _ (beyond (allOf (entryRight (t .rest .count) (t .rest .clock .0) (t .rest .flags)) (t .tasks)) _ (here _ _ (sym (c .before .blank-past .ensures) ∙ not-true _ (c .if3 .taken)))))
 
 all-alarms-requires : tie.Need-all-alarms-requires
 all-alarms-requires c κs = search needs
@@ -59,12 +61,9 @@ all-alarms-requires c κs = search needs
 returns-4 : tie.Need-returns-4
 unfolding inPasses
 returns-4 c =
-    let t = c .before .before .before .before .before .before .before .before .before .before .before .args .self in
-    let l1 : length (t .tasks) ≡ 16 = sym (length-map (t .tasks) _) ∙ c .before .before .before .before .before .before .before .before .before .before .before .good .0 .1 .1 .0 .1 .0 .1 in
-    let l2 : length (t .queue) ≡ 16 = sym (length-map (t .queue) _) ∙ c .before .before .before .before .before .before .before .before .before .before .before .good .0 .1 .1 .1 .0 .1 .0 .1 in
-    let l3 : length (t .rest .alarms) ≡ 32 = sym (length-map (t .rest .alarms) _) ∙ c .before .before .before .before .before .before .before .before .before .before .before .good .0 .1 .1 .1 .1 .1 .0 .1 .1 .1 .1 .1 .1 .0 .1 .0 .1 in
-    let l4 : length (t .rest .pool) ≡ 32 = sym (length-map (t .rest .pool) _) ∙ c .before .before .before .before .before .before .before .before .before .before .before .good .0 .1 .1 .1 .1 .1 .0 .1 .1 .1 .1 .1 .1 .1 .0 .1 .0 .1 in
-    sized t l1 l2 l3 l4 (beyond (inBounds (t .rest .count) (t .rest .granule) (t .rest .clock) (t .ready) (t .rest .queued)) _ (beyond (allOf (entryRight (t .rest .count) (t .rest .clock .0) (t .rest .flags)) (t .tasks)) _ (beyond (allOf isBlank (drop (t .rest .count) (t .tasks))) _ (here _ _ (sym (c .before .all-alarms .ensures) ∙ not-true _ (c .if4 .taken))))))
+    let s = c .before .before .before .before .before .before .before .before .before .before .before in
+    let t = s .args .self in
+    of-size s (beyond (inBounds (t .rest .count) (t .rest .granule) (t .rest .clock) (t .ready) (t .rest .queued)) _ (beyond (allOf (entryRight (t .rest .count) (t .rest .clock .0) (t .rest .flags)) (t .tasks)) _ (beyond (allOf isBlank (drop (t .rest .count) (t .tasks))) _ (here _ _ (sym (c .before .all-alarms .ensures) ∙ not-true _ (c .if4 .taken))))))
 
 cast-queue-right : tie.Need-cast-queue-right
 cast-queue-right c = search needs
@@ -78,12 +77,9 @@ queue-right-requires c κs =
 returns-5 : tie.Need-returns-5
 unfolding inPasses
 returns-5 c =
-    let t = c .before .before .before .before .before .before .before .before .before .before .before .before .before .before .before .args .self in
-    let l1 : length (t .tasks) ≡ 16 = sym (length-map (t .tasks) _) ∙ c .before .before .before .before .before .before .before .before .before .before .before .before .before .before .before .good .0 .1 .1 .0 .1 .0 .1 in
-    let l2 : length (t .queue) ≡ 16 = sym (length-map (t .queue) _) ∙ c .before .before .before .before .before .before .before .before .before .before .before .before .before .before .before .good .0 .1 .1 .1 .0 .1 .0 .1 in
-    let l3 : length (t .rest .alarms) ≡ 32 = sym (length-map (t .rest .alarms) _) ∙ c .before .before .before .before .before .before .before .before .before .before .before .before .before .before .before .good .0 .1 .1 .1 .1 .1 .0 .1 .1 .1 .1 .1 .1 .0 .1 .0 .1 in
-    let l4 : length (t .rest .pool) ≡ 32 = sym (length-map (t .rest .pool) _) ∙ c .before .before .before .before .before .before .before .before .before .before .before .before .before .before .before .good .0 .1 .1 .1 .1 .1 .0 .1 .1 .1 .1 .1 .1 .1 .0 .1 .0 .1 in
-    sized t l1 l2 l3 l4 (beyond (inBounds (t .rest .count) (t .rest .granule) (t .rest .clock) (t .ready) (t .rest .queued)) _ (beyond (allOf (entryRight (t .rest .count) (t .rest .clock .0) (t .rest .flags)) (t .tasks)) _ (beyond (allOf isBlank (drop (t .rest .count) (t .tasks))) _ (beyond (allOf (alarmRight (t .rest .clock .0)) (t .rest .alarms)) _ (here _ _ (sym (c .before .queue-right .ensures) ∙ not-true _ (c .if5 .taken)))))))
+    let s = c .before .before .before .before .before .before .before .before .before .before .before .before .before .before .before in
+    let t = s .args .self in
+    of-size s (beyond (inBounds (t .rest .count) (t .rest .granule) (t .rest .clock) (t .ready) (t .rest .queued)) _ (beyond (allOf (entryRight (t .rest .count) (t .rest .clock .0) (t .rest .flags)) (t .tasks)) _ (beyond (allOf isBlank (drop (t .rest .count) (t .tasks))) _ (beyond (allOf (alarmRight (t .rest .clock .0)) (t .rest .alarms)) _ (here _ _ (sym (c .before .queue-right .ensures) ∙ not-true _ (c .if5 .taken)))))))
 
 cast-pool-right : tie.Need-cast-pool-right
 cast-pool-right c = search needs
@@ -97,12 +93,9 @@ pool-right-requires c κs =
 returns-6 : tie.Need-returns-6
 unfolding inPasses
 returns-6 c =
-    let t = c .before .before .before .before .before .before .before .before .before .before .before .before .before .before .before .before .before .before .args .self in
-    let l1 : length (t .tasks) ≡ 16 = sym (length-map (t .tasks) _) ∙ c .before .before .before .before .before .before .before .before .before .before .before .before .before .before .before .before .before .before .good .0 .1 .1 .0 .1 .0 .1 in
-    let l2 : length (t .queue) ≡ 16 = sym (length-map (t .queue) _) ∙ c .before .before .before .before .before .before .before .before .before .before .before .before .before .before .before .before .before .before .good .0 .1 .1 .1 .0 .1 .0 .1 in
-    let l3 : length (t .rest .alarms) ≡ 32 = sym (length-map (t .rest .alarms) _) ∙ c .before .before .before .before .before .before .before .before .before .before .before .before .before .before .before .before .before .before .good .0 .1 .1 .1 .1 .1 .0 .1 .1 .1 .1 .1 .1 .0 .1 .0 .1 in
-    let l4 : length (t .rest .pool) ≡ 32 = sym (length-map (t .rest .pool) _) ∙ c .before .before .before .before .before .before .before .before .before .before .before .before .before .before .before .before .before .before .good .0 .1 .1 .1 .1 .1 .0 .1 .1 .1 .1 .1 .1 .1 .0 .1 .0 .1 in
-    sized t l1 l2 l3 l4 (onward _ _ _ (sym (c .before .before .before .before .before .before .before .before .before .before .before .before .before .before .before .before .in-bounds .ensures) ∙ not-false _ (c .before .before .before .before .before .before .before .before .before .before .before .before .before .before .before .if1 .left)) (onward _ _ _ (sym (c .before .before .before .before .before .before .before .before .before .before .before .before .before .entries-right .ensures) ∙ not-false _ (c .before .before .before .before .before .before .before .before .before .before .before .before .if2 .left)) (onward _ _ _ (sym (c .before .before .before .before .before .before .before .before .before .before .before .blank-past .ensures) ∙ not-false _ (c .before .before .before .before .before .before .before .before .before .before .if3 .left)) (onward _ _ _ (sym (c .before .before .before .before .before .before .before .before .all-alarms .ensures) ∙ not-false _ (c .before .before .before .before .before .before .before .if4 .left)) (onward _ _ _ (sym (c .before .before .before .before .queue-right .ensures) ∙ not-false _ (c .before .before .before .if5 .left)) (c .pool-right .ensures))))))
+    let s = c .before .before .before .before .before .before .before .before .before .before .before .before .before .before .before .before .before .before in
+    let t = s .args .self in
+    of-size s (onward _ _ _ (sym (c .before .before .before .before .before .before .before .before .before .before .before .before .before .before .before .before .in-bounds .ensures) ∙ not-false _ (c .before .before .before .before .before .before .before .before .before .before .before .before .before .before .before .if1 .left)) (onward _ _ _ (sym (c .before .before .before .before .before .before .before .before .before .before .before .before .before .entries-right .ensures) ∙ not-false _ (c .before .before .before .before .before .before .before .before .before .before .before .before .if2 .left)) (onward _ _ _ (sym (c .before .before .before .before .before .before .before .before .before .before .before .blank-past .ensures) ∙ not-false _ (c .before .before .before .before .before .before .before .before .before .before .if3 .left)) (onward _ _ _ (sym (c .before .before .before .before .before .before .before .before .all-alarms .ensures) ∙ not-false _ (c .before .before .before .before .before .before .before .if4 .left)) (onward _ _ _ (sym (c .before .before .before .before .queue-right .ensures) ∙ not-false _ (c .before .before .before .if5 .left)) (c .pool-right .ensures))))))
 
 pub is-well-formed-spec : {M : Type 1} → statement M
 is-well-formed-spec =

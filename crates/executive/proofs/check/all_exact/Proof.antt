@@ -3,7 +3,6 @@ use native.Mathlib.Omega.{arith}
 use Prim.Native.Nat.{_≤_, _-_}
 use mathlib.Core.Bool.{true}
 use borrow.Author.Tests.{not-true, not-false}
-use borrow.Author.Needs.{needs}
 use lib.ListN.{take}
 use Rattle.executive.specs.Check.{upTo, exactAt}
 use Rattle.executive.proofs.Tally.{all-none, all-more, all-not}

@@ -1,5 +1,5 @@
 use Rattle.executive.proofs.Both.{here, beyond, onward}
-use Rattle.executive.specs.Check.{entryInRange, taskTimely, isStarted, taskUnmet}
+use Rattle.executive.specs.Check.{entryInRange, taskTimely, isStarted}
 use mathlib.Core.Path.{sym, _∙_}
 use borrow.Author.Tests.{not-true, not-false, le-leb, lt-leb}
 use borrow.Author.Needs.{needs}

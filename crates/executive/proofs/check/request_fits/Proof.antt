@@ -1,5 +1,5 @@
 use Rattle.executive.proofs.Both.{here, beyond, onward}
-use Rattle.executive.specs.Check.{requestInRange, namesOthers}
+use Rattle.executive.specs.Check.{requestInRange}
 use mathlib.Core.Path.{sym, _∙_, refl}
 use borrow.Author.Tests.{not-true, not-false}
 use borrow.Author.Needs.{needs}
