@@ -36,3 +36,7 @@ nextOf f i (x ∷ xs) = pick (f x) i (nextOf f (suc i) xs)
 -- an alarm is due when it is running and its time has come
 abbrev pub isDue : ℕ → Millis → Bool
 isDue c a = pick (eqb (a .0) 0) false (leb (a .0) c)
+
+-- the priority p of the task numbered n; a number that names no task has none
+unfoldable pub levelAt : ℕ → ℕ → ℕ
+levelAt n p = pick (eqb n 0) 0 (pick (ltb 16 n) 0 p)
