@@ -5,6 +5,7 @@ mod cards;
 mod compare;
 mod coverage;
 mod executive;
+mod mixes;
 mod runs;
 mod speed;
 

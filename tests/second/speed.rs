@@ -1,9 +1,10 @@
 //! The speed of a bench program against this program, as processes on the same long inputs. What
 //! is timed is processor time, so that other work on the machine counts little.
 
-use crate::bench::{cut, LONGEST_INPUT};
+use crate::bench::cut;
 use crate::compare::Program;
 use crate::executive::fresh_from_start;
+use crate::mixes::{median, mixes};
 
 /// Processes timed together as one sample.
 const TOGETHER: u32 = 10;
@@ -23,12 +24,7 @@ pub fn speed(path: &str, rounds: usize) -> bool {
         idle[0] * 1e3,
         idle[1] * 1e3
     );
-    let mixes = [
-        ("ticks only", ticks()),
-        ("calls only", calls()),
-        ("wake-ups of many", wake_ups()),
-    ];
-    for (name, input) in mixes {
+    for (name, input) in mixes() {
         let outputs: Vec<_> = programs
             .iter()
             .map(|program| program.output(&input))
@@ -108,16 +104,6 @@ fn print_mix(name: &str, steps: usize, times: &[Vec<f64>]) {
     }
 }
 
-fn median(mut values: Vec<f64>) -> f64 {
-    values.sort_by(f64::total_cmp);
-    let middle = values.len() / 2;
-    if values.len() % 2 == 1 {
-        values[middle]
-    } else {
-        (values[middle - 1] + values[middle]) / 2.0
-    }
-}
-
 fn steps_of(input: &[u8]) -> usize {
     let used = fresh_from_start(input).map_or(0, |(_, used)| used);
     let mut rest = &input[used..];
@@ -127,57 +113,4 @@ fn steps_of(input: &[u8]) -> usize {
         rest = more;
     }
     steps
-}
-
-/// A granule of 10 ms, 16 tasks of own priority 7 all started, and a round as often as it fits.
-fn repeated(begin: &[u8], round: &[u8]) -> Vec<u8> {
-    let mut input = [&[0x40, 10][..], &[0x41, 7, 1].repeat(16), &[0x42], begin].concat();
-    while input.len() + round.len() <= LONGEST_INPUT {
-        input.extend_from_slice(round);
-    }
-    input
-}
-
-/// Half the tasks paused for hours, two alarms running, then ticks.
-fn ticks() -> Vec<u8> {
-    let begin = [
-        &[0x02, 4, 200].repeat(8)[..],
-        &[0x0B, 4, 9, 1, 0x0B, 4, 9, 2],
-    ]
-    .concat();
-    repeated(&begin, &[0x80])
-}
-
-/// Calls that come round to where they began: task 1 alone ends, and is started again.
-fn calls() -> Vec<u8> {
-    let round: [&[u8]; 17] = [
-        &[0x09, 1, 5],
-        &[0x09, 2, 5],
-        &[0x0A, 1, 0, 0, 0, 0x20],
-        &[0x09, 0, 5],
-        &[0x02, 0, 0],
-        &[0x03, 9],
-        &[0x04, 0x0F, 1],
-        &[0x05, 0x0F, 1, 0, 7],
-        &[0x05, 0x1F, 1, 0, 7],
-        &[0x00],
-        &[0x00],
-        &[0x00],
-        &[0x05, 0x4F, 1, 0, 1],
-        &[0x01, 5, 0],
-        &[0x00],
-        &[0x01, 0x80, 0],
-        &[0x0B, 0, 0, 5],
-    ];
-    repeated(&[0x00], &round.concat())
-}
-
-/// Fifteen tasks wait for flag 0, the last sets and resets it; then all pause, and a tick wakes them.
-fn wake_ups() -> Vec<u8> {
-    let waits = [0x0A, 0, 0, 0, 0, 1].repeat(15);
-    let pauses = [0x02, 0, 9].repeat(16);
-    repeated(
-        &[],
-        &[&waits[..], &[0x09, 1, 0, 0x09, 0, 0], &pauses, &[0x80]].concat(),
-    )
 }

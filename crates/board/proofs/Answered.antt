@@ -1,0 +1,125 @@
+-- The entry points' answers and buffers, a law for each of their outcomes.
+use Prim.Native.Nat.{ℕ, _≤_, _<_}
+use mathlib.Core.Path.{_≡_, refl, sym, ap, _∙_}
+use mathlib.Core.Bool.{Bool, true, false}
+use mathlib.Core.List.{List}
+use native.Mathlib.Omega.{arith}
+use lib.Dec.{ltb}
+use lib.ListN.{length}
+use borrow.Author.Tests.{eq-eqb, ne-eqb, lt-ltb, le-ltb}
+use Rattle.executive.specs.declared.Table.{Table}
+use Rattle.executive.specs.declared.Fresh.{Fresh}
+use Rattle.executive.specs.declared.Outcome.{Outcome}
+use Rattle.executive.specs.Queue.{pick}
+use Rattle.executive.specs.Check.{isWellFormed, Checked}
+use Rattle.executive.proofs.Checked.{well-formed-iff}
+use Rattle.executive.specs.Steps.{stepOf}
+use Rattle.executive.specs.Fresh.{freshOf}
+use Rattle.board.specs.Blocks.{written}
+use Rattle.board.specs.Image.{imageLength, imageOf, loadOf, isImageOf, isImage, FitsTable}
+use Rattle.board.specs.Promises.{Promises}
+use Rattle.board.specs.Entries.{checkNumber, CheckedImage, Holds, freshNumber, freshImage, answerLength, answerBytes, noTable, answerTo, imageAfter, stepNumber, stepImage, stepAnswer}
+use Rattle.board.proofs.Alike.{decide, never}
+use Rattle.board.proofs.Trips.{load-store, image-parts, stored, load-fits}
+
+-- ---- a stored table
+pub holds : (t : Table) (u : Table) {s : List ℕ} → FitsTable t → t ≡ u → s ≡ imageOf t → Holds s u
+holds t u f e i = record { image = rw i (stored t f); loads = ap loadOf i ∙ load-store t f ∙ e }
+
+-- ---- a fresh table
+module _ (g o : List ℕ) where
+  pub fresh-length : (length o ≡ imageLength → ⊥) → (1 ≡ freshNumber g o) × (o ≡ freshImage g o)
+  unfolding freshNumber freshImage
+  fresh-length h = let e = ne-eqb (length o) imageLength h in (rw e, rw e)
+
+  module _ (f : Fresh) (ef : f ≡ freshOf g) (n : length o ≡ imageLength) where
+    pub fresh-refused : (f .number ≡ 0 → ⊥) → (f .number ≡ freshNumber g o) × (o ≡ freshImage g o)
+    unfolding freshNumber freshImage
+    fresh-refused h = let e = eq-eqb (length o) imageLength n in let k = ne-eqb (f .number) 0 h in rw (e, ← ef) (refl, rw k)
+
+    pub fresh-made : {u : List ℕ} → f .number ≡ 0 → u ≡ imageOf (f .table) → (0 ≡ freshNumber g o) × (u ≡ freshImage g o)
+    unfolding freshNumber freshImage
+    fresh-made h eu = let e = eq-eqb (length o) imageLength n in let k = eq-eqb (f .number) 0 h in rw (e, ← ef) (sym h, rw k eu)
+
+-- ---- the bytes are an image, as it was found
+module _ (s : List ℕ) (t : Table) (et : t ≡ loadOf s) where
+  pub told : {b : Bool} → b ≡ isImageOf s t → isImage s ≡ b
+  told eb = ap (isImageOf s) (sym et) ∙ sym eb
+
+  pub check-none : isImage s ≡ false → CheckedImage s 1
+  unfolding checkNumber
+  check-none h = record { number = rw h; right = (λ e. absurd (omega arith), λ w. absurd (never (sym h ∙ w .image))) }
+
+  -- the table's own number, by the computed test
+  table-number : (n : ℕ) → Checked (loadOf s) n → n ≡ pick (isWellFormed (loadOf s)) 0 1
+  table-number n k =
+      decide (isWellFormed (loadOf s))
+      (λ e. rw e (k .right .1 (well-formed-iff (loadOf s) .0 e)))
+      (λ e. rw e (k .wrong .1 (λ w. never (sym e ∙ well-formed-iff (loadOf s) .1 w))))
+
+  pub check-image : (n : ℕ) → isImage s ≡ true → Checked t n → CheckedImage s n
+  unfolding checkNumber
+  check-image n h k =
+      let l : Checked (loadOf s) n = rw et at k in
+      record { number = rw h (table-number n l); right = (λ e. record { image = h; table = l .right .0 e }, λ w. l .right .1 (w .table)) }
+
+-- ---- a step
+module _ (s k o : List ℕ) where
+  pub step-short : length o < answerLength → (20 ≡ stepNumber s k o) × ((s ≡ stepImage s k o) × (o ≡ stepAnswer s k o))
+  unfolding stepNumber stepImage stepAnswer
+  step-short h = let e = lt-ltb (length o) answerLength h in (rw e, (rw e, rw e))
+
+  module _ (h : answerLength ≤ length o) where
+    pub step-none : {u : List ℕ} → isImage s ≡ false → u ≡ written o 0 (answerBytes noTable)
+        → (1 ≡ stepNumber s k o) × ((s ≡ stepImage s k o) × (u ≡ stepAnswer s k o))
+    unfolding stepNumber stepImage stepAnswer imageAfter answerTo
+    step-none i eu = let e = le-ltb (length o) answerLength h in (rw (e, i), (rw (e, i), rw (e, i) eu))
+
+    module _ (x : Outcome) (ex : x ≡ stepOf (loadOf s) k) (i : isImage s ≡ true) where
+      pub step-refused : {u : List ℕ} → (x .answer .number ≡ 0 → ⊥) → u ≡ written o 0 (answerBytes (x .answer))
+          → (x .answer .number ≡ stepNumber s k o) × ((s ≡ stepImage s k o) × (u ≡ stepAnswer s k o))
+      unfolding stepNumber stepImage stepAnswer imageAfter answerTo
+      step-refused n eu =
+          let e = le-ltb (length o) answerLength h in
+          let z = ne-eqb (x .answer .number) 0 n in
+          (rw (e, i, ← ex), (rw (e, i, ← ex, z), rw (e, i, ← ex) eu))
+
+      pub step-done : {u v : List ℕ} → x .answer .number ≡ 0 → u ≡ written o 0 (answerBytes (x .answer)) → v ≡ imageOf (x .table)
+          → (0 ≡ stepNumber s k o) × ((v ≡ stepImage s k o) × (u ≡ stepAnswer s k o))
+      unfolding stepNumber stepImage stepAnswer imageAfter answerTo
+      step-done n eu ev =
+          let e = le-ltb (length o) answerLength h in
+          let z = eq-eqb (x .answer .number) 0 n in
+          (rw (e, i, ← ex) (sym n), (rw (e, i, ← ex, z) ev, rw (e, i, ← ex) eu))
+
+-- ---- what is promised
+not-made : (g o : List ℕ) → (freshNumber g o ≡ 0 → ⊥) → freshImage g o ≡ o
+unfolding freshImage
+not-made g o h = rw (ne-eqb (freshNumber g o) 0 h)
+
+kept : (s k : List ℕ) → (answerTo s k .number ≡ 0 → ⊥) → imageAfter s k ≡ s
+unfolding imageAfter
+kept s k h = rw (ne-eqb (answerTo s k .number) 0 h)
+
+module _ (s k o : List ℕ) where
+  short : length o < answerLength → (stepImage s k o ≡ s) × (stepAnswer s k o ≡ o)
+  short h = let e = step-short s k o h in (sym (e .1 .0), sym (e .1 .1))
+
+  refused : (stepNumber s k o ≡ 0 → ⊥) → stepImage s k o ≡ s
+  unfolding stepNumber stepImage
+  refused h =
+      decide (ltb (length o) answerLength)
+      (λ e. rw e)
+      (λ e. rw e (kept s k (λ z. h (rw e z))))
+
+pub promises : Promises
+promises = record {
+  load-store = load-store;
+  store-load = λ s e. image-parts s e .1;
+  stored = stored;
+  sized = λ s e. image-parts s e .0;
+  load-fits = load-fits;
+  refused = refused;
+  short = short;
+  not-made = not-made;
+}

@@ -1,0 +1,9 @@
+-- The laws that belong to no one function.
+pub mod Digits
+pub mod Spans
+pub mod Pieces
+pub mod Alike
+pub mod Images
+pub mod Trips
+pub mod Answered
+pub mod Owned

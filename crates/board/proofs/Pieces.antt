@@ -1,0 +1,35 @@
+-- What several writes leave whose numbers come from calls: the front of a task's entry, an answer.
+use Prim.Native.Nat.{ℕ, _+_, _≤_}
+use mathlib.Core.Path.{_≡_, ap, _∙_}
+use mathlib.Core.List.{List, [], _∷_, _++_}
+use native.Mathlib.Omega.{arith}
+use lib.ListN.{length}
+use Rattle.records.specs.Numbers.{bytesIn}
+use Rattle.executive.specs.declared.Answer.{Answer}
+use Rattle.executive.specs.declared.State.{State}
+use Rattle.executive.specs.Queue.{one}
+use Rattle.board.specs.declared.storing.Coded.{Coded}
+use Rattle.board.specs.Blocks.{written}
+use Rattle.board.specs.Coding.{codedOf, frontBytes}
+use Rattle.board.specs.Entries.{answerLength, answerBytes}
+use Rattle.board.proofs.Spans.{and-then}
+
+pub wrote-front : (o : List ℕ) {p q r : List ℕ} (at own : ℕ) (s : State) (k : Coded) → k ≡ codedOf s → p ≡ written o at (own ∷ k .0 ∷ [])
+    → q ≡ written p (at + 2) (bytesIn 8 (k .1)) → r ≡ written q (at + 10) (bytesIn 4 (k .2)) → at + 14 ≤ length o → r ≡ written o at (frontBytes own s)
+wrote-front o at own s k e f g h l =
+    let a = own ∷ k .0 ∷ [] in
+    let b = bytesIn 8 (k .1) in
+    and-then o at (a ++ b) (bytesIn 4 (k .2)) (and-then o at a b f g (omega arith)) h (omega arith)
+    ∙ ap (λ (c : Coded). written o at (own ∷ c .0 ∷ (bytesIn 8 (c .1) ++ bytesIn 4 (c .2)))) e
+
+pub wrote-answer : (o : List ℕ) {p q r s : List ℕ} (a : Answer) (z v c : ℕ) → z ≡ one (a .z) → v ≡ one (a .v) → c ≡ one (a .c)
+    → p ≡ written o 0 (a .number ∷ z ∷ []) → q ≡ written p 2 (v ∷ c ∷ []) → r ≡ written q 4 (a .active .0 ∷ 0 ∷ []) → s ≡ written r 6 (bytesIn 2 (a .argument))
+    → answerLength ≤ length o → s ≡ written o 0 (answerBytes a)
+wrote-answer o a z v c ez ev ec e f g h l =
+    let x = a .number ∷ z ∷ [] in
+    let y = v ∷ c ∷ [] in
+    let w = a .active .0 ∷ 0 ∷ [] in
+    let b = bytesIn 2 (a .argument) in
+    let m = and-then o 0 x y e f (omega arith) in
+    let n = and-then o 0 (x ++ y) w m g (omega arith) in
+    and-then o 0 ((x ++ y) ++ w) b n h (omega arith) ∙ rw (ez, ev, ec)

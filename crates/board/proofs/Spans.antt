@@ -1,0 +1,142 @@
+-- Bytes written over a part of a buffer, a row of equal blocks written and read.
+use Prim.Native.Nat.{ℕ, zero, suc, _+_, _-_, _*_, _/_, _%_, _^_, _≤_, _<_}
+use mathlib.Core.Path.{_≡_, refl, sym, ap, _∙_}
+use mathlib.Core.List.{List, [], _∷_, _++_, append-nil, append-assoc}
+use native.Mathlib.Omega.{arith}
+use native.Mathlib.Nat.{add-zero, add-assoc, add-comm, suc-mul, zero-mul, not-suc-le-zero, le-of-suc-le-suc}
+use native.Mathlib.Numerals.{add-one}
+use lib.ListN.{length, getD, take, drop, set, length-append, length-drop, take-append-drop, drop-of-length-le}
+use lib.Seq.{take-at, drop-at, drop-drop, length-take-le, take-set-le, set-split, take-suc, take-suc-set, take-all}
+use Rattle.records.specs.Numbers.{bytesIn}
+use Rattle.board.specs.Blocks.{row, blocks, written}
+use Rattle.board.proofs.Digits.{length-bytes, bytes-last}
+
+-- ---- bytes written over a part of a buffer
+pub written-none : (o : List ℕ) (at : ℕ) → written o at [] ≡ o
+unfolding written
+written-none o at = rw (add-zero at) (take-append-drop at o)
+
+module _ (o : List ℕ) (at : ℕ) (bs : List ℕ) (h : at + length bs ≤ length o) where
+  head-length : length (take at o ++ bs) ≡ at + length bs
+  head-length = length-append (take at o) bs ∙ ap (λ n. n + length bs) (length-take-le at o (omega arith))
+
+  pub length-written : length (written o at bs) ≡ length o
+  unfolding written
+  length-written =
+      ap length (sym (append-assoc (take at o) bs (drop (at + length bs) o)))
+      ∙ length-append (take at o ++ bs) (drop (at + length bs) o)
+      ∙ rw (head-length, length-drop (at + length bs) o) (omega arith)
+
+  take-written : take (at + length bs) (written o at bs) ≡ take at o ++ bs
+  unfolding written
+  take-written = ap (take (at + length bs)) (sym (append-assoc (take at o) bs (drop (at + length bs) o))) ∙ take-at (take at o ++ bs) (drop (at + length bs) o) (at + length bs) head-length
+
+  drop-written : drop (at + length bs) (written o at bs) ≡ drop (at + length bs) o
+  unfolding written
+  drop-written = ap (drop (at + length bs)) (sym (append-assoc (take at o) bs (drop (at + length bs) o))) ∙ drop-at (take at o ++ bs) (drop (at + length bs) o) (at + length bs) head-length
+
+-- some bytes, and others right behind them
+pub written-then : (o : List ℕ) (at : ℕ) (a b : List ℕ) → at + length a + length b ≤ length o
+    → written (written o at a) (at + length a) b ≡ written o at (a ++ b)
+unfolding written
+written-then o at a b h =
+    let far : drop (at + length a + length b) (written o at a) ≡ drop (at + length a + length b) o =
+    sym (drop-drop (length b) (at + length a) (written o at a)) ∙ ap (drop (length b)) (drop-written o at a (omega arith)) ∙ drop-drop (length b) (at + length a) o in
+    let z : at + length (a ++ b) ≡ at + length a + length b = ap (λ n. at + n) (length-append a b) ∙ sym (add-assoc at (length a) (length b)) in
+    ap (λ l. l ++ (b ++ drop (at + length a + length b) (written o at a))) (take-written o at a (omega arith))
+    ∙ ap (λ l. (take at o ++ a) ++ (b ++ l)) far
+    ∙ append-assoc (take at o) a (b ++ drop (at + length a + length b) o)
+    ∙ ap (λ l. take at o ++ l) (sym (append-assoc a b (drop (at + length a + length b) o)))
+    ∙ ap (λ n. take at o ++ ((a ++ b) ++ drop n o)) (sym z)
+
+-- the same of the buffers that two writes leave
+pub and-then : (o : List ℕ) {p q : List ℕ} (at : ℕ) (a b : List ℕ) → p ≡ written o at a → q ≡ written p (at + length a) b → at + length a + length b ≤ length o → q ≡ written o at (a ++ b)
+and-then o at a b e f h = f ∙ ap (λ l. written l (at + length a) b) e ∙ written-then o at a b h
+
+-- a whole buffer
+pub written-whole : (o bs : List ℕ) → length bs ≡ length o → written o 0 bs ≡ bs
+unfolding written
+written-whole o bs e = let d : drop (0 + length bs) o ≡ [] = drop-of-length-le o {i = 0 + length bs} (omega arith) in rw d (append-nil bs)
+
+-- the byte right behind some bytes is written before them
+before : (o : List ℕ) (at : ℕ) (bs : List ℕ) (b : ℕ) → at + length bs < length o → written (set o (at + length bs) b) at bs ≡ written o at (bs ++ (b ∷ []))
+unfolding written
+before o at bs b h =
+    let n = at + length bs in
+    let d : drop n (set o n b) ≡ b ∷ drop (suc n) o = ap (drop n) (set-split o n b h) ∙ drop-at (take n o) (b ∷ drop (suc n) o) n (length-take-le n o (omega arith)) in
+    let z : at + length (bs ++ (b ∷ [])) ≡ suc n = ap (λ k. at + k) (length-append bs (b ∷ [])) ∙ omega arith in
+    ap (λ l. l ++ (bs ++ drop n (set o n b))) (take-set-le at o n b (omega arith))
+    ∙ ap (λ l. take at o ++ (bs ++ l)) d
+    ∙ ap (λ l. take at o ++ l) (sym (append-assoc bs (b ∷ []) (drop (suc n) o)))
+    ∙ ap (λ k. take at o ++ ((bs ++ (b ∷ [])) ++ drop k o)) (sym z)
+
+-- a number's last byte, then the others
+pub put-turn : (o : List ℕ) (at i n : ℕ) → 0 < i → at + i ≤ length o → n < 256 ^ i
+    → written (set o (at + (i - 1)) (n % 256)) at (bytesIn (i - 1) (n / 256)) ≡ written o at (bytesIn i n)
+put-turn o at zero n p h k = absurd (not-suc-le-zero p)
+put-turn o at (suc j) n p h k =
+    let z : suc j - 1 ≡ j = omega arith in
+    let l : length (bytesIn j (n / 256)) ≡ j = length-bytes j (n / 256) in
+    rw (z, bytes-last j n k)
+    (ap (λ m. written (set o (at + m) (n % 256)) at (bytesIn j (n / 256))) (sym l) ∙ before o at (bytesIn j (n / 256)) (n % 256) (omega arith))
+
+-- ---- a row of equal blocks: f makes w bytes of each element
+module _ {A : Type 0} (f : A → List ℕ) (w : ℕ) (size : (x : A) → length (f x) ≡ w) where
+  pub length-row : (xs : List A) → length (row f xs) ≡ length xs * w
+  unfolding row
+  length-row [] = sym (zero-mul w)
+  length-row (x ∷ xs) = length-append (f x) (row f xs) ∙ rw (size x, length-row xs, suc-mul (length xs) w) (add-comm w (length xs * w))
+
+  row-more : (xs : List A) (i : ℕ) (d : A) → i < length xs → row f (take (suc i) xs) ≡ row f (take i xs) ++ f (getD xs i d)
+  unfolding row
+  row-more [] i d h = absurd (not-suc-le-zero h)
+  row-more (x ∷ xs) zero d h = append-nil (f x)
+  row-more (x ∷ xs) (suc i) d h = ap (λ l. f x ++ l) (row-more xs i d (le-of-suc-le-suc h)) ∙ sym (append-assoc (f x) (row f (take i xs)) (f (getD xs i d)))
+
+  -- one block more is written, from `base` on
+  pub row-turn : (o q r : List ℕ) (xs : List A) (base i at : ℕ) (d : A)
+      → q ≡ written o base (row f (take i xs)) → at ≡ base + i * w → r ≡ written q at (f (getD xs i d))
+      → i < length xs → base + i * w + w ≤ length o → r ≡ written o base (row f (take (i + 1) xs))
+  row-turn o q r xs base i at d eq ea er h k =
+      let l : length (row f (take i xs)) ≡ i * w = length-row (take i xs) ∙ ap (λ n. n * w) (length-take-le i xs (omega arith)) in
+      let z : length (f (getD xs i d)) ≡ w = size (getD xs i d) in
+      er ∙ ap (λ p. written p at (f (getD xs i d))) eq
+      ∙ ap (λ n. written (written o base (row f (take i xs))) n (f (getD xs i d))) (ea ∙ ap (λ n. base + n) (sym l))
+      ∙ written-then o base (row f (take i xs)) (f (getD xs i d)) (omega arith)
+      ∙ ap (written o base) (sym (row-more xs i d h) ∙ ap (λ n. row f (take n xs)) (sym (add-one i)))
+
+  pub row-start : (o : List ℕ) (xs : List A) (base : ℕ) → o ≡ written o base (row f (take 0 xs))
+  unfolding row
+  row-start o xs base = sym (written-none o base)
+
+  pub row-end : (o q : List ℕ) (xs : List A) (base i : ℕ) → q ≡ written o base (row f (take i xs)) → length xs ≤ i → q ≡ written o base (row f xs)
+  row-end o q xs base i e h = e ∙ ap (λ l. written o base (row f l)) (take-all i xs h)
+
+-- ---- equal blocks that are read: f reads one at a place, the next is w places on
+module _ {A : Type 0} (f : ℕ → A) (w : ℕ) where
+  pub length-blocks : (n at : ℕ) → length (blocks f w n at) ≡ n
+  unfolding blocks
+  length-blocks zero at = refl
+  length-blocks (suc n) at = ap suc (length-blocks n (at + w))
+
+  pub block-at : (n at i : ℕ) (d : A) → i < n → getD (blocks f w n at) i d ≡ f (at + i * w)
+  unfolding blocks
+  block-at zero at i d h = absurd (not-suc-le-zero h)
+  block-at (suc n) at zero d h = ap f (sym (ap (λ k. at + k) (zero-mul w) ∙ add-zero at))
+  block-at (suc n) at (suc i) d h = block-at n (at + w) i d (le-of-suc-le-suc h) ∙ ap f (rw (suc-mul i w) (omega arith))
+
+  -- one block more is read: what stands up to it is right
+  pub block-turn : (n at i place : ℕ) (q : List A) (v : A) → length q ≡ n → take i q ≡ take i (blocks f w n at) → i < n → place ≡ at + i * w → v ≡ f place
+      → take (i + 1) (set q i v) ≡ take (i + 1) (blocks f w n at)
+  block-turn n at i place q v l e h ep ev =
+      let m : length (blocks f w n at) ≡ n = length-blocks n at in
+      rw (add-one i)
+      (take-suc-set q i v (omega arith)
+      ∙ ap (λ a. a ++ (v ∷ [])) e
+      ∙ ap (λ x. take i (blocks f w n at) ++ (x ∷ [])) (ev ∙ ap f ep ∙ sym (block-at n at i v h))
+      ∙ sym (take-suc (blocks f w n at) i v (omega arith)))
+
+  pub block-end : (n at i : ℕ) (q : List A) → length q ≡ n → take i q ≡ take i (blocks f w n at) → n ≤ i → q ≡ blocks f w n at
+  block-end n at i q l e h =
+      let m : length (blocks f w n at) ≡ n = length-blocks n at in
+      sym (take-all i q (omega arith)) ∙ e ∙ take-all i (blocks f w n at) (omega arith)

@@ -1,0 +1,74 @@
+-- What the entry points answer and leave in their buffers, for every input.
+use Prim.Native.Nat.{ℕ}
+use mathlib.Core.Path.{_≡_}
+use mathlib.Core.Bool.{true, false}
+use mathlib.Core.List.{List, [], _∷_}
+use mathlib.Core.Logic.{_↔_}
+use lib.Dec.{eqb, ltb}
+use lib.ListN.{length}
+use Rattle.records.specs.Numbers.{lay}
+use Rattle.executive.specs.declared.Answer.{Answer}
+use Rattle.executive.specs.declared.Table.{Table}
+use Rattle.executive.specs.Queue.{pick, one}
+use Rattle.executive.specs.Table.{nobody}
+use Rattle.executive.specs.WellFormed.{WellFormed}
+use Rattle.executive.specs.Check.{isWellFormed}
+use Rattle.executive.specs.Steps.{stepOf}
+use Rattle.executive.specs.Fresh.{freshOf}
+use Rattle.board.specs.Blocks.{written}
+use Rattle.board.specs.Image.{imageLength, imageOf, loadOf, isImage}
+
+-- ---- the check: 0 exactly where the bytes are the image of a well-formed table, else 1
+unfoldable pub checkNumber : List ℕ → ℕ
+checkNumber s = pick (isImage s) (pick (isWellFormed (loadOf s)) 0 1) 1
+
+pub record WellFormedImage (s : List ℕ) : Type 0 where
+  pub image : isImage s ≡ true
+  pub table : WellFormed (loadOf s)
+
+pub record CheckedImage (s : List ℕ) (n : ℕ) : Type 0 where
+  pub number : n ≡ checkNumber s
+  pub right : (n ≡ 0) ↔ WellFormedImage s
+
+-- ---- the bytes are an image, and load to this table
+pub record Holds (s : List ℕ) (t : Table) : Type 0 where
+  pub image : isImage s ≡ true
+  pub loads : loadOf s ≡ t
+
+-- ---- a fresh table from configuration bytes: 1 where the buffer has not the image's length, else the number of making it; written only with 0
+unfoldable pub freshNumber : List ℕ → List ℕ → ℕ
+freshNumber config o = pick (eqb (length o) imageLength) (freshOf config .number) 1
+
+unfoldable pub freshImage : List ℕ → List ℕ → List ℕ
+freshImage config o = pick (eqb (freshNumber config o) 0) (imageOf (freshOf config .table)) o
+
+-- ---- an answer's bytes: number, Z, V, C, active task, 0, argument
+abbrev pub answerWidths : List ℕ
+answerWidths = 1 ∷ 1 ∷ 1 ∷ 1 ∷ 1 ∷ 1 ∷ 2 ∷ []
+
+abbrev pub answerLength : ℕ
+answerLength = 8
+
+abbrev pub answerBytes : Answer → List ℕ
+answerBytes a = lay answerWidths (a .number ∷ one (a .z) ∷ one (a .v) ∷ one (a .c) ∷ a .active .0 ∷ 0 ∷ a .argument ∷ [])
+
+-- the answer to a step on bytes that are no image: they are no well-formed table
+abbrev pub noTable : Answer
+noTable = record { number = 1; z = false; v = false; c = false; active = nobody; argument = 0 }
+
+-- the executive's own answer, and the image of its own table where the step is accepted; a refusal keeps every byte
+unfoldable pub answerTo : List ℕ → List ℕ → Answer
+answerTo s call = pick (isImage s) (stepOf (loadOf s) call .answer) noTable
+
+unfoldable pub imageAfter : List ℕ → List ℕ → List ℕ
+imageAfter s call = pick (eqb (answerTo s call .number) 0) (imageOf (stepOf (loadOf s) call .table)) s
+
+-- ---- a step: 20 where the answer's buffer is too short, and then no byte of any buffer changes
+unfoldable pub stepNumber : List ℕ → List ℕ → List ℕ → ℕ
+stepNumber s call o = pick (ltb (length o) answerLength) 20 (answerTo s call .number)
+
+unfoldable pub stepImage : List ℕ → List ℕ → List ℕ → List ℕ
+stepImage s call o = pick (ltb (length o) answerLength) s (imageAfter s call)
+
+unfoldable pub stepAnswer : List ℕ → List ℕ → List ℕ → List ℕ
+stepAnswer s call o = pick (ltb (length o) answerLength) o (written o 0 (answerBytes (answerTo s call)))

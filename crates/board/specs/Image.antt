@@ -1,0 +1,222 @@
+-- The image of a table: 896 bytes, numbers big-endian. docs/TABLE.md has the layout in words.
+use Prim.Native.Nat.{ℕ, _+_}
+use mathlib.Core.Bool.{Bool, false}
+use mathlib.Core.List.{List, [], _∷_, _++_}
+use lib.Dec.{eqb}
+use lib.ListN.{length, getD}
+use Rattle.records.specs.declared.TaskNo.{TaskNo}
+use Rattle.records.specs.Numbers.{lay, cut, Fits}
+use Rattle.executive.specs.declared.Millis.{Millis}
+use Rattle.executive.specs.declared.Mode.the-variants.{Any, All}
+use Rattle.executive.specs.declared.State.{State}
+use Rattle.executive.specs.declared.State.the-variants.{Dormant, Ready, Paused, Due, Flags, AwaitStart, AwaitEnd}
+use Rattle.executive.specs.declared.Task.{Task}
+use Rattle.executive.specs.declared.Request.{Request}
+use Rattle.executive.specs.declared.Table.{Table}
+use Rattle.executive.specs.Queue.{pick}
+use Rattle.executive.specs.WellFormed.{Sizes}
+use Rattle.board.specs.Blocks.{row, blocks, Each, same}
+
+-- ---- a state as three numbers: its byte, its time and its mask, each 0 where it has none
+abbrev pub tagOf : State → ℕ
+tagOf Dormant = 0
+tagOf Ready = 1
+tagOf (Paused at) = 2
+tagOf (Due at) = 3
+tagOf (Flags Any mask) = 4
+tagOf (Flags All mask) = 5
+tagOf AwaitStart = 6
+tagOf AwaitEnd = 7
+
+abbrev pub timeOf : State → ℕ
+timeOf Dormant = 0
+timeOf Ready = 0
+timeOf (Paused at) = at .0
+timeOf (Due at) = at .0
+timeOf (Flags m mask) = 0
+timeOf AwaitStart = 0
+timeOf AwaitEnd = 0
+
+abbrev pub maskOf : State → ℕ
+maskOf Dormant = 0
+maskOf Ready = 0
+maskOf (Paused at) = 0
+maskOf (Due at) = 0
+maskOf (Flags m mask) = mask
+maskOf AwaitStart = 0
+maskOf AwaitEnd = 0
+
+-- the state of three numbers; a byte that is no state's is a wait for any flag of no mask, which no well-formed table holds
+unfoldable pub stateOf : ℕ → ℕ → ℕ → State
+stateOf tag time mask =
+    pick (eqb tag 0) Dormant
+    (pick (eqb tag 1) Ready
+    (pick (eqb tag 2) (Paused (record { 0 = time }))
+    (pick (eqb tag 3) (Due (record { 0 = time }))
+    (pick (eqb tag 4) (Flags Any mask)
+    (pick (eqb tag 5) (Flags All mask)
+    (pick (eqb tag 6) AwaitStart
+    (pick (eqb tag 7) AwaitEnd
+    (Flags Any 0))))))))
+
+-- ---- the widths of each block's numbers
+-- own priority, state, time, mask, priority, argument, last scheduled start, end waiter
+abbrev pub taskWidths : List ℕ
+taskWidths = 1 ∷ 1 ∷ 8 ∷ 4 ∷ 1 ∷ 2 ∷ 8 ∷ 1 ∷ []
+
+-- a place of the queue
+abbrev pub placeWidths : List ℕ
+placeWidths = 1 ∷ []
+
+-- ready, count, granule, queued, clock, flags
+abbrev pub headWidths : List ℕ
+headWidths = 1 ∷ 1 ∷ 1 ∷ 1 ∷ 8 ∷ 4 ∷ []
+
+abbrev pub alarmWidths : List ℕ
+alarmWidths = 8 ∷ []
+
+-- target, priority, argument, start waiter, end waiter
+abbrev pub requestWidths : List ℕ
+requestWidths = 1 ∷ 1 ∷ 2 ∷ 1 ∷ 1 ∷ []
+
+-- ---- the numbers of each block, and the block's value from its numbers
+abbrev pub taskNumbers : Task → List ℕ
+taskNumbers e =
+    e .own ∷ tagOf (e .state) ∷ timeOf (e .state) ∷ maskOf (e .state) ∷ e .priority ∷ e .argument ∷ e .start .0 ∷ e .«end_waiter» .0 ∷ []
+
+abbrev pub taskOf : List ℕ → Task
+taskOf xs = record {
+  own = getD xs 0 0;
+  state = stateOf (getD xs 1 0) (getD xs 2 0) (getD xs 3 0);
+  priority = getD xs 4 0;
+  argument = getD xs 5 0;
+  start = record { 0 = getD xs 6 0 };
+  «end_waiter» = record { 0 = getD xs 7 0 };
+}
+
+abbrev pub placeNumbers : TaskNo → List ℕ
+placeNumbers k = k .0 ∷ []
+
+abbrev pub placeOf : List ℕ → TaskNo
+placeOf xs = record { 0 = getD xs 0 0 }
+
+abbrev pub headNumbers : Table → List ℕ
+headNumbers t = t .ready ∷ t .rest .count ∷ t .rest .granule ∷ t .rest .queued ∷ t .rest .clock .0 ∷ t .rest .flags ∷ []
+
+abbrev pub alarmNumbers : Millis → List ℕ
+alarmNumbers at = at .0 ∷ []
+
+abbrev pub alarmOf : List ℕ → Millis
+alarmOf xs = record { 0 = getD xs 0 0 }
+
+abbrev pub requestNumbers : Request → List ℕ
+requestNumbers r = r .target .0 ∷ r .priority ∷ r .argument ∷ r .«start_waiter» .0 ∷ r .«end_waiter» .0 ∷ []
+
+abbrev pub requestOf : List ℕ → Request
+requestOf xs = record {
+  target = record { 0 = getD xs 0 0 };
+  priority = getD xs 1 0;
+  argument = getD xs 2 0;
+  «start_waiter» = record { 0 = getD xs 3 0 };
+  «end_waiter» = record { 0 = getD xs 4 0 };
+}
+
+-- ---- the image: where each part begins, and how long it all is
+abbrev pub queueAt : ℕ
+queueAt = 416
+
+abbrev pub headAt : ℕ
+headAt = 432
+
+abbrev pub alarmsAt : ℕ
+alarmsAt = 448
+
+abbrev pub poolAt : ℕ
+poolAt = 704
+
+abbrev pub imageLength : ℕ
+imageLength = 896
+
+abbrev pub taskBytes : Task → List ℕ
+taskBytes e = lay taskWidths (taskNumbers e)
+
+abbrev pub placeBytes : TaskNo → List ℕ
+placeBytes k = lay placeWidths (placeNumbers k)
+
+abbrev pub headBytes : Table → List ℕ
+headBytes t = lay headWidths (headNumbers t)
+
+abbrev pub alarmBytes : Millis → List ℕ
+alarmBytes at = lay alarmWidths (alarmNumbers at)
+
+abbrev pub requestBytes : Request → List ℕ
+requestBytes r = lay requestWidths (requestNumbers r)
+
+unfoldable pub imageOf : Table → List ℕ
+imageOf t =
+    row taskBytes (t .tasks)
+    ++ (row placeBytes (t .queue)
+    ++ (headBytes t
+    ++ (row alarmBytes (t .rest .alarms)
+    ++ row requestBytes (t .rest .pool))))
+
+-- storing into a buffer: 0 and the image, or 1 where the buffer has not its length, and then it stays as it was
+unfoldable pub storeNumber : List ℕ → ℕ
+storeNumber o = pick (eqb (length o) imageLength) 0 1
+
+unfoldable pub storeBytes : Table → List ℕ → List ℕ
+storeBytes t o = pick (eqb (length o) imageLength) (imageOf t) o
+
+-- ---- the table of any bytes; those past the end read as 0
+abbrev pub taskFrom : List ℕ → ℕ → Task
+taskFrom s at = taskOf (cut taskWidths at s)
+
+abbrev pub placeFrom : List ℕ → ℕ → TaskNo
+placeFrom s at = placeOf (cut placeWidths at s)
+
+abbrev pub alarmFrom : List ℕ → ℕ → Millis
+alarmFrom s at = alarmOf (cut alarmWidths at s)
+
+abbrev pub requestFrom : List ℕ → ℕ → Request
+requestFrom s at = requestOf (cut requestWidths at s)
+
+-- the table of the head's numbers and the four arrays
+abbrev pub tableOf : List ℕ → List Task → List TaskNo → List Millis → List Request → Table
+tableOf xs ts q al rs = record {
+  tasks = ts;
+  queue = q;
+  ready = getD xs 0 0;
+  rest = record {
+    count = getD xs 1 0;
+    granule = getD xs 2 0;
+    clock = record { 0 = getD xs 4 0 };
+    flags = getD xs 5 0;
+    alarms = al;
+    pool = rs;
+    queued = getD xs 3 0;
+  };
+}
+
+unfoldable pub loadOf : List ℕ → Table
+loadOf s =
+    tableOf (cut headWidths headAt s)
+    (blocks (taskFrom s) 26 16 0)
+    (blocks (placeFrom s) 1 16 queueAt)
+    (blocks (alarmFrom s) 8 32 alarmsAt)
+    (blocks (requestFrom s) 6 32 poolAt)
+
+-- ---- an image is byte for byte the image of the table that it loads to
+unfoldable pub isImageOf : List ℕ → Table → Bool
+isImageOf s t = pick (eqb (length s) imageLength) (same (imageOf t) s) false
+
+abbrev pub isImage : List ℕ → Bool
+isImage s = isImageOf s (loadOf s)
+
+-- ---- every number fits its width, and every array has its length: so it is of each table that code holds
+pub record FitsTable (t : Table) : Type 0 where
+  pub sizes : Sizes t
+  pub tasks : Each (λ e. Fits taskWidths (taskNumbers e)) (t .tasks)
+  pub queue : Each (λ k. Fits placeWidths (placeNumbers k)) (t .queue)
+  pub head : Fits headWidths (headNumbers t)
+  pub alarms : Each (λ a. Fits alarmWidths (alarmNumbers a)) (t .rest .alarms)
+  pub pool : Each (λ r. Fits requestWidths (requestNumbers r)) (t .rest .pool)

@@ -1,0 +1,30 @@
+// A step's answer as bytes.
+use crate::numbers;
+use crate::storing;
+use executive::Answer;
+ghost use mathlib.Core.Path.{_≡_};
+ghost use Prim.Native.Nat.{_≤_};
+ghost use lib.ListN.{length};
+ghost use Rattle.executive.specs.Queue.{one};
+ghost use Rattle.board.specs.Blocks.{written};
+ghost use Rattle.board.specs.Entries.{answerLength, answerBytes};
+
+fn bit(mark: bool) -> u8
+    ensures { λ r. ⌜ r ≡ one mark ⌝ }
+{
+    if mark {
+        return 1;
+    }
+    0
+}
+
+// Writes an answer over 8 bytes: number, Z, V, C, the active task, 0, the argument.
+pub(crate) fn put_answer(out: &mut [u8], answer: Answer)
+    requires { ⌜ answerLength ≤ length (now out) ⌝ }
+    ensures { λ _. ⌜ now (out .exit) ≡ written (now (out .entry)) 0 (answerBytes answer) ⌝ }
+{
+    storing::put_both(out, 0, answer.number, bit(answer.z));
+    storing::put_both(out, 2, bit(answer.v), bit(answer.c));
+    storing::put_both(out, 4, answer.active.0, 0);
+    numbers::put(out, 6, 2, answer.argument as u64);
+}

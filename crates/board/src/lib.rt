@@ -1,0 +1,86 @@
+// The board library: the executive's table as bytes, and entry points for C, on byte slices and numbers only.
+use executive::Answer;
+use executive::configuration;
+use records::TaskNo;
+ghost use mathlib.Core.Path.{_≡_};
+ghost use Rattle.executive.specs.Fresh.{freshOf};
+ghost use Rattle.executive.specs.Steps.{stepOf};
+ghost use Rattle.board.specs.Image.{loadOf};
+ghost use Rattle.board.specs.Entries.{CheckedImage, Holds, freshNumber, freshImage, stepNumber, stepImage, stepAnswer};
+
+pub mod answers;
+pub mod checking;
+pub mod loading;
+pub mod numbers;
+pub mod promises;
+pub mod storing;
+
+// Makes a fresh table from configuration bytes: 0 and its image written; 2 where they are no configuration, 1 where the buffer has not
+// the image's length, and then no byte is changed.
+#[no_mangle]
+pub extern "C" fn quermanic_fresh(config: &[u8], image: &mut [u8]) -> u8
+    ensures { λ r. ⌜ r ≡ freshNumber (now (config .entry)) (now (image .entry)) ⌝ }
+    ensures { λ _. ⌜ now (image .exit) ≡ freshImage (now (config .entry)) (now (image .entry)) ⌝ }
+    ensures { λ r. ⌜ (r ≡ 0 → Holds (now (image .exit)) (freshOf (now (config .entry)) .table)) ⌝ }
+{
+    if image.len() != 896 {
+        return 1;
+    }
+    let fresh = configuration::fresh(config);
+    let number = fresh.number;
+    if number != 0 {
+        return number;
+    }
+    let table = fresh.table;
+    storing::put_table(image, table);
+    0
+}
+
+// Checks an image: 0 where it is that of a well-formed table, else 1.
+#[no_mangle]
+pub extern "C" fn quermanic_check(image: &[u8]) -> u8
+    ensures { λ r. ⌜ CheckedImage (now (image .entry)) r ⌝ }
+{
+    let table = loading::load(image);
+    if !checking::is_image_of(image, table) {
+        return 1;
+    }
+    table.check()
+}
+
+// Takes a step: the answer's number, and the answer at the start of its buffer. Accepted (0), the image is rewritten; refused, none of
+// its bytes is changed. Where the answer's buffer is shorter than 8 bytes: 20, and no byte of any buffer is changed.
+#[no_mangle]
+pub extern "C" fn quermanic_step(image: &mut [u8], call: &[u8], answer: &mut [u8]) -> u8
+    ensures { λ r. ⌜ r ≡ stepNumber (now (image .entry)) (now (call .entry)) (now (answer .entry)) ⌝ }
+    ensures { λ _. ⌜ now (image .exit) ≡ stepImage (now (image .entry)) (now (call .entry)) (now (answer .entry)) ⌝ }
+    ensures { λ _. ⌜ now (answer .exit) ≡ stepAnswer (now (image .entry)) (now (call .entry)) (now (answer .entry)) ⌝ }
+    ensures { λ r. ⌜ (r ≡ 0 → Holds (now (image .exit)) (stepOf (loadOf (now (image .entry))) (now (call .entry)) .table)) ⌝ }
+{
+    if answer.len() < 8 {
+        return 20;
+    }
+    let table = loading::load(image);
+    if !checking::is_image_of(image, table) {
+        let none = Answer {
+            number: 1,
+            z: false,
+            v: false,
+            c: false,
+            active: TaskNo(0),
+            argument: 0,
+        };
+        answers::put_answer(answer, none);
+        return 1;
+    }
+    let outcome = table.step(call);
+    let said = outcome.answer;
+    answers::put_answer(answer, said);
+    let number = said.number;
+    if number != 0 {
+        return number;
+    }
+    let next = outcome.table;
+    storing::put_table(image, next);
+    0
+}

@@ -1,0 +1,158 @@
+// Loading: from the bytes of an image to the table. Any bytes load; those past the end read as 0.
+use crate::numbers;
+use executive::Millis;
+use executive::Mode;
+use executive::Request;
+use executive::Rest;
+use executive::State;
+use executive::Table;
+use executive::Task;
+use records::TaskNo;
+ghost use mathlib.Core.Path.{_≡_};
+ghost use Prim.Native.Nat.{_≤_};
+ghost use Rattle.board.specs.Blocks.{blocks};
+ghost use Rattle.board.specs.Image.{stateOf, taskFrom, placeFrom, alarmFrom, requestFrom, queueAt, alarmsAt, poolAt, loadOf};
+
+// The state of a state's byte, time and mask. A byte that is no state's gives a wait that no well-formed table holds.
+fn state_of(tag: u8, time: u64, mask: u32) -> State
+    ensures { λ r. ⌜ r ≡ stateOf tag time mask ⌝ }
+{
+    match tag {
+        0 => State::Dormant,
+        1 => State::Ready,
+        2 => State::Paused(Millis(time)),
+        3 => State::Due(Millis(time)),
+        4 => State::Flags(Mode::Any, mask),
+        5 => State::Flags(Mode::All, mask),
+        6 => State::AwaitStart,
+        7 => State::AwaitEnd,
+        _ => State::Flags(Mode::Any, 0),
+    }
+}
+
+// The task's entry at a place.
+fn task_in(bytes: &[u8], at: usize) -> Task
+    requires { ⌜ at ≤ 800 ⌝ }
+    ensures { λ r. ⌜ r ≡ taskFrom (now (bytes .entry)) at ⌝ }
+{
+    let own = numbers::byte_in(bytes, at);
+    let tag_at = at + 1;
+    let tag = numbers::byte_in(bytes, tag_at);
+    let time_at = tag_at + 1;
+    let time = numbers::long_in(bytes, time_at);
+    let mask_at = time_at + 8;
+    let mask = numbers::word_in(bytes, mask_at);
+    let priority_at = mask_at + 4;
+    let priority = numbers::byte_in(bytes, priority_at);
+    let argument_at = priority_at + 1;
+    let argument = numbers::pair_in(bytes, argument_at);
+    let start_at = argument_at + 2;
+    let start = numbers::long_in(bytes, start_at);
+    let end_waiter = numbers::byte_in(bytes, start_at + 8);
+    Task {
+        own,
+        state: state_of(tag, time, mask),
+        priority,
+        argument,
+        start: Millis(start),
+        end_waiter: TaskNo(end_waiter),
+    }
+}
+
+// The request at a place.
+fn request_in(bytes: &[u8], at: usize) -> Request
+    requires { ⌜ at ≤ 890 ⌝ }
+    ensures { λ r. ⌜ r ≡ requestFrom (now (bytes .entry)) at ⌝ }
+{
+    let target = numbers::byte_in(bytes, at);
+    let priority_at = at + 1;
+    let priority = numbers::byte_in(bytes, priority_at);
+    let argument_at = priority_at + 1;
+    let argument = numbers::pair_in(bytes, argument_at);
+    let start_waiter_at = argument_at + 2;
+    let start_waiter = numbers::byte_in(bytes, start_waiter_at);
+    let end_waiter = numbers::byte_in(bytes, start_waiter_at + 1);
+    Request {
+        target: TaskNo(target),
+        priority,
+        argument,
+        start_waiter: TaskNo(start_waiter),
+        end_waiter: TaskNo(end_waiter),
+    }
+}
+
+fn tasks_in(bytes: &[u8]) -> [Task; 16]
+    ensures { λ r. ⌜ r ≡ blocks (taskFrom (now (bytes .entry))) 26 16 0 ⌝ }
+{
+    let first = task_in(bytes, 0);
+    let mut tasks = [first; 16];
+    let mut i: usize = 0;
+    while i < 16 {
+        tasks[i] = task_in(bytes, i * 26);
+        i += 1;
+    }
+    tasks
+}
+
+fn queue_in(bytes: &[u8]) -> [TaskNo; 16]
+    ensures { λ r. ⌜ r ≡ blocks (placeFrom (now (bytes .entry))) 1 16 queueAt ⌝ }
+{
+    let mut queue = [TaskNo(0); 16];
+    let mut i: usize = 0;
+    while i < 16 {
+        queue[i] = TaskNo(numbers::byte_in(bytes, 416 + i));
+        i += 1;
+    }
+    queue
+}
+
+fn alarms_in(bytes: &[u8]) -> [Millis; 32]
+    ensures { λ r. ⌜ r ≡ blocks (alarmFrom (now (bytes .entry))) 8 32 alarmsAt ⌝ }
+{
+    let mut alarms = [Millis(0); 32];
+    let mut i: usize = 0;
+    while i < 32 {
+        alarms[i] = Millis(numbers::long_in(bytes, 448 + i * 8));
+        i += 1;
+    }
+    alarms
+}
+
+fn pool_in(bytes: &[u8]) -> [Request; 32]
+    ensures { λ r. ⌜ r ≡ blocks (requestFrom (now (bytes .entry))) 6 32 poolAt ⌝ }
+{
+    let first = request_in(bytes, 704);
+    let mut pool = [first; 32];
+    let mut i: usize = 0;
+    while i < 32 {
+        pool[i] = request_in(bytes, 704 + i * 6);
+        i += 1;
+    }
+    pool
+}
+
+// The table of any bytes.
+pub fn load(bytes: &[u8]) -> Table
+    ensures { λ r. ⌜ r ≡ loadOf (now (bytes .entry)) ⌝ }
+{
+    let tasks = tasks_in(bytes);
+    let queue = queue_in(bytes);
+    let alarms = alarms_in(bytes);
+    let pool = pool_in(bytes);
+    let clock = numbers::long_in(bytes, 436);
+    let rest = Rest {
+        count: numbers::byte_in(bytes, 433),
+        granule: numbers::byte_in(bytes, 434),
+        clock: Millis(clock),
+        flags: numbers::word_in(bytes, 444),
+        alarms,
+        pool,
+        queued: numbers::byte_in(bytes, 435),
+    };
+    Table {
+        tasks,
+        queue,
+        ready: numbers::byte_in(bytes, 432),
+        rest,
+    }
+}

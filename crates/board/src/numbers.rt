@@ -1,0 +1,72 @@
+// One number of some bytes, big-endian, at a place of a buffer: read and written.
+ghost use mathlib.Core.Path.{_≡_};
+ghost use Prim.Native.Nat.{_+_, _≤_, _<_, _^_};
+ghost use lib.ListN.{length, getD};
+ghost use Rattle.records.specs.Numbers.{numberOf, part, bytesIn};
+ghost use Rattle.board.specs.Blocks.{written, Number, Room};
+
+// The byte at a place, and 0 past the end.
+fn byte_at(bytes: &[u8], at: usize) -> u64
+    ensures { λ r. ⌜ (r ≡ getD (now (bytes .entry)) at 0) × (r < 256) ⌝ }
+{
+    if at < bytes.len() {
+        return bytes[at] as u64;
+    }
+    0
+}
+
+// The number of w bytes from a place on, the first byte the highest.
+pub(crate) fn number_at(bytes: &[u8], at: usize, w: usize) -> u64
+    requires { ⌜ (at ≤ 896) × (w ≤ 8) ⌝ }
+    ensures { λ r. ⌜ Number (now (bytes .entry)) at w r ⌝ }
+{
+    let mut n: u64 = 0;
+    let mut i: usize = 0;
+    while i < w {
+        n = n * 256 + byte_at(bytes, at + i);
+        i += 1;
+    }
+    n
+}
+
+pub(crate) fn byte_in(bytes: &[u8], at: usize) -> u8
+    requires { ⌜ at ≤ 896 ⌝ }
+    ensures { λ r. ⌜ r ≡ numberOf (part 1 at (now (bytes .entry))) ⌝ }
+{
+    number_at(bytes, at, 1) as u8
+}
+
+pub(crate) fn pair_in(bytes: &[u8], at: usize) -> u16
+    requires { ⌜ at ≤ 896 ⌝ }
+    ensures { λ r. ⌜ r ≡ numberOf (part 2 at (now (bytes .entry))) ⌝ }
+{
+    number_at(bytes, at, 2) as u16
+}
+
+pub(crate) fn word_in(bytes: &[u8], at: usize) -> u32
+    requires { ⌜ at ≤ 896 ⌝ }
+    ensures { λ r. ⌜ r ≡ numberOf (part 4 at (now (bytes .entry))) ⌝ }
+{
+    number_at(bytes, at, 4) as u32
+}
+
+pub(crate) fn long_in(bytes: &[u8], at: usize) -> u64
+    requires { ⌜ at ≤ 896 ⌝ }
+    ensures { λ r. ⌜ r ≡ numberOf (part 8 at (now (bytes .entry))) ⌝ }
+{
+    number_at(bytes, at, 8)
+}
+
+// Writes a number over w bytes from a place on, the highest first.
+pub(crate) fn put(out: &mut [u8], at: usize, w: usize, x: u64)
+    requires { ⌜ Room (now out) at w x ⌝ }
+    ensures { λ _. ⌜ now (out .exit) ≡ written (now (out .entry)) at (bytesIn w x) ⌝ }
+{
+    let mut n = x;
+    let mut i = w;
+    while 0 < i {
+        i -= 1;
+        out[at + i] = (n % 256) as u8;
+        n = n / 256;
+    }
+}

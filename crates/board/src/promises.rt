@@ -1,0 +1,19 @@
+// What is promised of the image and of the entry points' definitions.
+use crate::loading;
+use crate::storing;
+use executive::Table;
+ghost use mathlib.Core.Path.{_≡_};
+ghost use Rattle.board.specs.Promises.{Promises};
+
+// Stores a table and loads its image: the same table.
+pub fn there_and_back(table: Table) -> Table
+    ensures { λ r. ⌜ r ≡ table ⌝ }
+{
+    let mut image = [0u8; 896];
+    storing::put_table(&mut image, table);
+    loading::load(&image)
+}
+
+fn promised()
+    ensures { λ r. ⌜ Promises ⌝ }
+{}

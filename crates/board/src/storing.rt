@@ -1,0 +1,188 @@
+// Storing: from a table to its image, in a lent buffer.
+use crate::numbers;
+use executive::Millis;
+use executive::Mode;
+use executive::Request;
+use executive::Rest;
+use executive::State;
+use executive::Table;
+use executive::Task;
+use records::TaskNo;
+ghost use mathlib.Core.Path.{_≡_};
+ghost use mathlib.Core.List.{[], _∷_};
+ghost use Prim.Native.Nat.{_+_, _≤_};
+ghost use lib.ListN.{length};
+ghost use Rattle.board.specs.Blocks.{row, written};
+ghost use Rattle.board.specs.Image.{taskBytes, placeBytes, alarmBytes, requestBytes, headBytes, queueAt, headAt, alarmsAt, poolAt, imageLength, imageOf, storeNumber, storeBytes};
+ghost use Rattle.board.specs.Coding.{codedOf, frontBytes, runBytes, headOf};
+
+// A state's byte, time and mask; time and mask are 0 where it has none.
+struct Coded(u8, u64, u32);
+
+fn code_of(state: State) -> Coded
+    ensures { λ r. ⌜ r ≡ codedOf state ⌝ }
+{
+    match state {
+        State::Dormant => Coded(0, 0, 0),
+        State::Ready => Coded(1, 0, 0),
+        State::Paused(at) => Coded(2, at.0, 0),
+        State::Due(at) => Coded(3, at.0, 0),
+        State::Flags(mode, mask) => match mode {
+            Mode::Any => Coded(4, 0, mask),
+            Mode::All => Coded(5, 0, mask),
+        },
+        State::AwaitStart => Coded(6, 0, 0),
+        State::AwaitEnd => Coded(7, 0, 0),
+    }
+}
+
+// Writes two bytes from a place on.
+pub(crate) fn put_both(out: &mut [u8], at: usize, a: u8, b: u8)
+    requires { ⌜ at + 2 ≤ length (now out) ⌝ }
+    ensures { λ _. ⌜ now (out .exit) ≡ written (now (out .entry)) at (a ∷ b ∷ []) ⌝ }
+{
+    numbers::put(out, at, 1, a as u64);
+    numbers::put(out, at + 1, 1, b as u64);
+}
+
+// Writes the front of a task's entry, its own priority and its state, over 14 bytes.
+fn put_state(out: &mut [u8], at: usize, own: u8, state: State)
+    requires { ⌜ at + 14 ≤ length (now out) ⌝ }
+    ensures { λ _. ⌜ now (out .exit) ≡ written (now (out .entry)) at (frontBytes own state) ⌝ }
+{
+    let code = code_of(state);
+    put_both(out, at, own, code.0);
+    numbers::put(out, at + 2, 8, code.1);
+    numbers::put(out, at + 10, 4, code.2 as u64);
+}
+
+// Writes the rest of a task's entry, of its run, over 12 bytes.
+fn put_run(out: &mut [u8], at: usize, task: Task)
+    requires { ⌜ at + 12 ≤ length (now out) ⌝ }
+    ensures { λ _. ⌜ now (out .exit) ≡ written (now (out .entry)) at (runBytes task) ⌝ }
+{
+    numbers::put(out, at, 1, task.priority as u64);
+    numbers::put(out, at + 1, 2, task.argument as u64);
+    numbers::put(out, at + 3, 8, task.start.0);
+    numbers::put(out, at + 11, 1, task.end_waiter.0 as u64);
+}
+
+// Writes a task's entry over 26 bytes.
+fn put_task(out: &mut [u8], at: usize, task: Task)
+    requires { ⌜ at + 26 ≤ length (now out) ⌝ }
+    ensures { λ _. ⌜ now (out .exit) ≡ written (now (out .entry)) at (taskBytes task) ⌝ }
+{
+    let state = task.state;
+    put_state(out, at, task.own, state);
+    put_run(out, at + 14, task);
+}
+
+// Writes a request over 6 bytes.
+fn put_request(out: &mut [u8], at: usize, request: Request)
+    requires { ⌜ at + 6 ≤ length (now out) ⌝ }
+    ensures { λ _. ⌜ now (out .exit) ≡ written (now (out .entry)) at (requestBytes request) ⌝ }
+{
+    put_both(out, at, request.target.0, request.priority);
+    numbers::put(out, at + 2, 2, request.argument as u64);
+    put_both(out, at + 4, request.start_waiter.0, request.end_waiter.0);
+}
+
+// Writes the numbers that stand alone over 16 bytes.
+fn put_head(out: &mut [u8], ready: u8, rest: Rest)
+    requires { ⌜ length (now out) ≡ imageLength ⌝ }
+    ensures { λ _. ⌜ now (out .exit) ≡ written (now (out .entry)) headAt (headOf ready rest) ⌝ }
+{
+    put_both(out, 432, ready, rest.count);
+    put_both(out, 434, rest.granule, rest.queued);
+    numbers::put(out, 436, 8, rest.clock.0);
+    numbers::put(out, 444, 4, rest.flags as u64);
+}
+
+// Writes a place of the queue, an alarm's time.
+fn put_place(out: &mut [u8], at: usize, task: TaskNo)
+    requires { ⌜ at + 1 ≤ length (now out) ⌝ }
+    ensures { λ _. ⌜ now (out .exit) ≡ written (now (out .entry)) at (placeBytes task) ⌝ }
+{
+    numbers::put(out, at, 1, task.0 as u64);
+}
+
+fn put_alarm(out: &mut [u8], at: usize, time: Millis)
+    requires { ⌜ at + 8 ≤ length (now out) ⌝ }
+    ensures { λ _. ⌜ now (out .exit) ≡ written (now (out .entry)) at (alarmBytes time) ⌝ }
+{
+    numbers::put(out, at, 8, time.0);
+}
+
+// Write the arrays, each where the image has it.
+fn put_tasks(out: &mut [u8], tasks: [Task; 16])
+    requires { ⌜ length (now out) ≡ imageLength ⌝ }
+    ensures { λ _. ⌜ (length tasks ≡ 16) × (now (out .exit) ≡ written (now (out .entry)) 0 (row taskBytes tasks)) ⌝ }
+{
+    let mut i: usize = 0;
+    while i < 16 {
+        put_task(out, i * 26, tasks[i]);
+        i += 1;
+    }
+}
+
+fn put_queue(out: &mut [u8], queue: [TaskNo; 16])
+    requires { ⌜ length (now out) ≡ imageLength ⌝ }
+    ensures { λ _. ⌜ (length queue ≡ 16) × (now (out .exit) ≡ written (now (out .entry)) queueAt (row placeBytes queue)) ⌝ }
+{
+    let mut i: usize = 0;
+    while i < 16 {
+        put_place(out, 416 + i, queue[i]);
+        i += 1;
+    }
+}
+
+fn put_alarms(out: &mut [u8], alarms: [Millis; 32])
+    requires { ⌜ length (now out) ≡ imageLength ⌝ }
+    ensures { λ _. ⌜ (length alarms ≡ 32) × (now (out .exit) ≡ written (now (out .entry)) alarmsAt (row alarmBytes alarms)) ⌝ }
+{
+    let mut i: usize = 0;
+    while i < 32 {
+        put_alarm(out, 448 + i * 8, alarms[i]);
+        i += 1;
+    }
+}
+
+fn put_pool(out: &mut [u8], pool: [Request; 32])
+    requires { ⌜ length (now out) ≡ imageLength ⌝ }
+    ensures { λ _. ⌜ (length pool ≡ 32) × (now (out .exit) ≡ written (now (out .entry)) poolAt (row requestBytes pool)) ⌝ }
+{
+    let mut i: usize = 0;
+    while i < 32 {
+        put_request(out, 704 + i * 6, pool[i]);
+        i += 1;
+    }
+}
+
+// Writes the image over a buffer of its length.
+pub(crate) fn put_table(out: &mut [u8], table: Table)
+    requires { ⌜ length (now out) ≡ imageLength ⌝ }
+    ensures { λ _. ⌜ now (out .exit) ≡ imageOf table ⌝ }
+{
+    let tasks = table.tasks;
+    put_tasks(out, tasks);
+    let queue = table.queue;
+    put_queue(out, queue);
+    let rest = table.rest;
+    put_head(out, table.ready, rest);
+    let alarms = rest.alarms;
+    put_alarms(out, alarms);
+    let pool = rest.pool;
+    put_pool(out, pool);
+}
+
+// Stores a table: 0 and its image in out, or 1 where out has not the image's length, and no byte is changed.
+pub fn store(table: Table, out: &mut [u8]) -> u8
+    ensures { λ r. ⌜ r ≡ storeNumber (now (out .entry)) ⌝ }
+    ensures { λ _. ⌜ now (out .exit) ≡ storeBytes table (now (out .entry)) ⌝ }
+{
+    if out.len() != 896 {
+        return 1;
+    }
+    put_table(out, table);
+    0
+}

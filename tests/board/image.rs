@@ -1,0 +1,122 @@
+//! The table's image by docs/TABLE.md, written apart from the proved code.
+
+use crate::executive::{Request, State, Table, Task};
+
+pub const LENGTH: usize = 896;
+
+/// The image of a table.
+pub fn encode(table: &Table) -> Vec<u8> {
+    let mut image = Vec::with_capacity(LENGTH);
+    for task in &table.tasks {
+        encode_task(&mut image, task);
+    }
+    image.extend(table.queue);
+    image.extend([table.queued, table.count, table.granule, table.asked]);
+    image.extend(table.clock.to_be_bytes());
+    image.extend(table.flags.to_be_bytes());
+    for time in table.alarms {
+        image.extend(time.to_be_bytes());
+    }
+    for request in &table.pool {
+        image.extend([request.task, request.priority]);
+        image.extend(request.argument.to_be_bytes());
+        image.extend([request.start_waiter, request.end_waiter]);
+    }
+    image
+}
+
+fn encode_task(image: &mut Vec<u8>, task: &Task) {
+    let (state, time, mask) = match task.state {
+        State::Dormant => (0, 0, 0),
+        State::Ready => (1, 0, 0),
+        State::Paused(time) => (2, time, 0),
+        State::Due(time) => (3, time, 0),
+        State::WaitAny(mask) => (4, 0, mask),
+        State::WaitAll(mask) => (5, 0, mask),
+        State::WaitStart => (6, 0, 0),
+        State::WaitEnd => (7, 0, 0),
+    };
+    image.extend([task.own, state]);
+    image.extend(u64::to_be_bytes(time));
+    image.extend(u32::to_be_bytes(mask));
+    image.push(task.priority);
+    image.extend(task.argument.to_be_bytes());
+    image.extend(task.started.to_be_bytes());
+    image.push(task.end_waiter);
+}
+
+/// The table that some bytes are the image of, well formed or not; `None` where they are no image.
+pub fn decode(image: &[u8]) -> Option<Table> {
+    if image.len() != LENGTH {
+        return None;
+    }
+    let mut bytes = Bytes(image);
+    let mut table = Table::default();
+    for task in &mut table.tasks {
+        *task = decode_task(&mut bytes)?;
+    }
+    table.queue = bytes.take();
+    [table.queued, table.count, table.granule, table.asked] = bytes.take();
+    table.clock = u64::from_be_bytes(bytes.take());
+    table.flags = u32::from_be_bytes(bytes.take());
+    for time in &mut table.alarms {
+        *time = u64::from_be_bytes(bytes.take());
+    }
+    for place in &mut table.pool {
+        *place = decode_request(&mut bytes);
+    }
+    Some(table)
+}
+
+fn decode_task(bytes: &mut Bytes) -> Option<Task> {
+    let [own, state] = bytes.take();
+    let time = u64::from_be_bytes(bytes.take());
+    let mask = u32::from_be_bytes(bytes.take());
+    let state = match (state, time, mask) {
+        (0, 0, 0) => State::Dormant,
+        (1, 0, 0) => State::Ready,
+        (2, time, 0) => State::Paused(time),
+        (3, time, 0) => State::Due(time),
+        (4, 0, mask) => State::WaitAny(mask),
+        (5, 0, mask) => State::WaitAll(mask),
+        (6, 0, 0) => State::WaitStart,
+        (7, 0, 0) => State::WaitEnd,
+        _ => return None,
+    };
+    let [priority] = bytes.take();
+    let argument = u16::from_be_bytes(bytes.take());
+    let started = u64::from_be_bytes(bytes.take());
+    let [end_waiter] = bytes.take();
+    Some(Task {
+        own,
+        state,
+        priority,
+        argument,
+        started,
+        end_waiter,
+    })
+}
+
+fn decode_request(bytes: &mut Bytes) -> Request {
+    let [task, priority] = bytes.take();
+    let argument = u16::from_be_bytes(bytes.take());
+    let [start_waiter, end_waiter] = bytes.take();
+    Request {
+        task,
+        priority,
+        argument,
+        start_waiter,
+        end_waiter,
+    }
+}
+
+/// What is still to be read of an image.
+struct Bytes<'a>(&'a [u8]);
+
+impl Bytes<'_> {
+    fn take<const N: usize>(&mut self) -> [u8; N] {
+        let (taken, rest) = self.0.split_at(N);
+        self.0 = rest;
+        taken.try_into().expect("N bytes were taken")
+    }
+}

@@ -1,0 +1,71 @@
+//! What a trial met: numbers, kinds and checks.
+
+use std::collections::BTreeMap;
+
+/// The numbers that must be met: by steps, and by the making of fresh tables. From a well-formed table 11 never arises.
+const OF_STEPS: [u8; 11] = [0, 1, 3, 4, 5, 6, 7, 8, 9, 10, 20];
+const OF_FRESH: [u8; 3] = [0, 1, 2];
+const KINDS: [u8; 10] = [0x00, 0x01, 0x02, 0x03, 0x04, 0x05, 0x09, 0x0A, 0x0B, 0x80];
+
+#[derive(Default)]
+pub struct Met {
+    steps: BTreeMap<u8, u64>,
+    kinds: BTreeMap<u8, u64>,
+    fresh: BTreeMap<u8, u64>,
+    checks: BTreeMap<bool, u64>,
+}
+
+impl Met {
+    pub fn stepped(&mut self, number: u8, record: &[u8]) {
+        *self.steps.entry(number).or_default() += 1;
+        if number == 0 {
+            *self.kinds.entry(record[0]).or_default() += 1;
+        }
+    }
+
+    pub fn made(&mut self, number: u8) {
+        *self.fresh.entry(number).or_default() += 1;
+    }
+
+    /// A damaged image: whether it is one of a well-formed table all the same.
+    pub fn checked(&mut self, sound: bool) {
+        *self.checks.entry(sound).or_default() += 1;
+    }
+
+    pub fn steps(&self) -> u64 {
+        self.steps.values().sum()
+    }
+
+    /// Prints all counts; true if nothing is missing.
+    pub fn print(&self) -> bool {
+        let of = |sound| self.checks.get(&sound).copied().unwrap_or(0);
+        println!("{} steps", self.steps());
+        print_counts("number", &self.steps, |number| number.to_string());
+        print_counts("accepted kind", &self.kinds, |kind| format!("{kind:02X}"));
+        print_counts("fresh table, number", &self.fresh, |number| {
+            number.to_string()
+        });
+        println!(
+            "  damaged images: {} not well formed, {} well formed all the same",
+            of(false),
+            of(true)
+        );
+        let complete = OF_STEPS.iter().all(|n| self.steps.contains_key(n))
+            && OF_FRESH.iter().all(|n| self.fresh.contains_key(n))
+            && KINDS.iter().all(|kind| self.kinds.contains_key(kind))
+            && of(false) > 0
+            && of(true) > 0;
+        if !complete {
+            println!("something was never met");
+        }
+        complete
+    }
+}
+
+fn print_counts(what: &str, counts: &BTreeMap<u8, u64>, name: fn(u8) -> String) {
+    let words: Vec<String> = counts
+        .iter()
+        .map(|(&key, count)| format!("{}: {count}", name(key)))
+        .collect();
+    println!("  {what} {}", words.join(", "));
+}

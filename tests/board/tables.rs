@@ -1,0 +1,314 @@
+//! What the walk through a run is varied by: edits of a table, damage to an image, bad records.
+
+use crate::executive::{
+    well_formed, Request, State, Table, FLAGS, LAST_CLOCK, LONGEST, PLACES, TASKS,
+};
+use crate::runs::Rng;
+
+type Edit = fn(&mut Table, &mut Rng);
+
+/// Edits that mostly keep a table well formed.
+const EDITS: [Edit; 9] = [
+    clock, own, runs, flags, timed, waits, fill_pool, move_end, to_end,
+];
+
+/// Edits that mostly break one rule, by as little as they can.
+const BREAKS: [Edit; 9] = [
+    bad_time,
+    bad_alarm,
+    bad_entry,
+    bad_queue,
+    bad_place,
+    bad_link,
+    two_waiters,
+    bad_count,
+    bad_clock,
+];
+
+/// The table after an edit that keeps it well formed.
+pub fn edited(table: &Table, rng: &mut Rng) -> Table {
+    let mut next = *table;
+    rng.pick(&EDITS)(&mut next, rng);
+    if well_formed(&next) {
+        next
+    } else {
+        *table
+    }
+}
+
+/// The table with a rule broken, or now and then none.
+pub fn broken(table: &Table, rng: &mut Rng) -> Table {
+    let mut next = *table;
+    rng.pick(&BREAKS)(&mut next, rng);
+    next
+}
+
+/// One to several bytes of the image are changed: by one, by one bit, or to any.
+pub fn damage(image: &mut [u8], rng: &mut Rng) {
+    let many = if rng.one_in(3) { 5 } else { 1 };
+    for _ in 0..1 + rng.below(many) {
+        let at = rng.below(image.len());
+        image[at] = match rng.below(4) {
+            0 => image[at].wrapping_add(1),
+            1 => image[at].wrapping_sub(1),
+            2 => image[at] ^ 1 << rng.below(8),
+            _ => rng.byte(),
+        };
+    }
+}
+
+/// A record that is empty, cut, too long, of another kind, with another byte in it, or any bytes.
+pub fn bad_record(record: &[u8], rng: &mut Rng) -> Vec<u8> {
+    let mut bad = record.to_vec();
+    let at = rng.below(record.len());
+    match rng.below(8) {
+        0 => bad.clear(),
+        1 => bad.truncate(at),
+        2 => bad.push(rng.byte()),
+        3 => bad[0] = rng.pick(&[0x06, 0x08, 0x0C, 0x3F, 0x40, 0x41, 0x42, 0x43, 0x81, 0xFF]),
+        4 => bad[0] = rng.byte(),
+        5 | 6 => bad[at] = rng.pick(&[0, 2, 3, 4, 5, 0x10, 0x11, 0x1F, 0x20, 0x40, 0x60, 0x80]),
+        _ => bad = (0..rng.below(9)).map(|_| rng.byte() & 0x0F).collect(),
+    }
+    bad
+}
+
+/// A time ahead of the clock, the nearest and the farthest among them.
+fn ahead(table: &Table, rng: &mut Rng) -> u64 {
+    table.clock
+        + match rng.below(4) {
+            0 => 1,
+            1 => LONGEST,
+            2 => 1 + rng.below(600) as u64,
+            _ => 1 + rng.below(LONGEST as usize) as u64,
+        }
+}
+
+fn mask(rng: &mut Rng) -> u32 {
+    (0..1 + rng.below(3)).fold(0, |mask, _| mask | 1 << rng.below(FLAGS))
+}
+
+fn busy(table: &Table) -> Vec<u8> {
+    (1..=table.count)
+        .filter(|&number| table.task(number).state != State::Dormant)
+        .collect()
+}
+
+/// The clock is carried close to its end, or anywhere, and every time with it.
+fn clock(table: &mut Table, rng: &mut Rng) {
+    let clock = match rng.below(4) {
+        0 => LAST_CLOCK - rng.below(300) as u64,
+        1 => rng.below(1000) as u64,
+        _ => rng.below(LAST_CLOCK as usize + 1) as u64,
+    };
+    let carried = |time: u64| time - table.clock + clock;
+    for task in &mut table.tasks {
+        if let State::Paused(time) | State::Due(time) = &mut task.state {
+            *time = carried(*time);
+        }
+        task.started = task.started.min(clock);
+    }
+    for time in table.alarms.iter_mut().filter(|time| **time != 0) {
+        *time = carried(*time);
+    }
+    table.clock = clock;
+}
+
+fn own(table: &mut Table, rng: &mut Rng) {
+    table.granule = 1 + rng.below(255) as u8;
+    for task in &mut table.tasks[..table.count as usize] {
+        task.own = rng.below(16) as u8;
+    }
+}
+
+/// Other priorities, arguments and scheduled starts, and the queue sorted again.
+fn runs(table: &mut Table, rng: &mut Rng) {
+    let clock = table.clock as usize;
+    for number in busy(table) {
+        let task = &mut table.tasks[number as usize - 1];
+        task.priority = rng.below(16) as u8;
+        task.argument = u16::from_be_bytes([rng.byte(), rng.byte()]);
+        let any = rng.below(clock + 1);
+        task.started = rng.pick(&[0, clock, any, any]) as u64;
+    }
+    let tasks = table.tasks;
+    table.queue[..table.queued as usize]
+        .sort_by_key(|&number| 15 - tasks[number as usize - 1].priority);
+}
+
+/// Other flags, and other alarms.
+fn flags(table: &mut Table, rng: &mut Rng) {
+    for _ in 0..1 + rng.below(4) {
+        let flag = rng.below(FLAGS);
+        table.flags ^= 1 << flag;
+        table.alarms[rng.below(FLAGS)] = ahead(table, rng);
+        table.alarms[flag] = 0;
+    }
+}
+
+/// Another time, or the other of pause and restart.
+fn timed(table: &mut Table, rng: &mut Rng) {
+    for at in 0..TASKS {
+        if let State::Paused(_) | State::Due(_) = table.tasks[at].state {
+            let time = ahead(table, rng);
+            table.tasks[at].state = rng.pick(&[State::Paused(time), State::Due(time)]);
+        }
+    }
+}
+
+/// Pauses and waits for flags change into one another.
+fn waits(table: &mut Table, rng: &mut Rng) {
+    for at in 0..TASKS {
+        let (time, mask) = (ahead(table, rng), mask(rng));
+        let states = [
+            State::Paused(time),
+            State::Due(time),
+            State::WaitAny(mask),
+            State::WaitAll(mask | table.flags & 3),
+        ];
+        match table.tasks[at].state {
+            State::Paused(_) | State::Due(_) | State::WaitAny(_) | State::WaitAll(_) => {
+                let open = states.map(|state| !table.condition(state));
+                let drawn = rng.below(4);
+                table.tasks[at].state = states[if open[drawn] { drawn } else { 0 }];
+            }
+            _ => {}
+        }
+    }
+}
+
+/// The pool is filled, or nearly, with requests for busy tasks, and turned.
+fn fill_pool(table: &mut Table, rng: &mut Rng) {
+    let busy = busy(table);
+    let full = PLACES - rng.pick(&[0, 0, 1, 8]);
+    while !busy.is_empty() && (table.asked as usize) < full {
+        table.pool[table.asked as usize] = Request {
+            task: rng.pick(&busy),
+            priority: rng.below(16) as u8,
+            argument: u16::from_be_bytes([rng.byte(), rng.byte()]),
+            ..Request::default()
+        };
+        table.asked += 1;
+    }
+    let turn = rng.below(table.asked as usize + 1);
+    table.pool[..table.asked as usize].rotate_left(turn);
+}
+
+/// A link to an end-waiter goes from a run to another run.
+fn move_end(table: &mut Table, rng: &mut Rng) {
+    let busy = busy(table);
+    let linked = table.tasks.iter().position(|task| task.end_waiter != 0);
+    if let Some(from) = linked {
+        let to = rng.pick(&busy) as usize - 1;
+        let waiter = std::mem::take(&mut table.tasks[from].end_waiter);
+        table.tasks[to].end_waiter = waiter;
+    }
+}
+
+/// Who waits for a request's start waits for the end of its run instead.
+fn to_end(table: &mut Table, _: &mut Rng) {
+    if let Some(request) = table.pool.iter_mut().find(|place| place.start_waiter != 0) {
+        request.end_waiter = std::mem::take(&mut request.start_waiter);
+        table.tasks[request.end_waiter as usize - 1].state = State::WaitEnd;
+    }
+}
+
+/// A pause or restart at the clock, or one ms too far.
+fn bad_time(table: &mut Table, rng: &mut Rng) {
+    let wrong = table.clock + rng.pick(&[0, LONGEST + 1]);
+    for task in &mut table.tasks {
+        if let State::Paused(time) | State::Due(time) = &mut task.state {
+            *time = wrong;
+        }
+    }
+}
+
+fn bad_alarm(table: &mut Table, rng: &mut Rng) {
+    let far = LONGEST + 1;
+    table.alarms[rng.below(FLAGS)] = table.clock + rng.pick(&[0, far, u64::MAX - table.clock]);
+}
+
+/// A number of some entry that is just out of its range, or stands where zeros belong.
+fn bad_entry(table: &mut Table, rng: &mut Rng) {
+    let task = &mut table.tasks[rng.below(TASKS)];
+    match rng.below(7) {
+        0 => task.own = 16,
+        1 => task.priority = 16,
+        2 => task.priority ^= 1,
+        3 => task.argument ^= 1,
+        4 => task.started = table.clock + 1,
+        5 => task.end_waiter = 1 + rng.below(17) as u8,
+        _ => task.state = State::WaitAll(table.flags & 7),
+    }
+}
+
+fn bad_queue(table: &mut Table, rng: &mut Rng) {
+    let (one, other) = (rng.below(TASKS), rng.below(TASKS));
+    match rng.below(4) {
+        0 => table.queue.swap(one, other),
+        1 => table.queue[one] = table.queue[other],
+        2 => table.queued = table.queued.wrapping_sub(1),
+        _ => table.queued += 1,
+    }
+}
+
+fn bad_place(table: &mut Table, rng: &mut Rng) {
+    let place = rng.below((table.asked as usize + 2).min(PLACES));
+    let request = &mut table.pool[place];
+    match rng.below(6) {
+        0 => request.task = rng.below(18) as u8,
+        1 => request.priority = 16,
+        2 => request.argument ^= 1,
+        3 => *request = Request::default(),
+        4 => table.asked = table.asked.wrapping_sub(1),
+        _ => table.asked += 1,
+    }
+}
+
+/// A waiter that is named twice, by itself, or by nobody.
+fn bad_link(table: &mut Table, rng: &mut Rng) {
+    let waiter = rng.below(table.count as usize + 1) as u8;
+    let request = &mut table.pool[rng.below((table.asked as usize).max(1))];
+    match rng.below(4) {
+        0 => request.start_waiter = waiter,
+        1 => request.end_waiter = waiter,
+        2 => request.end_waiter = request.task,
+        _ => table.tasks[rng.below(table.count as usize)].end_waiter = waiter,
+    }
+}
+
+/// A request that names a waiter for its start gets one for the end of its run as well.
+fn two_waiters(table: &mut Table, _: &mut Rng) {
+    let places = table.pool.iter_mut().map(|place| &mut place.end_waiter);
+    let mut ends = places.chain(table.tasks.iter_mut().map(|task| &mut task.end_waiter));
+    let waiter = ends.find(|waiter| **waiter != 0).map(std::mem::take);
+    let request = table.pool.iter_mut().find(|place| place.start_waiter != 0);
+    if let (Some(waiter), Some(request)) = (waiter, request) {
+        request.end_waiter = waiter;
+    }
+}
+
+/// Another count, or a table without tasks.
+fn bad_count(table: &mut Table, rng: &mut Rng) {
+    match rng.below(4) {
+        0 => table.count = 17,
+        1 => table.count -= 1,
+        2 => table.count += 1,
+        _ => {
+            *table = Table {
+                granule: table.granule,
+                clock: table.clock,
+                ..Table::default()
+            }
+        }
+    }
+}
+
+fn bad_clock(table: &mut Table, rng: &mut Rng) {
+    match rng.below(4) {
+        0 => table.granule = 0,
+        1 => table.clock = LAST_CLOCK + 1,
+        2 => table.clock += 1,
+        _ => table.clock = u64::MAX,
+    }
+}

@@ -1,0 +1,95 @@
+/* The board library from C: document 01's listing, and what a damaged image or a wrong buffer is answered with. */
+#include <stdio.h>
+#include <string.h>
+
+#include "quermanic.h"
+
+/* A step of the listing: its record, and what 01 prints for it. */
+struct step {
+    uint8_t record[QUERMANIC_LONGEST_RECORD];
+    size_t length;
+    const char *line;
+};
+
+static const uint8_t config[] = {0x40, 0x0A, 0x41, 0x07, 0x01, 0x41, 0x05, 0x01, 0x41, 0x07, 0x00, 0x42};
+
+static const struct step listing[] = {
+    {{0x04, 0x80, 0x03}, 3, "1 04 0 000 1"},
+    {{0x02, 0x00, 0x0F}, 3, "2 02 0 000 3"},
+    {{0x80}, 1, "3 80 0 000 3"},
+    {{0x05, 0xA0, 0x02, 0x00, 0x04}, 5, "4 05 0 100 2"},
+    {{0x80}, 1, "5 80 0 000 1"},
+    {{0x0A, 0x00, 0x00, 0x00, 0x00, 0x01}, 6, "6 0A 0 000 2"},
+    {{0x00}, 1, "7 00 0 000 3"},
+    {{0x09, 0x01, 0x00}, 3, "8 09 0 000 3"},
+    {{0x02, 0x05, 0x01}, 3, "9 02 6 010 3"},
+    {{0x00}, 1, "10 00 0 000 1"},
+};
+
+static const uint8_t tick[] = {0x80};
+static const uint8_t unknown[] = {0x06};
+
+static uint8_t image[QUERMANIC_IMAGE_LENGTH];
+static int failed = 0;
+
+static void tell(const char *what, int right) {
+    printf("%s: %s\n", what, right ? "right" : "WRONG");
+    if (!right) {
+        failed = 1;
+    }
+}
+
+/* A fresh table, and every step of the listing, printed as 01 prints it. */
+static void take_listing(void) {
+    uint8_t answer[QUERMANIC_ANSWER_LENGTH];
+    char line[32];
+    size_t i;
+
+    tell("a fresh table from the listing's configuration", quermanic_fresh(config, sizeof config, image, sizeof image) == 0);
+    for (i = 0; i < sizeof listing / sizeof *listing; i++) {
+        const struct step *s = &listing[i];
+        uint8_t number = quermanic_step(image, sizeof image, s->record, s->length, answer, sizeof answer);
+        snprintf(line, sizeof line, "%u %02X %u %u%u%u %u", (unsigned)i + 1, s->record[0], number, answer[QUERMANIC_ANSWER_Z],
+                 answer[QUERMANIC_ANSWER_V], answer[QUERMANIC_ANSWER_C], answer[QUERMANIC_ANSWER_ACTIVE]);
+        tell(line, strcmp(line, s->line) == 0 && answer[QUERMANIC_ANSWER_NUMBER] == number);
+    }
+    tell("the image after the listing is well formed", quermanic_check(image, sizeof image) == 0);
+}
+
+/* Whether a step is answered with this number, and no byte of the image is changed; the answer's first bytes must be those given. */
+static int refused(uint8_t number, size_t image_length, const uint8_t *record, size_t length, const uint8_t *expected, size_t room) {
+    uint8_t before[QUERMANIC_IMAGE_LENGTH];
+    uint8_t answer[QUERMANIC_ANSWER_LENGTH];
+
+    memcpy(before, image, sizeof image);
+    memset(answer, 0xA5, sizeof answer);
+    return quermanic_step(image, image_length, record, length, answer, room) == number && memcmp(before, image, sizeof image) == 0 &&
+           memcmp(answer, expected, sizeof answer) == 0;
+}
+
+static void try_refusals(void) {
+    static const uint8_t no_table[] = {1, 0, 0, 0, 0, 0, 0, 0};
+    static const uint8_t no_kind[] = {4, 0, 1, 0, 1, 0, 0, 0};
+    static const uint8_t no_record[] = {3, 0, 0, 0, 1, 0, 0, 0};
+    static const uint8_t unwritten[] = {0xA5, 0xA5, 0xA5, 0xA5, 0xA5, 0xA5, 0xA5, 0xA5};
+    const size_t whole = QUERMANIC_IMAGE_LENGTH;
+    const size_t room = QUERMANIC_ANSWER_LENGTH;
+
+    tell("an unknown kind: 4", refused(4, whole, unknown, sizeof unknown, no_kind, room));
+    tell("an empty record: 3", refused(3, whole, tick, 0, no_record, room));
+    tell("a short answer's buffer: 20", refused(20, whole, tick, sizeof tick, unwritten, room - 1));
+    tell("an image of a wrong length: 1", refused(1, whole - 1, tick, sizeof tick, no_table, room));
+    tell("the check of a wrong length: 1", quermanic_check(image, whole - 1) == 1);
+    tell("a fresh table into a wrong length: 1", quermanic_fresh(config, sizeof config, image, whole - 1) == 1);
+    tell("a configuration without its end: 2", quermanic_fresh(config, sizeof config - 1, image, whole) == 2);
+    tell("the image is well formed still", quermanic_check(image, whole) == 0);
+    image[1] ^= 0x80; /* task 1's state: no state's number */
+    tell("a damaged image: 1", refused(1, whole, tick, sizeof tick, no_table, room));
+    tell("the check of a damaged image: 1", quermanic_check(image, whole) == 1);
+}
+
+int main(void) {
+    take_listing();
+    try_refusals();
+    return failed;
+}

@@ -1,0 +1,293 @@
+//! The board library against the second program's model, on random tables, damaged images and bad records.
+
+#[path = "../second/bench.rs"]
+#[allow(dead_code)]
+mod bench;
+#[path = "../second/executive.rs"]
+#[allow(dead_code)]
+mod executive;
+mod image;
+mod library;
+mod met;
+#[path = "../second/mixes.rs"]
+mod mixes;
+#[path = "../second/runs.rs"]
+mod runs;
+mod speed;
+mod tables;
+
+use executive::{fresh, fresh_from_start, step_with, well_formed, Answer, Fault};
+use image::{decode, encode, LENGTH};
+use met::Met;
+use runs::Rng;
+use std::process::ExitCode;
+use std::time::Instant;
+
+const USAGE: &str = "usage: trial [--steps N] [--seed S] [--fault NAME]
+       trial --speed [--rounds N]";
+
+/// The most steps that are taken of one generated run.
+const LONGEST_WALK: usize = 400;
+const ANSWER: usize = 8;
+/// What stands in the answer's buffer before a step.
+const UNWRITTEN: [u8; ANSWER + 4] = [0xA5; ANSWER + 4];
+
+/// What is made wrong in the model, to show that the trial finds it.
+#[derive(Clone, Copy, PartialEq)]
+enum Wrong {
+    Nothing,
+    Rule(Fault),
+    Answer,
+    Image,
+    Check,
+    Fresh,
+}
+
+const WRONGS: [(&str, Wrong); 9] = [
+    ("equal-in-front", Wrong::Rule(Fault::EqualInFront)),
+    ("drifting-catch-up", Wrong::Rule(Fault::DriftingCatchUp)),
+    ("cancel-wakes-due", Wrong::Rule(Fault::CancelWakesDue)),
+    ("remembered-flag", Wrong::Rule(Fault::RememberedFlag)),
+    ("lost-start", Wrong::Rule(Fault::LostStart)),
+    ("answer", Wrong::Answer),
+    ("image", Wrong::Image),
+    ("check", Wrong::Check),
+    ("fresh", Wrong::Fresh),
+];
+
+/// What a step gives: the number returned, and the bytes of image and answer after it.
+type Given = (u8, Vec<u8>, Vec<u8>);
+
+struct Trial {
+    seed: u64,
+    wrong: Wrong,
+    met: Met,
+}
+
+/// A difference in words, with its image and record in hex.
+type Told = Result<(), String>;
+
+impl Trial {
+    /// Walks through one generated run, with edits, damage and bad records on the way.
+    fn walk(&mut self, index: u64) -> Told {
+        let rng = &mut Rng::new(!self.seed, index);
+        let bytes = runs::run(self.seed, index);
+        let used = fresh_from_start(&bytes).map_or(bytes.len(), |(_, used)| used);
+        self.fresh(&bytes[..used], rng)?;
+        self.fresh(&bytes, rng)?;
+        let Some(table) = fresh(&bytes[..used]) else {
+            return Ok(());
+        };
+        let edits = rng.pick(&[6, 20, 60, 1000]);
+        let mut image = encode(&table);
+        let mut rest = &bytes[used..];
+        for _ in 0..LONGEST_WALK {
+            let Ok((record, more)) = bench::cut(rest) else {
+                break;
+            };
+            rest = more;
+            if rng.one_in(edits) {
+                image = encode(&tables::edited(&table_of(&image), rng));
+            }
+            self.beside(&image, record, rng)?;
+            image = self.step(&image, record, &UNWRITTEN)?;
+        }
+        Ok(())
+    }
+
+    /// Some trials on copies of the image, which the walk does not go on from.
+    fn beside(&mut self, image: &[u8], record: &[u8], rng: &mut Rng) -> Told {
+        if rng.one_in(4) {
+            let bad = tables::bad_record(record, rng);
+            self.step(image, &bad, &UNWRITTEN)?;
+        }
+        if rng.one_in(2) {
+            let mut damaged = image.to_vec();
+            tables::damage(&mut damaged, rng);
+            self.image(&damaged, record)?;
+        }
+        if rng.one_in(4) {
+            let broken = tables::broken(&table_of(image), rng);
+            self.image(&encode(&broken), record)?;
+        }
+        if rng.one_in(16) {
+            let short = rng.below(ANSWER);
+            self.step(image, record, &UNWRITTEN[..short])?;
+            let mut other = image.to_vec();
+            other.resize(rng.pick(&[0, 1, LENGTH - 1, LENGTH + 1, 2 * LENGTH]), 0);
+            self.step(&other, record, &UNWRITTEN[..short])?;
+            self.image(&other, record)?;
+        }
+        Ok(())
+    }
+
+    /// An image of whatever content and length: its check, and a step from it.
+    fn image(&mut self, image: &[u8], record: &[u8]) -> Told {
+        let sound = decode(image).is_some_and(|table| well_formed(&table));
+        let expected = u8::from(!sound ^ (self.wrong == Wrong::Check));
+        let given = library::check(image);
+        if given != expected {
+            return Err(format!(
+                "check: the library gives {given}, the model {expected}\nimage {}",
+                hex(image)
+            ));
+        }
+        self.met.checked(sound);
+        self.step(image, record, &UNWRITTEN).map(drop)
+    }
+
+    /// One step of both; the image after it.
+    fn step(&mut self, image: &[u8], record: &[u8], answer: &[u8]) -> Result<Vec<u8>, String> {
+        let given = library::step(image, record, answer);
+        let expected = self.expected(image, record, answer);
+        if given != expected {
+            return Err(difference(image, record, &given, &expected));
+        }
+        self.met.stepped(given.0, record);
+        Ok(given.1)
+    }
+
+    /// What the model gives for a step.
+    fn expected(&self, image: &[u8], record: &[u8], answer: &[u8]) -> Given {
+        let mut after = (20, image.to_vec(), answer.to_vec());
+        if answer.len() < ANSWER {
+            return after;
+        }
+        let fault = match self.wrong {
+            Wrong::Rule(fault) => fault,
+            _ => Fault::None,
+        };
+        let mut table = decode(image);
+        let mut said = match &mut table {
+            Some(table) => step_with::<true>(table, record, fault),
+            None => Answer {
+                number: 1,
+                ..Answer::default()
+            },
+        };
+        if let (0, Some(table)) = (said.number, &table) {
+            after.1 = encode(table);
+            after.1[LENGTH - 1] ^= u8::from(self.wrong == Wrong::Image);
+        }
+        said.argument ^= u16::from(self.wrong == Wrong::Answer);
+        after.0 = said.number;
+        after.2[..ANSWER].copy_from_slice(&answer_bytes(&said));
+        after
+    }
+
+    /// A fresh table from whatever bytes, into a buffer of the right length and one of another.
+    fn fresh(&mut self, config: &[u8], rng: &mut Rng) -> Told {
+        let length = rng.pick(&[0, LENGTH - 1, LENGTH, LENGTH, LENGTH, LENGTH + 1]);
+        let before: Vec<u8> = (0..length).map(|_| rng.byte()).collect();
+        let expected = match fresh(config).filter(|_| self.wrong != Wrong::Fresh) {
+            _ if length != LENGTH => (1, before.clone()),
+            Some(table) => (0, encode(&table)),
+            None => (2, before.clone()),
+        };
+        let given = library::fresh(config, &before);
+        if given != expected {
+            return Err(format!(
+                "fresh: the library gives {}, the model {}, into {length} bytes\nconfiguration {}\nlibrary {}\nmodel   {}",
+                given.0, expected.0, hex(config), hex(&given.1), hex(&expected.1)
+            ));
+        }
+        self.met.made(given.0);
+        Ok(())
+    }
+}
+
+/// The table of an image that the walk made; encoding it again must give the same bytes.
+fn table_of(image: &[u8]) -> executive::Table {
+    let table = decode(image).expect("the walk's image is one");
+    assert!(encode(&table) == image, "decoding and encoding differ");
+    table
+}
+
+/// An answer's bytes, by docs/EMBEDDING.md.
+fn answer_bytes(answer: &Answer) -> [u8; ANSWER] {
+    let [high, low] = answer.argument.to_be_bytes();
+    let [z, v, c] = [answer.z, answer.v, answer.c].map(u8::from);
+    [answer.number, z, v, c, answer.active, 0, high, low]
+}
+
+fn hex(bytes: &[u8]) -> String {
+    bytes.iter().map(|byte| format!("{byte:02X}")).collect()
+}
+
+/// A step that differs, in words.
+fn difference(image: &[u8], record: &[u8], given: &Given, expected: &Given) -> String {
+    let both = given.1.iter().zip(&expected.1).enumerate();
+    let bytes: Vec<String> = both
+        .filter(|(_, (one, other))| one != other)
+        .map(|(at, (one, other))| format!("byte {at} of the image: {one:02X}, {other:02X}\n"))
+        .collect();
+    format!(
+        "a step differs\nimage  {}\nrecord {}\nlibrary: {}, answer {}\nmodel:   {}, answer {}\n{}",
+        hex(image),
+        hex(record),
+        given.0,
+        hex(&given.2),
+        expected.0,
+        hex(&expected.2),
+        bytes.concat()
+    )
+}
+
+/// Walks until so many steps are taken; true if nothing differs and everything was met.
+fn trial(steps: u64, seed: u64, wrong: Wrong) -> bool {
+    let begun = Instant::now();
+    let mut trial = Trial {
+        seed,
+        wrong,
+        met: Met::default(),
+    };
+    let mut index = 0;
+    while trial.met.steps() < steps {
+        if let Err(difference) = trial.walk(index) {
+            println!("run {index} of seed {seed}: {difference}");
+            return false;
+        }
+        index += 1;
+    }
+    let complete = trial.met.print();
+    let seconds = begun.elapsed().as_secs_f64();
+    println!("{index} runs of seed {seed} agree, {seconds:.1} s");
+    complete
+}
+
+/// `--steps N`, `--seed S` and `--fault NAME`, in any order.
+fn trial_by(mut words: &[&str]) -> Option<bool> {
+    let (mut steps, mut seed, mut wrong) = (1_000_000, 1, Wrong::Nothing);
+    while let [name, value, rest @ ..] = words {
+        match *name {
+            "--steps" => steps = value.parse().ok()?,
+            "--seed" => seed = value.parse().ok()?,
+            "--fault" => wrong = WRONGS.iter().find(|(known, _)| known == value)?.1,
+            _ => return None,
+        }
+        words = rest;
+    }
+    words.is_empty().then(|| trial(steps, seed, wrong))
+}
+
+fn main() -> ExitCode {
+    let words: Vec<String> = std::env::args().skip(1).collect();
+    let words: Vec<&str> = words.iter().map(String::as_str).collect();
+    let right = match words.as_slice() {
+        ["--speed"] => Some(speed::speed(15)),
+        ["--speed", "--rounds", rounds] => rounds
+            .parse()
+            .ok()
+            .filter(|rounds| *rounds > 0)
+            .map(speed::speed),
+        words => trial_by(words),
+    };
+    match right {
+        Some(true) => ExitCode::SUCCESS,
+        Some(false) => ExitCode::from(1),
+        None => {
+            eprintln!("{USAGE}");
+            ExitCode::from(2)
+        }
+    }
+}
