@@ -1,5 +1,5 @@
 -- The check in fewer passes is the check in 01's order; where nobody waits and nobody is named there is nothing to count.
-use Prim.Native.Nat.{ℕ, _+_, _-_, _≤_, _<_}
+use Prim.Native.Nat.{ℕ, zero, suc, _+_, _-_, _≤_, _<_}
 use mathlib.Core.Path.{_≡_, refl, ap, sym, _∙_}
 use mathlib.Core.Bool.{Bool, true, false, not}
 use mathlib.Core.List.{List, [], _∷_}
@@ -16,7 +16,7 @@ use Rattle.executive.specs.Numbers.{highest}
 use Rattle.executive.specs.Queue.{one}
 use Rattle.executive.specs.Table.{noTask, requests, taskAt}
 use Rattle.executive.specs.WellFormed.{kindOf, is, startsOf, endsOf, runsOf}
-use Rattle.executive.specs.Check.{_and_, upTo, allOf, entryInRange, requestInRange, isBlank, sizesRight, inBounds, numbersRight, isTask, standsIn, exactAt, queueRight, alarmRight, taskTimely, timesRight, isStarted, startedRight, taskUnmet, masksRight, targetBusy, busyRight, waitersAt, namesOthers, waitersRight, sleepsRight, dormantRight, poolRight, isWellFormed, entryRight, requestFits, requestRight, isQuiet, isLone, lineRight, inPasses}
+use Rattle.executive.specs.Check.{_and_, upTo, allOf, entryInRange, requestInRange, isBlank, sizesRight, inBounds, numbersRight, isTask, standsIn, exactAt, queueRight, alarmRight, taskTimely, timesRight, isStarted, startedRight, taskUnmet, masksRight, targetBusy, busyRight, waitersAt, namesOthers, waitersRight, sleepsRight, dormantRight, poolRight, isWellFormed, entryRight, requestFits, requestRight, isQuiet, isLone, lineRight, inPasses, Tallies}
 use Rattle.executive.proofs.Tasks.{at-none, at-task}
 use Rattle.executive.proofs.Tally.{both, all-make}
 use Rattle.executive.proofs.Both.{split, paired, none-one, of-not, sum-none}
@@ -53,9 +53,27 @@ pub at-next : (ts : List Task) (k : ℕ) → taskAt ts (k + 1) ≡ getD ts k noT
 unfolding taskAt
 at-next ts k = rw add-one refl
 
-pub exact-next : (ts : List Task) (xs : List TaskNo) (k : ℕ) → eqb (standsIn (k + 1) xs) (is 1 (getD ts k noTask .state)) ≡ exactAt ts xs (k + 1)
-unfolding exactAt
-exact-next ts xs k = rw (at-next ts k) refl
+-- that a task stands in the queue as often as its state says, by a tally of the line
+unfoldable pub talliedAt : List ℕ → List Task → ℕ → Bool
+talliedAt c ts k = eqb (getD c (k - 1) 0) (is 1 (taskAt ts k .state))
+
+pub tallied-next : (c : List ℕ) (ts : List Task) (k : ℕ) → eqb (getD c k 0) (is 1 (getD ts k noTask .state)) ≡ talliedAt c ts (k + 1)
+unfolding talliedAt
+tallied-next c ts k = let z : k + 1 - 1 ≡ k = omega arith in rw (z, at-next ts k) refl
+
+same-up : (f g : ℕ → Bool) (n : ℕ) → ((k : ℕ) → 0 < k → k ≤ n → f k ≡ g k) → upTo f n ≡ upTo g n
+unfolding upTo
+same-up f g zero h = refl
+same-up f g (suc n) h = rw (same-up f g n (λ k a b. h k a (omega arith)), h (suc n) (omega arith) (omega arith)) refl
+
+pub tallied-exact : (c : List ℕ) (ts : List Task) (xs : List TaskNo) (n : ℕ) → n ≤ 16 → Tallies c xs → upTo (talliedAt c ts) n ≡ upTo (exactAt ts xs) n
+unfolding talliedAt exactAt
+tallied-exact c ts xs n l t = same-up (talliedAt c ts) (exactAt ts xs) n at
+  where
+    at : (k : ℕ) → 0 < k → k ≤ n → talliedAt c ts k ≡ exactAt ts xs k
+    at k a b =
+        let z : suc (k - 1) ≡ k = omega arith in
+        ap (λ (m : ℕ). eqb m (is 1 (taskAt ts k .state))) (t .counts (k - 1) (omega arith) ∙ ap (λ (m : ℕ). standsIn m xs) z)
 
 -- a task's number is from 1 to n
 pub task-within : (n : ℕ) (k : TaskNo) → isTask n k ≡ true → (0 < k .0) × (k .0 ≤ n)

@@ -1,17 +1,21 @@
 -- The laws of the check's loops: counting from the back, a test at each number, a test of each element.
 use Prim.Native.Nat.{ℕ, zero, suc, _+_, _-_, _≤_, _<_}
-use mathlib.Core.Path.{_≡_, refl, _∙_}
+use mathlib.Core.Path.{_≡_, refl, sym, ap, _∙_}
 use mathlib.Core.Bool.{Bool, true, false, not}
 use mathlib.Core.Logic.{⊎-elim}
 use mathlib.Core.List.{List, [], _∷_}
 use native.Mathlib.Omega.{arith}
 use native.Mathlib.Nat.{eq-or-lt-of-le}
 use native.Mathlib.Numerals.{add-one}
-use lib.ListN.{length, take, drop, getD, drop-of-length-le}
-use lib.Seq.{length-take-le, getD-take, drop-cons}
+use lib.Dec.{eqb, ltb}
+use lib.ListN.{length, take, drop, getD, set, length-set, length-drop, replicate, drop-of-length-le, List·getD-eq-default}
+use borrow.Author.Tests.{eqb-true, eqb-false, ne-eqb, ltb-true, ltb-false}
+use Rattle.records.specs.declared.TaskNo.{TaskNo}
+use lib.Seq.{length-take-le, getD-take, drop-cons, getD-set-same, getD-set-other, set-out}
 use Rattle.executive.specs.Queue.{pick, one}
+use Rattle.executive.specs.Table.{nobody}
 use Rattle.executive.specs.WellFormed.{sumOf}
-use Rattle.executive.specs.Check.{upTo, allOf}
+use Rattle.executive.specs.Check.{upTo, allOf, standsIn, moreAt, Small, Tallies}
 
 pub one-le : (b : Bool) → one b ≤ 1
 one-le true = omega arith
@@ -108,3 +112,77 @@ module _ {A : Type 0} (f : A → Bool) (d : A) where
 
     pub first-end : n ≤ i → allOf f (drop i (take n p)) ≡ true
     first-end h = every-end (take n p) i (rw (length-take-le n p hn) h)
+
+-- ---- a tally of numbers, one more at a time
+more-same : (c : List ℕ) (i j : ℕ) → j < length c → j ≡ i → getD (set c i (getD c i 0 + 1)) j 0 ≡ getD c j 0 + 1
+more-same c i j l e = rw e (getD-set-same c i (getD c i 0 + 1) 0 (omega arith))
+
+more-counts : (c : List ℕ) (k j : ℕ) → j < length c → getD (moreAt c k) j 0 ≡ one (eqb (suc j) k) + getD c j 0
+unfolding moreAt
+more-counts c zero j l = rw (ne-eqb (suc j) 0 (λ e. omega arith)) (omega arith)
+more-counts c (suc i) j l = go (eqb (suc j) (suc i)) refl
+  where
+    go : (b : Bool) → eqb (suc j) (suc i) ≡ b → getD (set c i (getD c i 0 + 1)) j 0 ≡ one b + getD c j 0
+    go true e = more-same c i j l (omega (arith, eqb-true (suc j) (suc i) e)) ∙ omega arith
+    go false e = getD-set-other c i j (getD c i 0 + 1) 0 (λ q. eqb-false (suc j) (suc i) e (omega arith)) ∙ omega arith
+
+more-length : (c : List ℕ) (k : ℕ) → length (moreAt c k) ≡ length c
+unfolding moreAt
+more-length c zero = refl
+more-length c (suc i) = length-set c i (getD c i 0 + 1)
+
+-- what the code makes of a tally: nothing, or one more at a place
+module _ (c : List ℕ) where
+  pub more-none : (k : ℕ) → k ≡ 0 → c ≡ moreAt c k
+  unfolding moreAt
+  more-none k e = rw e refl
+
+  pub more-past : (k : ℕ) → length c < k → c ≡ moreAt c k
+  unfolding moreAt
+  more-past zero h = refl
+  more-past (suc i) h = sym (set-out c i (getD c i 0 + 1) (omega arith))
+
+  pub more-put : (k : ℕ) → 0 < k → set c (k - 1) (getD c (k - 1) 0 + 1) ≡ moreAt c k
+  unfolding moreAt
+  more-put zero h = absurd (omega arith)
+  more-put (suc i) h = let z : suc i - 1 ≡ i = omega arith in rw z refl
+
+-- an empty tally, and one turn of the loop that counts from the back
+zeros : (n j : ℕ) → _≡_ {A = ℕ} (getD (replicate n 0) j 0) 0
+zeros zero j = refl
+zeros (suc n) zero = refl
+zeros (suc n) (suc j) = zeros n j
+
+tally-more : (c : List ℕ) (x : TaskNo) (xs : List TaskNo) → Tallies c xs → Tallies (moreAt c (x .0)) (x ∷ xs)
+unfolding sumOf
+tally-more c x xs t = record { sized = more-length c (x .0) ∙ t .sized; counts = λ j h. more-counts c (x .0) j (omega (arith, t .sized)) ∙ ap (λ (m : ℕ). one (eqb (suc j) (x .0)) + m) (t .counts j h) }
+
+-- nobody stands in a line more often than the line is long
+stands-le : (k : ℕ) (xs : List TaskNo) → standsIn k xs ≤ length xs
+unfolding sumOf
+stands-le k [] = omega arith
+stands-le k (x ∷ xs) = omega (arith, one-le (eqb k (x .0)), stands-le k xs)
+
+tally-small : (c : List ℕ) (xs : List TaskNo) → length xs ≤ 16 → Tallies c xs → Small c
+tally-small c xs m t = record { sized = t .sized; low = λ j. go j (ltb j 16) refl }
+  where
+    go : (j : ℕ) (b : Bool) → ltb j 16 ≡ b → getD c j 0 < 255
+    go j true e = omega (arith, t .counts j (ltb-true j 16 e), stands-le (suc j) xs)
+    go j false e = let z : getD c j 0 ≡ 0 = List·getD-eq-default c 0 {n = j} (omega (arith, t .sized, ltb-false j 16 e)) in omega arith
+
+-- the loop that tallies the first n of a line, from the back
+module _ (q : List TaskNo) (n : ℕ) (h : n ≤ length q) where
+  pub line-first : Tallies (replicate 16 0) (drop n (take n q))
+  unfolding sumOf
+  line-first = rw (drop-of-length-le (take n q) {i = n} (rw (length-take-le n q h) (omega arith))) (record { sized = refl; counts = λ j l. zeros 16 j })
+
+  pub line-small : (i : ℕ) (c : List ℕ) → n ≤ 16 → Tallies c (drop i (take n q)) → Small c
+  line-small i c m t = tally-small c (drop i (take n q)) (omega (arith, length-drop i (take n q), length-take-le n q h)) t
+
+  pub line-turn : (i : ℕ) (c : List ℕ) → 0 < i → i ≤ n → Tallies c (drop i (take n q)) → Tallies (moreAt c (getD q (i - 1) nobody .0)) (drop (i - 1) (take n q))
+  line-turn i c g l t =
+      let m : length (take n q) ≡ n = length-take-le n q h in
+      let z : suc (i - 1) ≡ i = omega arith in
+      let x : drop (i - 1) (take n q) ≡ getD q (i - 1) nobody ∷ drop i (take n q) =
+      drop-cons (take n q) (i - 1) nobody (omega arith) ∙ rw (getD-take n q (i - 1) nobody (omega arith), z) refl in
+      rw x (tally-more c (getD q (i - 1) nobody) (drop i (take n q)) t)

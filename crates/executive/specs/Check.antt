@@ -1,11 +1,11 @@
 -- The check of a table as it is computed: a test for each rule of `WellFormed`, in the same order.
-use Prim.Native.Nat.{ℕ, zero, suc, _+_, _-_}
+use Prim.Native.Nat.{ℕ, zero, suc, _+_, _-_, _<_}
 use mathlib.Core.Path.{_≡_}
 use mathlib.Core.Logic.{_↔_}
 use mathlib.Core.Bool.{Bool, true, false, not}
 use mathlib.Core.List.{List, [], _∷_}
 use lib.Dec.{eqb, leb, ltb}
-use lib.ListN.{length, drop, take}
+use lib.ListN.{length, drop, take, getD, set}
 use Rattle.records.specs.declared.TaskNo.{TaskNo}
 use Rattle.executive.specs.declared.Millis.{Millis}
 use Rattle.executive.specs.declared.State.{State}
@@ -238,6 +238,19 @@ inPasses t =
     and allOf (alarmRight (t .rest .clock .0)) (t .rest .alarms)
     and lineRight (t .tasks) (t .rest .count) (t .ready) (t .queue)
     and askedRight (t .tasks) (t .rest .count) (t .rest .queued) (t .rest .pool)
+
+-- ---- a tally of numbers: how often k stands in a line is told at place k - 1. One more for k; no count near a byte's bound
+unfoldable pub moreAt : List ℕ → ℕ → List ℕ
+moreAt c zero = c
+moreAt c (suc i) = set c i (getD c i 0 + 1)
+
+pub record Small (c : List ℕ) : Type 0 where
+  pub sized : length c ≡ 16
+  pub low : (j : ℕ) → getD c j 0 < 255
+
+pub record Tallies (c : List ℕ) (xs : List TaskNo) : Type 0 where
+  pub sized : length c ≡ 16
+  pub counts : (j : ℕ) → j < 16 → getD c j 0 ≡ standsIn (suc j) xs
 
 -- ---- whom a request names as a waiter
 abbrev pub linkOf : Link → Request → ℕ

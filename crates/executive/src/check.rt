@@ -13,7 +13,7 @@ ghost use lib.ListN.{drop, take};
 ghost use Rattle.executive.specs.Queue.{one};
 ghost use Rattle.executive.specs.Table.{taskAt};
 ghost use Rattle.executive.specs.WellFormed.{kindOf, is, runsOf};
-ghost use Rattle.executive.specs.Check.{upTo, allOf, inBounds, entryInRange, isZero, isBlank, requestInRange, isTask, isNobody, falls, standsIn, exactAt, isStored, isTimely, alarmRight, isUnmet, waitersAt, namesOthers, sleepsRight, isFree, entryRight, requestFits, requestRight, isQuiet, isLone, lineRight, askedRight, linkOf, linksIn, isWellFormed, Checked, Decided};
+ghost use Rattle.executive.specs.Check.{upTo, allOf, inBounds, entryInRange, isZero, isBlank, requestInRange, isTask, isNobody, falls, standsIn, exactAt, isStored, isTimely, alarmRight, isUnmet, waitersAt, namesOthers, sleepsRight, isFree, entryRight, requestFits, requestRight, isQuiet, isLone, lineRight, askedRight, linkOf, linksIn, isWellFormed, Checked, Decided, moreAt, Small, Tallies};
 ghost use Rattle.executive.specs.Broken.{Broken};
 
 // What a request's waiter waits for: its start, or the end of the run that it begins.
@@ -379,17 +379,41 @@ fn plus_if(c: u8, k: u8, x: u8) -> u8
     c
 }
 
-// How often a number stands in the queue.
-fn stands_in(queue: [TaskNo; 16], ready: usize, k: u8) -> u8
+// How often each number stands in a line: that of k at place k - 1.
+struct Counts {
+    of: [u8; 16],
+}
+
+impl Counts {
+    // One more for the number k; a number that has no place changes nothing.
+    fn one_more(mut self, k: u8) -> Counts
+        requires { ⌜ Small (self .of) ⌝ }
+        ensures { λ r. ⌜ r .of ≡ moreAt (self .of) k ⌝ }
+    {
+        if k == 0 {
+            return self;
+        }
+        if 16 < k {
+            return self;
+        }
+        let i = (k - 1) as usize;
+        let n = self.of[i];
+        self.of[i] = n + 1;
+        self
+    }
+}
+
+// How often each number from 1 to 16 stands in the queue.
+fn tally(queue: [TaskNo; 16], ready: usize) -> Counts
     requires { ⌜ ready ≤ 16 ⌝ }
-    ensures { λ r. ⌜ r ≡ standsIn k (take ready queue) ⌝ }
+    ensures { λ r. ⌜ Tallies (r .of) (take ready queue) ⌝ }
 {
-    let mut c: u8 = 0;
+    let mut c = Counts { of: [0u8; 16] };
     let mut i = ready;
     while 0 < i {
         i -= 1;
         let x = queue[i];
-        c = plus_if(c, k, x.0);
+        c = c.one_more(x.0);
     }
     c
 }
@@ -434,12 +458,10 @@ fn runs_in(tasks: [Task; 16], k: u8) -> u8
     c
 }
 
-// A task in state s, by its number k, stands in the queue once if it is ready, else nowhere.
-fn exact_at(s: State, queue: [TaskNo; 16], ready: usize, k: u8) -> bool
-    requires { ⌜ ready ≤ 16 ⌝ }
-    ensures { λ r. ⌜ r ≡ eqb (standsIn k (take ready queue)) (is 1 s) ⌝ }
+// Whether a task that stands n times in the queue stands there as often as its state says: once if it is ready, else never.
+fn exact_at(s: State, n: u8) -> bool
+    ensures { λ r. ⌜ r ≡ eqb n (is 1 s) ⌝ }
 {
-    let n = stands_in(queue, ready, k);
     let kind = kind_of(s);
     let want = plus_if(0, 1, kind);
     n == want
@@ -449,11 +471,13 @@ fn all_exact(tasks: [Task; 16], queue: [TaskNo; 16], ready: usize, count: u8) ->
     requires { ⌜ (ready ≤ 16) × (count ≤ 16) ⌝ }
     ensures { λ r. ⌜ r ≡ upTo (exactAt tasks (take ready queue)) count ⌝ }
 {
+    let c = tally(queue, ready);
     let mut k: u8 = 0;
     while k < count {
         let e = tasks[k as usize];
         let s = e.state;
-        if !exact_at(s, queue, ready, k + 1) {
+        let n = c.of[k as usize];
+        if !exact_at(s, n) {
             return false;
         }
         k += 1;
