@@ -3,6 +3,8 @@
 #[path = "../second/bench.rs"]
 #[allow(dead_code)]
 mod bench;
+#[path = "../second/ending.rs"]
+mod ending;
 #[path = "../second/executive.rs"]
 #[allow(dead_code)]
 mod executive;
@@ -282,12 +284,5 @@ fn main() -> ExitCode {
             .map(speed::speed),
         words => trial_by(words),
     };
-    match right {
-        Some(true) => ExitCode::SUCCESS,
-        Some(false) => ExitCode::from(1),
-        None => {
-            eprintln!("{USAGE}");
-            ExitCode::from(2)
-        }
-    }
+    ending::ending(right, USAGE)
 }

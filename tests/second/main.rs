@@ -4,6 +4,7 @@ mod bench;
 mod cards;
 mod compare;
 mod coverage;
+mod ending;
 mod executive;
 mod mixes;
 mod runs;
@@ -46,14 +47,7 @@ fn main() -> ExitCode {
         ["run", index, options @ ..] => print_run(index, options),
         _ => None,
     };
-    match right {
-        Some(true) => ExitCode::SUCCESS,
-        Some(false) => ExitCode::from(1),
-        None => {
-            eprintln!("{USAGE}");
-            ExitCode::from(2)
-        }
-    }
+    ending::ending(right, USAGE)
 }
 
 /// `--runs N` and `--seed S`, in any order, over what they are without.
