@@ -44,7 +44,7 @@ impl Table {
     }
 
     // Kind 00.
-    pub(crate) fn terminate(self) -> Work
+    pub(crate) fn terminate(mut self) -> Work
         requires { ⌜ Fit self × (0 < self .ready) ⌝ }
         ensures { λ r. ⌜ r ≡ carry (endPlan self) self ⌝ }
     {
@@ -74,7 +74,7 @@ impl Table {
     }
 
     // Kind 01.
-    pub(crate) fn restart(self, param: u8, count: u8) -> Work
+    pub(crate) fn restart(mut self, param: u8, count: u8) -> Work
         requires { ⌜ Standing self × (0 < self .ready) ⌝ }
         ensures { λ r. ⌜ r ≡ carry (restartPlan self param count) self ⌝ }
     {
@@ -101,7 +101,7 @@ impl Table {
     }
 
     // Kind 02, its interval in range.
-    pub(crate) fn pause(self, unit: u8, count: u8) -> Work
+    pub(crate) fn pause(mut self, unit: u8, count: u8) -> Work
         requires { ⌜ Fit self × (0 < self .ready) × (self .rest .clock .0 ≤ 2 ^ 40) × (unit < 5) ⌝ }
         ensures { λ r. ⌜ r ≡ carry (pausePlan self unit count) self ⌝ }
     {
@@ -125,7 +125,7 @@ impl Table {
     }
 
     // Kind 03: only a paused task enters, not a due one.
-    pub(crate) fn cancel(self, k: TaskNo) -> Work
+    pub(crate) fn cancel(mut self, k: TaskNo) -> Work
         requires { ⌜ Fit self ⌝ }
         ensures { λ r. ⌜ r ≡ carry (cancelPlan self k) self ⌝ }
     {
@@ -143,7 +143,7 @@ impl Table {
     }
 
     // Kind 80.
-    pub(crate) fn tick(self) -> Work
+    pub(crate) fn tick(mut self) -> Work
         requires { ⌜ Fit self × (self .rest .clock .0 + self .rest .granule ≤ 2 ^ 40) ⌝ }
         ensures { λ r. ⌜ r ≡ carry (tickPlan self) self ⌝ }
     {

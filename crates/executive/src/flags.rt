@@ -110,7 +110,7 @@ impl Table {
     }
 
     // Kind 09: operation 0 resets, 1 sets, 2 tests.
-    pub(crate) fn flag(self, operation: u8, f: FlagNo) -> Work
+    pub(crate) fn flag(mut self, operation: u8, f: FlagNo) -> Work
         requires { ⌜ Fit self × Times self × (f .0 < 32) ⌝ }
         ensures { λ r. ⌜ r ≡ carry (flagPlan self operation f) self ⌝ }
     {
@@ -127,7 +127,7 @@ impl Table {
     }
 
     // Kind 0A: the caller departs, unless its condition holds already.
-    pub(crate) fn wait(self, mode: u8, mask: u32) -> Work
+    pub(crate) fn wait(mut self, mode: u8, mask: u32) -> Work
         requires { ⌜ Fit self × (0 < self .ready) ⌝ }
         ensures { λ r. ⌜ r ≡ carry (waitPlan self mode mask) self ⌝ }
     {
@@ -147,7 +147,7 @@ impl Table {
     }
 
     // Kind 0B, its interval in range.
-    pub(crate) fn alarm(self, unit: u8, count: u8, f: FlagNo) -> Work
+    pub(crate) fn alarm(mut self, unit: u8, count: u8, f: FlagNo) -> Work
         requires { ⌜ Fit self × Times self × (f .0 < 32) × (self .rest .clock .0 ≤ 2 ^ 40) × (unit < 5) ⌝ }
         ensures { λ r. ⌜ r ≡ carry (alarmPlan self unit count f) self ⌝ }
     {

@@ -143,7 +143,7 @@ impl Table {
     }
 
     // Kind 04.
-    pub(crate) fn start_only(self, option: u8, k: TaskNo) -> Work
+    pub(crate) fn start_only(mut self, option: u8, k: TaskNo) -> Work
         requires { ⌜ Fit self × (0 < self .ready) ⌝ }
         ensures { λ r. ⌜ r ≡ carry (startOnlyPlan self option k) self ⌝ }
     {
@@ -161,7 +161,7 @@ impl Table {
     }
 
     // Kind 05, with room in the pool for a busy target's request.
-    pub(crate) fn start_or_queue(self, option: u8, k: TaskNo, argument: u16) -> Work
+    pub(crate) fn start_or_queue(mut self, option: u8, k: TaskNo, argument: u16) -> Work
         requires { ⌜ Fit self × (0 < self .ready) × (isDormant (stateAt self k) ≡ false → self .rest .queued < 32) ⌝ }
         ensures { λ r. ⌜ r ≡ carry (askPlan self option k argument) self ⌝ }
     {
