@@ -1,20 +1,34 @@
 -- The check of the queue's order: its loop, and that it passes exactly where all who stand there are tasks, in descending priority.
-use Prim.Native.Nat.{ℕ, _+_, _≤_, _<_}
-use mathlib.Core.Path.{_≡_, refl, ap, _∙_}
-use mathlib.Core.Bool.{true, false}
+use Prim.Native.Nat.{ℕ, zero, suc, _+_, _≤_, _<_}
+use mathlib.Core.Path.{_≡_, refl, sym, ap, _∙_}
+use mathlib.Core.Bool.{Bool, true, false}
 use mathlib.Core.List.{List, [], _∷_}
 use native.Mathlib.Omega.{arith}
 use native.Mathlib.Numerals.{add-one}
-use borrow.Author.Tests.{le-leb, lt-leb, leb-true, eq-eqb}
-use lib.Dec.{leb, eqb}
+use borrow.Author.Tests.{lt-ltb, le-ltb, le-leb, lt-leb, leb-true, ltb-false, eq-eqb}
+use lib.Dec.{leb, ltb, eqb}
 use lib.ListN.{length, take, drop, getD, drop-of-length-le}
 use lib.Seq.{length-take-le, getD-take, drop-cons}
 use Rattle.records.specs.declared.TaskNo.{TaskNo}
 use Rattle.executive.specs.declared.Task.{Task}
-use Rattle.executive.specs.Queue.{Item, one, count, AllLe, Desc}
-use Rattle.executive.specs.Table.{nobody, taskAt, items}
-use Rattle.executive.specs.Check.{isTask, falls, allOf}
+use Rattle.executive.specs.Queue.{Item, pick, one, count, AllLe, Desc}
+use Rattle.executive.specs.Table.{nobody, noTask, taskAt, entryPlace, items}
+use Rattle.executive.specs.Check.{_and_, isTask, falls, allOf}
+use Rattle.executive.proofs.Tasks.{at-place}
 use Rattle.executive.proofs.Tally.{both}
+
+-- a number names one of n tasks where its place is one of theirs
+task-place : (n : ℕ) (k : TaskNo) → n ≤ 16 → isTask n k ≡ ltb (entryPlace (k .0)) n
+unfolding entryPlace
+task-place n k h = go (k .0)
+  where
+    go : (m : ℕ) → (ltb 0 m and leb m n) ≡ ltb (entryPlace m) n
+    go zero = sym (le-ltb 16 n h)
+    go (suc i) = rw (lt-ltb 0 (suc i) (omega arith)) (near (ltb i 16) refl)
+      where
+        near : (b : Bool) → ltb i 16 ≡ b → ltb i n ≡ ltb (pick b i 16) n
+        near true l = refl
+        near false l = let g = ltb-false i 16 l in le-ltb i n (omega arith) ∙ sym (le-ltb 16 n h)
 
 -- the turns of the loop, over the first r places
 module _ (ts : List Task) (n : ℕ) (q : List TaskNo) (r : ℕ) (hr : r ≤ length q) (i p : ℕ) where
@@ -23,18 +37,25 @@ module _ (ts : List Task) (n : ℕ) (q : List TaskNo) (r : ℕ) (hr : r ≤ leng
       let m : length (take r q) ≡ r = length-take-le r q hr in
       drop-cons (take r q) i nobody (omega arith) ∙ rw (getD-take r q i nobody h, add-one) refl
 
-  pub falls-off : i < r → isTask n (getD q i nobody) ≡ false → falls ts n p (drop i (take r q)) ≡ false
-  unfolding falls
-  falls-off h t = rw (opened h, t) refl
+  -- the next in the queue, k being its place
+  module _ (h : i < r) (hn : n ≤ 16) (ht : length ts ≡ 16) (k : ℕ) (e : k ≡ entryPlace (getD q i nobody .0)) where
+    entry : getD ts k noTask ≡ taskAt ts (getD q i nobody .0)
+    entry = rw e (sym (at-place ts ht (getD q i nobody .0)))
 
-  pub falls-over : i < r → isTask n (getD q i nobody) ≡ true → (e : Task) → e ≡ taskAt ts (getD q i nobody .0) → p < e .priority → falls ts n p (drop i (take r q)) ≡ false
-  unfolding falls
-  falls-over h t e ee l = rw (opened h, t, ← ee, lt-leb (e .priority) p l) refl
+    within : (b : Bool) → ltb k n ≡ b → isTask n (getD q i nobody) ≡ b
+    within b l = task-place n (getD q i nobody) hn ∙ rw e at l
 
-  pub falls-turn : i < r → isTask n (getD q i nobody) ≡ true → (e : Task) → e ≡ taskAt ts (getD q i nobody .0) → e .priority ≤ p
-      → falls ts n (e .priority) (drop (i + 1) (take r q)) ≡ falls ts n p (drop i (take r q))
-  unfolding falls
-  falls-turn h t e ee l = rw (opened h, t, ← ee, le-leb (e .priority) p l) refl
+    pub falls-off : n ≤ k → falls ts n p (drop i (take r q)) ≡ false
+    unfolding falls
+    falls-off l = rw (opened h, within false (le-ltb k n l)) refl
+
+    pub falls-over : k < n → p < getD ts k noTask .priority → falls ts n p (drop i (take r q)) ≡ false
+    unfolding falls
+    falls-over l o = rw (opened h, within true (lt-ltb k n l), ← entry, lt-leb (getD ts k noTask .priority) p o) refl
+
+    pub falls-turn : k < n → getD ts k noTask .priority ≤ p → falls ts n (getD ts k noTask .priority) (drop (i + 1) (take r q)) ≡ falls ts n p (drop i (take r q))
+    unfolding falls
+    falls-turn l o = rw (opened h, within true (lt-ltb k n l), ← entry, le-leb (getD ts k noTask .priority) p o) refl
 
   pub falls-end : r ≤ i → falls ts n p (drop i (take r q)) ≡ true
   unfolding falls

@@ -14,12 +14,12 @@ use Rattle.executive.specs.declared.Request.{Request}
 use Rattle.executive.specs.declared.Table.{Table}
 use Rattle.executive.specs.Numbers.{highest}
 use Rattle.executive.specs.Queue.{one}
-use Rattle.executive.specs.Table.{noTask, requests, taskAt}
+use Rattle.executive.specs.Table.{noTask, requests, taskAt, entryPlace}
 use Rattle.executive.specs.WellFormed.{kindOf, is, startsOf, endsOf, runsOf}
-use Rattle.executive.specs.Check.{_and_, upTo, allOf, entryInRange, requestInRange, isBlank, sizesRight, inBounds, numbersRight, isTask, standsIn, exactAt, queueRight, alarmRight, taskTimely, timesRight, isStarted, startedRight, taskUnmet, masksRight, targetBusy, busyRight, waitersAt, namesOthers, waitersRight, sleepsRight, dormantRight, poolRight, isWellFormed, entryRight, requestFits, requestRight, isQuiet, isLone, lineRight, inPasses, Tallies}
-use Rattle.executive.proofs.Tasks.{at-none, at-task}
+use Rattle.executive.specs.Check.{_and_, upTo, allOf, entryInRange, requestInRange, isBlank, sizesRight, inBounds, numbersRight, standsIn, exactAt, queueRight, alarmRight, taskTimely, timesRight, isStarted, startedRight, taskUnmet, masksRight, targetBusy, busyRight, waitersAt, namesOthers, waitersRight, sleepsRight, dormantRight, poolRight, isWellFormed, entryRight, requestFits, requestRight, isQuiet, isLone, lineRight, inPasses, Tallies}
+use Rattle.executive.proofs.Tasks.{at-place, at-no-place}
 use Rattle.executive.proofs.Tally.{both, all-make}
-use Rattle.executive.proofs.Both.{split, paired, none-one, of-not, sum-none}
+use Rattle.executive.proofs.Both.{split, paired, beyond, none-one, of-not, sum-none}
 use Rattle.executive.proofs.Blanks.{tasks-get}
 
 -- two tests are one if each passes where the other does
@@ -75,34 +75,23 @@ tallied-exact c ts xs n l t = same-up (talliedAt c ts) (exactAt ts xs) n at
         let z : suc (k - 1) ≡ k = omega arith in
         ap (λ (m : ℕ). eqb m (is 1 (taskAt ts k .state))) (t .counts (k - 1) (omega arith) ∙ ap (λ (m : ℕ). standsIn m xs) z)
 
--- a task's number is from 1 to n
-pub task-within : (n : ℕ) (k : TaskNo) → isTask n k ≡ true → (0 < k .0) × (k .0 ≤ n)
-task-within n k e = let a = split (ltb 0 (k .0)) _ e in (ltb-true _ _ (a .0), leb-true _ _ (a .1))
-
 -- the rules on a request, with its target's entry read where it lies
 module _ (ts : List Task) (n : ℕ) (r : Request) where
-  pub fits-within : requestFits n r ≡ true → (0 < r .target .0) × (r .target .0 ≤ n)
-  fits-within e =
-      let a = split (requestInRange n r) _ e in
-      let b = split (namesOthers r) _ (a .1) in
-      let p = split (leb (r .priority) highest) _ (a .0) in
-      let q = split (leb (r .target .0) n) _ (p .1) in
-      (ltb-true 0 (r .target .0) (b .1), leb-true _ _ (q .0))
-
   pub fits-not : requestFits n r ≡ false → requestRight ts n r ≡ false
-  fits-not e = go (requestInRange n r) (namesOthers r) (ltb 0 (r .target .0)) refl e
+  fits-not e = go (requestInRange n r) (namesOthers r) e
     where
-      go : (a b x : Bool) → ltb 0 (r .target .0) ≡ x → (a and b and x) ≡ false → (a and b and targetBusy ts r) ≡ false
-      go false b x h f = refl
-      go true false x h f = refl
-      go true true true h f = absurd (let z : _≡_ {A = ℕ} 0 1 = cc in omega arith)
-      go true true false h f = rw (at-none ts (r .target .0) (let z = ltb-false 0 (r .target .0) h in omega arith)) refl
+      go : (a b : Bool) → (a and b) ≡ false → (a and b and targetBusy ts r) ≡ false
+      go false b f = refl
+      go true b f = rw f refl
 
-  pub fits-busy : (b : Bool) → requestFits n r ≡ true → eqb 0 (kindOf (getD ts (r .target .0 - 1) noTask .state)) ≡ b → requestRight ts n r ≡ not b
-  fits-busy b e h =
-      let a = split (requestInRange n r) _ e in
-      let d = split (namesOthers r) _ (a .1) in
-      rw (a .0, d .0, at-task ts (r .target .0) (fits-within e .0), h) refl
+  module _ (l : length ts ≡ 16) (k : ℕ) (e : k ≡ entryPlace (r .target .0)) where
+    pub fits-busy : (b : Bool) → requestFits n r ≡ true → eqb 0 (kindOf (getD ts k noTask .state)) ≡ b → requestRight ts n r ≡ not b
+    fits-busy b f h =
+        let a = split (requestInRange n r) _ f in
+        rw (a .0, a .1, at-place ts l (r .target .0), ← e, h) refl
+
+    pub fits-nobody : 15 < k → requestRight ts n r ≡ false
+    fits-nobody h = sym (beyond (requestInRange n r) _ (beyond (namesOthers r) _ (sym (rw (at-no-place ts l (r .target .0) k e h) refl))))
 
 -- ---- where nobody waits and nobody is named there is nothing to count
 module _ (ts : List Task) (p : List Request) (q : allOf isQuiet ts ≡ true) (l : allOf isLone p ≡ true) where

@@ -13,9 +13,10 @@ use borrow.Author.Tests.{eqb-true, eqb-false, ne-eqb, ltb-true, ltb-false}
 use Rattle.records.specs.declared.TaskNo.{TaskNo}
 use lib.Seq.{length-take-le, getD-take, drop-cons, getD-set-same, getD-set-other, set-out}
 use Rattle.executive.specs.Queue.{pick, one}
-use Rattle.executive.specs.Table.{nobody}
+use Rattle.executive.specs.Table.{nobody, entryPlace}
 use Rattle.executive.specs.WellFormed.{sumOf}
 use Rattle.executive.specs.Check.{upTo, allOf, standsIn, moreAt, Small, Tallies}
+use Rattle.executive.proofs.Tasks.{read-place, set-place}
 
 pub one-le : (b : Bool) → one b ≤ 1
 one-le true = omega arith
@@ -131,21 +132,14 @@ unfolding moreAt
 more-length c zero = refl
 more-length c (suc i) = length-set c i (getD c i 0 + 1)
 
--- what the code makes of a tally: nothing, or one more at a place
-module _ (c : List ℕ) where
-  pub more-none : (k : ℕ) → k ≡ 0 → c ≡ moreAt c k
-  unfolding moreAt
-  more-none k e = rw e refl
+-- one more at a number's place
+pub more-place : (c : List ℕ) → length c ≡ 16 → (k : ℕ) → moreAt c k ≡ set c (entryPlace k) (getD c (entryPlace k) 0 + 1)
+unfolding moreAt entryPlace
+more-place c l zero = sym (set-out c 16 _ (omega arith))
+more-place c l (suc i) = rw (← read-place c l i 0) (set-place c l i (getD c i 0 + 1))
 
-  pub more-past : (k : ℕ) → length c < k → c ≡ moreAt c k
-  unfolding moreAt
-  more-past zero h = refl
-  more-past (suc i) h = sym (set-out c i (getD c i 0 + 1) (omega arith))
-
-  pub more-put : (k : ℕ) → 0 < k → set c (k - 1) (getD c (k - 1) 0 + 1) ≡ moreAt c k
-  unfolding moreAt
-  more-put zero h = absurd (omega arith)
-  more-put (suc i) h = let z : suc i - 1 ≡ i = omega arith in rw z refl
+pub more-no-place : (c : List ℕ) → length c ≡ 16 → (n k : ℕ) → k ≡ entryPlace n → 15 < k → moreAt c n ≡ c
+more-no-place c l n k e h = more-place c l n ∙ rw (← e) (set-out c k _ (omega arith))
 
 -- an empty tally, and one turn of the loop that counts from the back
 zeros : (n j : ℕ) → _≡_ {A = ℕ} (getD (replicate n 0) j 0) 0

@@ -1,17 +1,48 @@
--- What `taskAt` and `putAt` are at a number that is none, too high, or a task's.
+-- What `taskAt` and `putAt` are at a number that is none or a task's, and at its place.
 use Prim.Native.Nat.{ℕ, zero, suc, _-_, _≤_, _<_}
-use mathlib.Core.Path.{_≡_, refl, ap}
+use mathlib.Core.Path.{_≡_, refl, sym, _∙_}
 use mathlib.Core.Bool.{Bool, true, false}
 use mathlib.Core.List.{List}
 use native.Mathlib.Omega.{arith}
-use borrow.Author.Tests.{ne-eqb, ltb-true, ltb-false}
+use borrow.Author.Tests.{ne-eqb, lt-ltb, le-ltb, ltb-true, ltb-false}
 use lib.Dec.{ltb}
 use lib.ListN.{length, getD, set, length-set, List·getD-eq-default}
 use lib.Seq.{set-out, getD-set-same}
 use Rattle.executive.specs.declared.Task.{Task}
 use Rattle.executive.specs.Places.{levelAt}
 use Rattle.executive.specs.Queue.{pick}
-use Rattle.executive.specs.Table.{noTask, taskAt, putAt}
+use Rattle.executive.specs.Table.{noTask, taskAt, putAt, entryPlace}
+
+-- the place of a number, as it is worked out
+pub place-none : (n : ℕ) → n ≡ 0 → 16 ≡ entryPlace n
+unfolding entryPlace
+place-none n e = rw e refl
+
+pub place-past : (n : ℕ) → 16 < n → 16 ≡ entryPlace n
+unfolding entryPlace
+place-past zero h = absurd (omega arith)
+place-past (suc i) h = rw (le-ltb i 16 (omega arith)) refl
+
+pub place-task : (n : ℕ) → 0 < n → n ≤ 16 → n - 1 ≡ entryPlace n
+unfolding entryPlace
+place-task zero h l = absurd (omega arith)
+place-task (suc i) h l = rw (lt-ltb i 16 (omega arith)) (omega arith)
+
+-- what lies at a number's place of sixteen, and what is put there
+module _ {A : Type 0} (xs : List A) (l : length xs ≡ 16) (i : ℕ) where
+  pub read-place : (d : A) → getD xs i d ≡ getD xs (pick (ltb i 16) i 16) d
+  read-place d = go (ltb i 16) refl
+    where
+      go : (b : Bool) → ltb i 16 ≡ b → getD xs i d ≡ getD xs (pick b i 16) d
+      go true h = refl
+      go false h = List·getD-eq-default xs d {n = i} (omega (arith, ltb-false i 16 h)) ∙ sym (List·getD-eq-default xs d {n = 16} (omega arith))
+
+  pub set-place : (x : A) → set xs i x ≡ set xs (pick (ltb i 16) i 16) x
+  set-place x = go (ltb i 16) refl
+    where
+      go : (b : Bool) → ltb i 16 ≡ b → set xs i x ≡ set xs (pick b i 16) x
+      go true h = refl
+      go false h = set-out xs i x (omega (arith, ltb-false i 16 h)) ∙ sym (set-out xs 16 x (omega arith))
 
 module _ (ts : List Task) where
   pub at-none : (n : ℕ) → n ≡ 0 → taskAt ts n ≡ noTask
@@ -23,25 +54,22 @@ module _ (ts : List Task) where
   at-task zero h = absurd (omega arith)
   at-task (suc i) h = let z : suc i - 1 ≡ i = omega arith in rw z refl
 
-  pub at-high : (n : ℕ) → length ts < n → taskAt ts n ≡ noTask
-  unfolding taskAt
-  at-high zero h = absurd (omega arith)
-  at-high (suc i) h = List·getD-eq-default ts noTask (omega arith)
+  module _ (l : length ts ≡ 16) where
+    pub at-place : (n : ℕ) → taskAt ts n ≡ getD ts (entryPlace n) noTask
+    unfolding taskAt entryPlace
+    at-place zero = sym (List·getD-eq-default ts noTask {n = 16} (omega arith))
+    at-place (suc i) = read-place ts l i noTask
 
-  module _ (e : Task) where
-    pub put-none : (n : ℕ) → n ≡ 0 → putAt ts n e ≡ ts
-    unfolding putAt
-    put-none n h = rw h refl
+    pub at-no-place : (n k : ℕ) → k ≡ entryPlace n → 15 < k → taskAt ts n ≡ noTask
+    at-no-place n k e h = at-place n ∙ rw (← e) (List·getD-eq-default ts noTask {n = k} (omega arith))
 
-    pub put-task : (n : ℕ) → 0 < n → putAt ts n e ≡ set ts (n - 1) e
-    unfolding putAt
-    put-task zero h = absurd (omega arith)
-    put-task (suc i) h = let z : suc i - 1 ≡ i = omega arith in rw z refl
+    pub put-place : (e : Task) (n : ℕ) → putAt ts n e ≡ set ts (entryPlace n) e
+    unfolding putAt entryPlace
+    put-place e zero = sym (set-out ts 16 e (omega arith))
+    put-place e (suc i) = set-place ts l i e
 
-    pub put-high : (n : ℕ) → length ts < n → putAt ts n e ≡ ts
-    unfolding putAt
-    put-high zero h = absurd (omega arith)
-    put-high (suc i) h = set-out ts i e (omega arith)
+    pub put-no-place : (e : Task) (n k : ℕ) → k ≡ entryPlace n → 15 < k → putAt ts n e ≡ ts
+    put-no-place e n k z h = put-place e n ∙ rw (← z) (set-out ts k e (omega arith))
 
 -- the priority that an entry has once it is put in place
 pub level-put : (ts : List Task) (e : Task) → length ts ≡ 16 → (n : ℕ) → levelAt n (e .priority) ≡ taskAt (putAt ts n e) n .priority

@@ -211,7 +211,7 @@ abbrev pub entryRight : ℕ → ℕ → ℕ → Task → Bool
 entryRight n c fs e = entryInRange n e and taskTimely c e and isStarted c e and taskUnmet fs e and sleepsRight e
 
 abbrev pub requestFits : ℕ → Request → Bool
-requestFits n r = requestInRange n r and namesOthers r and ltb 0 (r .target .0)
+requestFits n r = requestInRange n r and namesOthers r
 
 abbrev pub requestRight : List Task → ℕ → Request → Bool
 requestRight ts n r = requestInRange n r and namesOthers r and targetBusy ts r

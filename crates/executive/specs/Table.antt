@@ -64,6 +64,11 @@ unfoldable pub putAt : List Task → ℕ → Task → List Task
 putAt ts zero e = ts
 putAt ts (suc i) e = set ts i e
 
+-- the place of number k in an array of sixteen, k - 1; 16, which is no place, where k is 0 or over 16
+unfoldable pub entryPlace : ℕ → ℕ
+entryPlace zero = 16
+entryPlace (suc i) = pick (ltb i 16) i 16
+
 -- what the calls' methods ask of a table, besides a caller: the arrays in order, no time out of range
 pub record Standing (t : Table) : Type 0 where
   pub fit : Fit t

@@ -5,6 +5,7 @@ use crate::Request;
 use crate::State;
 use crate::Table;
 use crate::Task;
+use crate::places;
 use records::TaskNo;
 ghost use mathlib.Core.Path.{_≡_};
 ghost use Prim.Native.Nat.{_≤_, _<_, _+_};
@@ -13,7 +14,7 @@ ghost use lib.ListN.{drop, take};
 ghost use Rattle.executive.specs.Queue.{one};
 ghost use Rattle.executive.specs.Table.{taskAt};
 ghost use Rattle.executive.specs.WellFormed.{kindOf, is, runsOf};
-ghost use Rattle.executive.specs.Check.{upTo, allOf, inBounds, entryInRange, isZero, isBlank, requestInRange, isTask, isNobody, falls, standsIn, exactAt, isStored, isTimely, alarmRight, isUnmet, waitersAt, namesOthers, sleepsRight, isFree, entryRight, requestFits, requestRight, isQuiet, isLone, lineRight, askedRight, linkOf, linksIn, isWellFormed, Checked, Decided, moreAt, Small, Tallies};
+ghost use Rattle.executive.specs.Check.{upTo, allOf, inBounds, entryInRange, isZero, isBlank, requestInRange, isNobody, falls, standsIn, exactAt, isStored, isTimely, alarmRight, isUnmet, waitersAt, namesOthers, sleepsRight, isFree, entryRight, requestFits, requestRight, isQuiet, isLone, lineRight, askedRight, linkOf, linksIn, isWellFormed, Checked, Decided, moreAt, Small, Tallies};
 ghost use Rattle.executive.specs.Broken.{Broken};
 
 // What a request's waiter waits for: its start, or the end of the run that it begins.
@@ -266,22 +267,19 @@ fn free_from(pool: [Request; 32], queued: usize) -> bool
     true
 }
 
-// The rules on one request alone: its numbers, its waiter, that it has a target.
+// The rules on one request alone: its numbers and its waiter.
 fn request_fits(q: Request, count: u8) -> bool
     ensures { λ r. ⌜ r ≡ requestFits count q ⌝ }
 {
     if !request_in_range(q, count) {
         return false;
     }
-    if !names_others(q) {
-        return false;
-    }
-    0 < q.target.0
+    names_others(q)
 }
 
 // All queued requests keep the rules on one request, and name busy tasks only; in one pass.
 fn requests_right(tasks: [Task; 16], pool: [Request; 32], queued: usize, count: u8) -> bool
-    requires { ⌜ (queued ≤ 32) × (count ≤ 16) ⌝ }
+    requires { ⌜ queued ≤ 32 ⌝ }
     ensures { λ r. ⌜ r ≡ allOf (requestRight tasks count) (take queued pool) ⌝ }
 {
     let mut i: usize = 0;
@@ -290,8 +288,11 @@ fn requests_right(tasks: [Task; 16], pool: [Request; 32], queued: usize, count: 
         if !request_fits(q, count) {
             return false;
         }
-        let k = q.target.0 - 1;
-        let e = tasks[k as usize];
+        let target = places::entry_place(q.target);
+        if 15 < target {
+            return false;
+        }
+        let e = tasks[target];
         let s = e.state;
         if 0 == kind_of(s) {
             return false;
@@ -340,12 +341,6 @@ fn blank_from(queue: [TaskNo; 16], ready: usize) -> bool
     true
 }
 
-fn is_task(k: TaskNo, count: u8) -> bool
-    ensures { λ r. ⌜ r ≡ isTask count k ⌝ }
-{
-    0 < k.0 && k.0 <= count
-}
-
 // Those ready are tasks, in descending priority.
 fn descends(tasks: [Task; 16], queue: [TaskNo; 16], ready: usize, count: u8) -> bool
     requires { ⌜ (ready ≤ 16) × (count ≤ 16) ⌝ }
@@ -354,12 +349,11 @@ fn descends(tasks: [Task; 16], queue: [TaskNo; 16], ready: usize, count: u8) -> 
     let mut p: u8 = 15;
     let mut i: usize = 0;
     while i < ready {
-        let k = queue[i];
-        if !is_task(k, count) {
+        let k = places::entry_place(queue[i]);
+        if count as usize <= k {
             return false;
         }
-        let n = k.0 - 1;
-        let e = tasks[n as usize];
+        let e = tasks[k];
         if p < e.priority {
             return false;
         }
@@ -386,17 +380,14 @@ struct Counts {
 
 impl Counts {
     // One more for the number k; a number that has no place changes nothing.
-    fn one_more(mut self, k: u8) -> Counts
+    fn one_more(mut self, k: TaskNo) -> Counts
         requires { ⌜ Small (self .of) ⌝ }
-        ensures { λ r. ⌜ r .of ≡ moreAt (self .of) k ⌝ }
+        ensures { λ r. ⌜ r .of ≡ moreAt (self .of) (k .0) ⌝ }
     {
-        if k == 0 {
+        let i = places::entry_place(k);
+        if 15 < i {
             return self;
         }
-        if 16 < k {
-            return self;
-        }
-        let i = (k - 1) as usize;
         let n = self.of[i];
         self.of[i] = n + 1;
         self
@@ -413,7 +404,7 @@ fn tally(queue: [TaskNo; 16], ready: usize) -> Counts
     while 0 < i {
         i -= 1;
         let x = queue[i];
-        c = c.one_more(x.0);
+        c = c.one_more(x);
     }
     c
 }

@@ -1,4 +1,4 @@
-// The entries by task number: one guarded read, one guarded write.
+// The entries by task number: one guarded way from a number to its place, one read, one write.
 use crate::Millis;
 use crate::State;
 use crate::Table;
@@ -7,7 +7,7 @@ use records::TaskNo;
 ghost use mathlib.Core.Path.{_≡_};
 ghost use Prim.Native.Nat.{_<_};
 ghost use lib.ListN.{set};
-ghost use Rattle.executive.specs.Table.{taskAt, putAt};
+ghost use Rattle.executive.specs.Table.{taskAt, putAt, entryPlace};
 ghost use Rattle.executive.specs.Plans.{stateAt};
 
 const NO_TASK: Task = Task {
@@ -19,18 +19,28 @@ const NO_TASK: Task = Task {
     end_waiter: TaskNo(0),
 };
 
+// The place of a task's entry; 16, which is no place, for a number that no task can have. Whoever reads or writes by a number that the table holds asks here.
+pub(crate) fn entry_place(k: TaskNo) -> usize
+    ensures { λ r. ⌜ r ≡ entryPlace (k .0) ⌝ }
+{
+    let n = k.0;
+    if n == 0 {
+        return 16;
+    }
+    if 16 < n {
+        return 16;
+    }
+    (n - 1) as usize
+}
+
 // The task's entry; a blank one where there is no such task.
 pub(crate) fn task_at(tasks: [Task; 16], k: TaskNo) -> Task
     ensures { λ r. ⌜ r ≡ taskAt tasks (k .0) ⌝ }
 {
-    let n = k.0;
-    if n == 0 {
+    let i = entry_place(k);
+    if 15 < i {
         return NO_TASK;
     }
-    if 16 < n {
-        return NO_TASK;
-    }
-    let i = (n - 1) as usize;
     tasks[i]
 }
 
@@ -55,14 +65,11 @@ fn put_in(tasks: [Task; 16], i: usize, e: Task) -> [Task; 16]
 pub(crate) fn put_at(tasks: [Task; 16], k: TaskNo, e: Task) -> [Task; 16]
     ensures { λ r. ⌜ r ≡ putAt tasks (k .0) e ⌝ }
 {
-    let n = k.0;
-    if n == 0 {
+    let i = entry_place(k);
+    if 15 < i {
         return tasks;
     }
-    if 16 < n {
-        return tasks;
-    }
-    put_in(tasks, (n - 1) as usize, e)
+    put_in(tasks, i, e)
 }
 
 impl Table {

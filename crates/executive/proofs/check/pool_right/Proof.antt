@@ -7,7 +7,7 @@ use Rattle.executive.proofs.check.pool_right.Statement.{statement}
 use Rattle.executive.proofs.check.pool_right.Tie as tie
 
 requests-right-requires : tie.Need-requests-right-requires
-requests-right-requires c κs = c .pre
+requests-right-requires c κs = c .pre .0
 
 returns : tie.Need-returns
 returns c = here _ _ (sym (c .before .requests-right .ensures) ∙ not-true _ (c .if1 .taken))
