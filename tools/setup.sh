@@ -1,4 +1,28 @@
-# What ./test and ./bench need beyond the Rattle kit: sourced by both, from the top of the repository.
+# What ./test, ./bench and the comparisons need beyond the Rattle kit, and how they run what it builds: sourced by each.
+
+# The kit builds for x86-64 Linux. On another machine its programs run under its own emulator, and C is compiled across.
+machine=$(uname -m)
+case $machine in
+x86_64 | amd64) emulated=no c_compiler=gcc c_package=gcc ;;
+*) emulated=yes c_compiler=x86_64-linux-gnu-gcc c_package=gcc-x86-64-linux-gnu ;;
+esac
+
+# runnable PROGRAM: prints what runs this x86-64 program here: itself, or a script beside it that calls the emulator.
+runnable() {
+    [ $emulated = yes ] || {
+        printf '%s\n' "$1"
+        return
+    }
+    rt_path=$(readlink -f "$(command -v rt)") || rt_path=
+    parts=${RATTLE_HOME:-${rt_path%/bin/rt}}/on/$machine/toolchain
+    if [ ! -x "$parts/bin/qemu-x86_64" ]; then
+        echo "This machine ($machine) is no x86-64, and the Rattle kit's emulator is not at '$parts/bin'." >&2
+        return 1
+    fi
+    printf '#!/bin/sh\nexec "%s" "%s" --library-path "%s" "%s" "$@"\n' \
+        "$parts/bin/qemu-x86_64" "$parts/lib/ld-linux-x86-64.so.2" "$parts/lib" "$1" >"$1.emulated" &&
+        chmod +x "$1.emulated" && printf '%s\n' "$1.emulated"
+}
 
 # add_package PACKAGE: from the distribution's packages, where this user may.
 add_package() {
