@@ -60,7 +60,7 @@ state-owned AwaitEnd vs q = (omega arith, (omega arith, (omega arith, tt)))
 task-owned : (e : Task) (vs : List Val) → Is (row task-type) e vs → Fits taskWidths (taskNumbers e)
 task-owned e vs q =
     let f = owed task-type task-laws e vs q in
-    let s = state-owned (e .state) _ (f .1 .0) in
+    let s = state-owned (e .state) _ (f .1 .1 .1 .1 .0) in
     (omega arith, (s .0, (s .1 .0, (s .1 .1 .0, (omega arith, (omega arith, (omega arith, (omega arith, tt))))))))
 
 request-owned : (r : Request) (vs : List Val) → Is (row request-type) r vs → Fits requestWidths (requestNumbers r)

@@ -1,8 +1,8 @@
 -- The laws of the check's loops: counting from the back, a test at each number, a test of each element.
 use Prim.Native.Nat.{ℕ, zero, suc, _+_, _-_, _≤_, _<_}
-use mathlib.Core.Path.{_≡_, refl, sym, ap, _∙_}
+use mathlib.Core.Path.{_≡_, refl, ap, _∙_}
 use mathlib.Core.Bool.{Bool, true, false, not}
-use mathlib.Core.Logic.{⊎-elim}
+use mathlib.Core.Logic.{⊎-elim, _≢_}
 use mathlib.Core.List.{List, [], _∷_}
 use native.Mathlib.Omega.{arith}
 use native.Mathlib.Nat.{eq-or-lt-of-le}
@@ -11,12 +11,11 @@ use lib.Dec.{eqb, ltb}
 use lib.ListN.{length, take, drop, getD, set, length-set, length-drop, replicate, drop-of-length-le, List·getD-eq-default}
 use borrow.Author.Tests.{eqb-true, eqb-false, ne-eqb, ltb-true, ltb-false}
 use Rattle.records.specs.declared.TaskNo.{TaskNo}
-use lib.Seq.{length-take-le, getD-take, drop-cons, getD-set-same, getD-set-other, set-out}
+use lib.Seq.{length-take-le, getD-take, drop-cons, getD-set-same, getD-set-other}
 use Rattle.executive.specs.Queue.{pick, one}
 use Rattle.executive.specs.Table.{nobody, entryPlace}
 use Rattle.executive.specs.WellFormed.{sumOf}
-use Rattle.executive.specs.Check.{upTo, allOf, standsIn, moreAt, Small, Tallies}
-use Rattle.executive.proofs.Tasks.{read-place, set-place}
+use Rattle.executive.specs.Check.{upTo, allOf, Tallies}
 
 pub one-le : (b : Bool) → one b ≤ 1
 one-le true = omega arith
@@ -114,66 +113,67 @@ module _ {A : Type 0} (f : A → Bool) (d : A) where
     pub first-end : n ≤ i → allOf f (drop i (take n p)) ≡ true
     first-end h = every-end (take n p) i (rw (length-take-le n p hn) h)
 
--- ---- a tally of numbers, one more at a time
+-- ---- a tally of numbers, one more at a time: at the number's place of seventeen, the last for those that no task has
+abbrev more : List ℕ → ℕ → List ℕ
+more c k = set c (entryPlace k) (getD c (entryPlace k) 0 + 1)
+
 more-same : (c : List ℕ) (i j : ℕ) → j < length c → j ≡ i → getD (set c i (getD c i 0 + 1)) j 0 ≡ getD c j 0 + 1
 more-same c i j l e = rw e (getD-set-same c i (getD c i 0 + 1) 0 (omega arith))
 
-more-counts : (c : List ℕ) (k j : ℕ) → j < length c → getD (moreAt c k) j 0 ≡ one (eqb (suc j) k) + getD c j 0
-unfolding moreAt
-more-counts c zero j l = rw (ne-eqb (suc j) 0 (λ e. omega arith)) (omega arith)
-more-counts c (suc i) j l = go (eqb (suc j) (suc i)) refl
+more-other : (c : List ℕ) (i j : ℕ) → j ≢ i → getD (set c i (getD c i 0 + 1)) j 0 ≡ getD c j 0
+more-other c i j n = getD-set-other c i j (getD c i 0 + 1) 0 n
+
+-- task j + 1 has one more exactly if it is k
+more-counts : (c : List ℕ) (k j : ℕ) → length c ≡ 17 → j < 16 → getD (more c k) j 0 ≡ one (eqb (suc j) k) + getD c j 0
+unfolding entryPlace
+more-counts c zero j l h = more-other c 16 j (λ e. omega arith) ∙ rw (ne-eqb (suc j) 0 (λ e. omega arith)) (omega arith)
+more-counts c (suc i) j l h = go (ltb i 16) refl (eqb (suc j) (suc i)) refl
   where
-    go : (b : Bool) → eqb (suc j) (suc i) ≡ b → getD (set c i (getD c i 0 + 1)) j 0 ≡ one b + getD c j 0
-    go true e = more-same c i j l (omega (arith, eqb-true (suc j) (suc i) e)) ∙ omega arith
-    go false e = getD-set-other c i j (getD c i 0 + 1) 0 (λ q. eqb-false (suc j) (suc i) e (omega arith)) ∙ omega arith
+    go : (b : Bool) → ltb i 16 ≡ b → (d : Bool) → eqb (suc j) (suc i) ≡ d → getD (set c (pick b i 16) (getD c (pick b i 16) 0 + 1)) j 0 ≡ one d + getD c j 0
+    go true e true f = more-same c i j (omega arith) (omega (arith, eqb-true (suc j) (suc i) f)) ∙ omega arith
+    go true e false f = more-other c i j (λ q. eqb-false (suc j) (suc i) f (omega arith)) ∙ omega arith
+    go false e true f = absurd (omega (arith, ltb-false i 16 e, eqb-true (suc j) (suc i) f))
+    go false e false f = more-other c 16 j (λ q. omega arith) ∙ omega arith
 
-more-length : (c : List ℕ) (k : ℕ) → length (moreAt c k) ≡ length c
-unfolding moreAt
-more-length c zero = refl
-more-length c (suc i) = length-set c i (getD c i 0 + 1)
+more-low : (c : List ℕ) (i j n : ℕ) → getD c i 0 ≤ n → getD c j 0 ≤ n → getD (set c i (getD c i 0 + 1)) j 0 ≤ suc n
+more-low c i j n a b = go (eqb j i) refl (ltb j (length c)) refl
+  where
+    go : (d : Bool) → eqb j i ≡ d → (e : Bool) → ltb j (length c) ≡ e → getD (set c i (getD c i 0 + 1)) j 0 ≤ suc n
+    go true f true g = omega (arith, more-same c i j (ltb-true j (length c) g) (eqb-true j i f))
+    go true f false g = let z : getD (set c i (getD c i 0 + 1)) j 0 ≡ 0 = List·getD-eq-default (set c i (getD c i 0 + 1)) 0 {n = j} (omega (arith, ltb-false j (length c) g, length-set c i (getD c i 0 + 1))) in omega arith
+    go false f e g = omega (arith, more-other c i j (eqb-false j i f))
 
--- one more at a number's place
-pub more-place : (c : List ℕ) → length c ≡ 16 → (k : ℕ) → moreAt c k ≡ set c (entryPlace k) (getD c (entryPlace k) 0 + 1)
-unfolding moreAt entryPlace
-more-place c l zero = sym (set-out c 16 _ (omega arith))
-more-place c l (suc i) = rw (← read-place c l i 0) (set-place c l i (getD c i 0 + 1))
+-- a tally in the making: besides, no count is over the line's length
+pub record Tallying (c : List ℕ) (xs : List TaskNo) : Type 0 where
+  pub told : Tallies c xs
+  pub low : (j : ℕ) → getD c j 0 ≤ length xs
 
-pub more-no-place : (c : List ℕ) → length c ≡ 16 → (n k : ℕ) → k ≡ entryPlace n → 15 < k → moreAt c n ≡ c
-more-no-place c l n k e h = more-place c l n ∙ rw (← e) (set-out c k _ (omega arith))
-
--- an empty tally, and one turn of the loop that counts from the back
 zeros : (n j : ℕ) → _≡_ {A = ℕ} (getD (replicate n 0) j 0) 0
 zeros zero j = refl
 zeros (suc n) zero = refl
 zeros (suc n) (suc j) = zeros n j
 
-tally-more : (c : List ℕ) (x : TaskNo) (xs : List TaskNo) → Tallies c xs → Tallies (moreAt c (x .0)) (x ∷ xs)
+tally-more : (c : List ℕ) (x : TaskNo) (xs : List TaskNo) → Tallying c xs → Tallying (more c (x .0)) (x ∷ xs)
 unfolding sumOf
-tally-more c x xs t = record { sized = more-length c (x .0) ∙ t .sized; counts = λ j h. more-counts c (x .0) j (omega (arith, t .sized)) ∙ ap (λ (m : ℕ). one (eqb (suc j) (x .0)) + m) (t .counts j h) }
-
--- nobody stands in a line more often than the line is long
-stands-le : (k : ℕ) (xs : List TaskNo) → standsIn k xs ≤ length xs
-unfolding sumOf
-stands-le k [] = omega arith
-stands-le k (x ∷ xs) = omega (arith, one-le (eqb k (x .0)), stands-le k xs)
-
-tally-small : (c : List ℕ) (xs : List TaskNo) → length xs ≤ 16 → Tallies c xs → Small c
-tally-small c xs m t = record { sized = t .sized; low = λ j. go j (ltb j 16) refl }
-  where
-    go : (j : ℕ) (b : Bool) → ltb j 16 ≡ b → getD c j 0 < 255
-    go j true e = omega (arith, t .counts j (ltb-true j 16 e), stands-le (suc j) xs)
-    go j false e = let z : getD c j 0 ≡ 0 = List·getD-eq-default c 0 {n = j} (omega (arith, t .sized, ltb-false j 16 e)) in omega arith
+tally-more c x xs t =
+    record {
+      told = record {
+        sized = length-set c (entryPlace (x .0)) (getD c (entryPlace (x .0)) 0 + 1) ∙ t .told .sized;
+        counts = λ j h. more-counts c (x .0) j (t .told .sized) h ∙ ap (λ (m : ℕ). one (eqb (suc j) (x .0)) + m) (t .told .counts j h);
+      };
+      low = λ j. more-low c (entryPlace (x .0)) j (length xs) (t .low (entryPlace (x .0))) (t .low j);
+    }
 
 -- the loop that tallies the first n of a line, from the back
 module _ (q : List TaskNo) (n : ℕ) (h : n ≤ length q) where
-  pub line-first : Tallies (replicate 16 0) (drop n (take n q))
+  pub line-first : Tallying (replicate 17 0) (drop n (take n q))
   unfolding sumOf
-  line-first = rw (drop-of-length-le (take n q) {i = n} (rw (length-take-le n q h) (omega arith))) (record { sized = refl; counts = λ j l. zeros 16 j })
+  line-first = rw (drop-of-length-le (take n q) {i = n} (rw (length-take-le n q h) (omega arith))) (record { told = record { sized = refl; counts = λ j l. zeros 17 j }; low = λ j. omega (arith, zeros 17 j) })
 
-  pub line-small : (i : ℕ) (c : List ℕ) → n ≤ 16 → Tallies c (drop i (take n q)) → Small c
-  line-small i c m t = tally-small c (drop i (take n q)) (omega (arith, length-drop i (take n q), length-take-le n q h)) t
+  pub line-low : (i : ℕ) (c : List ℕ) → Tallying c (drop i (take n q)) → (j : ℕ) → getD c j 0 ≤ n
+  line-low i c t j = omega (arith, t .low j, length-drop i (take n q), length-take-le n q h)
 
-  pub line-turn : (i : ℕ) (c : List ℕ) → 0 < i → i ≤ n → Tallies c (drop i (take n q)) → Tallies (moreAt c (getD q (i - 1) nobody .0)) (drop (i - 1) (take n q))
+  pub line-turn : (i : ℕ) (c : List ℕ) → 0 < i → i ≤ n → Tallying c (drop i (take n q)) → Tallying (more c (getD q (i - 1) nobody .0)) (drop (i - 1) (take n q))
   line-turn i c g l t =
       let m : length (take n q) ≡ n = length-take-le n q h in
       let z : suc (i - 1) ≡ i = omega arith in

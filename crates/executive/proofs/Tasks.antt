@@ -28,16 +28,25 @@ unfolding entryPlace
 place-task zero h l = absurd (omega arith)
 place-task (suc i) h l = rw (lt-ltb i 16 (omega arith)) (omega arith)
 
+pub place-low : (n : ℕ) → entryPlace n ≤ 16
+unfolding entryPlace
+place-low zero = omega arith
+place-low (suc i) = go (ltb i 16) refl
+  where
+    go : (b : Bool) → ltb i 16 ≡ b → pick b i 16 ≤ 16
+    go true h = omega (arith, ltb-true i 16 h)
+    go false h = omega arith
+
 -- what lies at a number's place of sixteen, and what is put there
 module _ {A : Type 0} (xs : List A) (l : length xs ≡ 16) (i : ℕ) where
-  pub read-place : (d : A) → getD xs i d ≡ getD xs (pick (ltb i 16) i 16) d
+  read-place : (d : A) → getD xs i d ≡ getD xs (pick (ltb i 16) i 16) d
   read-place d = go (ltb i 16) refl
     where
       go : (b : Bool) → ltb i 16 ≡ b → getD xs i d ≡ getD xs (pick b i 16) d
       go true h = refl
       go false h = List·getD-eq-default xs d {n = i} (omega (arith, ltb-false i 16 h)) ∙ sym (List·getD-eq-default xs d {n = 16} (omega arith))
 
-  pub set-place : (x : A) → set xs i x ≡ set xs (pick (ltb i 16) i 16) x
+  set-place : (x : A) → set xs i x ≡ set xs (pick (ltb i 16) i 16) x
   set-place x = go (ltb i 16) refl
     where
       go : (b : Bool) → ltb i 16 ≡ b → set xs i x ≡ set xs (pick b i 16) x

@@ -14,7 +14,7 @@ ghost use lib.ListN.{drop, take};
 ghost use Rattle.executive.specs.Queue.{one};
 ghost use Rattle.executive.specs.Table.{taskAt};
 ghost use Rattle.executive.specs.WellFormed.{kindOf, is, runsOf};
-ghost use Rattle.executive.specs.Check.{upTo, allOf, inBounds, entryInRange, isZero, isBlank, requestInRange, isNobody, falls, standsIn, exactAt, isStored, isTimely, alarmRight, isUnmet, waitersAt, namesOthers, sleepsRight, isFree, entryRight, requestFits, requestRight, isQuiet, isLone, lineRight, askedRight, linkOf, linksIn, isWellFormed, Checked, Decided, moreAt, Small, Tallies};
+ghost use Rattle.executive.specs.Check.{upTo, allOf, inBounds, entryInRange, isZero, isBlank, requestInRange, isNobody, falls, standsIn, exactAt, isStored, isTimely, alarmRight, isUnmet, waitersAt, namesOthers, sleepsRight, isFree, entryRight, requestFits, requestRight, isQuiet, isLone, lineRight, askedRight, linkOf, linksIn, isWellFormed, Checked, Decided, Tallies};
 ghost use Rattle.executive.specs.Broken.{Broken};
 
 // What a request's waiter waits for: its start, or the end of the run that it begins.
@@ -373,25 +373,9 @@ fn plus_if(c: u8, k: u8, x: u8) -> u8
     c
 }
 
-// How often each number stands in a line: that of k at place k - 1.
+// How often each number stands in a line: that of k at place k - 1. Place 16 is for the numbers that no task can have.
 struct Counts {
-    of: [u8; 16],
-}
-
-impl Counts {
-    // One more for the number k; a number that has no place changes nothing.
-    fn one_more(mut self, k: TaskNo) -> Counts
-        requires { ⌜ Small (self .of) ⌝ }
-        ensures { λ r. ⌜ r .of ≡ moreAt (self .of) (k .0) ⌝ }
-    {
-        let i = places::entry_place(k);
-        if 15 < i {
-            return self;
-        }
-        let n = self.of[i];
-        self.of[i] = n + 1;
-        self
-    }
+    of: [u8; 17],
 }
 
 // How often each number from 1 to 16 stands in the queue.
@@ -399,14 +383,15 @@ fn tally(queue: [TaskNo; 16], ready: usize) -> Counts
     requires { ⌜ ready ≤ 16 ⌝ }
     ensures { λ r. ⌜ Tallies (r .of) (take ready queue) ⌝ }
 {
-    let mut c = Counts { of: [0u8; 16] };
+    let mut of = [0u8; 17];
     let mut i = ready;
     while 0 < i {
         i -= 1;
-        let x = queue[i];
-        c = c.one_more(x);
+        let k = places::entry_place(queue[i]);
+        let n = of[k];
+        of[k] = n + 1;
     }
-    c
+    Counts { of }
 }
 
 // Whom a request names.

@@ -39,14 +39,14 @@ pub enum State {
     AwaitEnd,
 }
 
-// A task's entry: its own priority; its state; its run's current priority, argument and last scheduled start; who waits for its end.
+// A task's entry: its own priority; its run's current priority and argument; who waits for its end; its state; its last scheduled start. In this order an entry is 32 bytes long.
 pub struct Task {
     pub own: u8,
-    pub state: State,
     pub priority: u8,
     pub argument: u16,
-    pub start: Millis,
     pub end_waiter: TaskNo,
+    pub state: State,
+    pub start: Millis,
 }
 
 // A queued start request. It names at most one waiter: for its start, or for the end of the run that it begins.

@@ -71,7 +71,7 @@ IsState z = Is S.the-row z (state-val z ∷ [])
 made : (h : Task) (z : State) (m : Millis) → IsState z → IsTime m → Is T.the-row h (task-vals h) → Is T.the-row (scheduled z m h) (task-vals (scheduled z m h))
 made h z m gz gm was =
     let old = LL.owed T.the-type T′.the-laws h (task-vals h) was in
-    LL.owes T.the-type T′.the-laws (scheduled z m h) (old .0, (gz, (old .1 .1 .0, (old .1 .1 .1 .0, (gm, old .1 .1 .1 .1 .1)))))
+    LL.owes T.the-type T′.the-laws (scheduled z m h) (old .0, (old .1 .0, (old .1 .1 .0, (old .1 .1 .1 .0, (gz, (gm, tt))))))
 
 module _ {M : Type 1} (𝓤 : URA M) (H : Heap 𝓤) (A : Atoms 𝓤) (W : Given 𝓤 H A) (at-mem : Memory → SProp 𝓤) (run : Routine → Fun 𝓤) (κ : Lft) (q : Share) (b o : ℕ) (γ : GName) (h : Task) (z : State) (m : Millis) (gz : IsState z) (gm : IsTime m) where
   abbrev x : RefT Task × (State × (Millis × Unit {0}))
@@ -103,8 +103,8 @@ module _ {M : Type 1} (𝓤 : URA M) (H : Heap 𝓤) (A : Atoms 𝓤) (W : Given
         move ! (8 ∷ 9 ∷ 10 ∷ []) $ opens ! tt T.the-row {h = h} b o (λ vs. spelt ! T.the-row (Is T.the-row) (shows 𝓤 H A T.the-row) task-vals (LL.tells T.the-type T′.the-laws) fullShare h vs b o $
         move ! (1 ∷ []) $ peeks ! T.the-row (Is T.the-row) (shows 𝓤 H A T.the-row) h (task-vals h) (λ was. move ! (1 ∷ 0 ∷ []) $
         -- [the struct's cell; what a Task owns; the open borrow; obs; auth; _3; …; _2; …; _1; …; room for _0; …]
-        assigns ! (of-opd ! (load ! (from ! (stop !)) (look ! 7 refl))) (from ! (hop ! (look ! 9 refl) (fld ! refl (stop !)))) (store-in-raw ! 0 (sub ! 1 refl (whole !)) (EL.lawful S.the-type S′.the-laws 𝓤 H A W tt .typed z _ gz .0)) $
-        assigns ! (of-opd ! (load ! (from ! (stop !)) (look ! 5 refl))) (from ! (hop ! (look ! 9 refl) (fld ! refl (stop !)))) (store-in-raw ! 0 (sub ! 4 refl (whole !)) (LL.lawful N.the-type N′.the-laws 𝓤 H A W .typed m _ gm .0)) $
+        assigns ! (of-opd ! (load ! (from ! (stop !)) (look ! 7 refl))) (from ! (hop ! (look ! 9 refl) (fld ! refl (stop !)))) (store-in-raw ! 0 (sub ! 4 refl (whole !)) (EL.lawful S.the-type S′.the-laws 𝓤 H A W tt .typed z _ gz .0)) $
+        assigns ! (of-opd ! (load ! (from ! (stop !)) (look ! 5 refl))) (from ! (hop ! (look ! 9 refl) (fld ! refl (stop !)))) (store-in-raw ! 0 (sub ! 5 refl (whole !)) (LL.lawful N.the-type N′.the-laws 𝓤 H A W .typed m _ gm .0)) $
         assigns ! (of-opd ! (unit-lit !)) (from ! (stop !)) (init ! 11 refl (tt, tt)) $
         move ! (1 ∷ []) $ drop ! $ owned ! T.the-row (Is T.the-row) (LL.makes T.the-type T′.the-plain 𝓤 H A) h′ _ (made h z m gz gm was) $ move ! (1 ∷ 0 ∷ []) $ closes ! tt T.the-row h′ (task-vals h′) b o $
         returns ! (look ! 9 refl) $ forget ! 3 refl $ forget ! 5 refl $ forget ! 7 refl $ forget ! 9 refl $ move ! (9 ∷ 10 ∷ []) $ free1 ! $ move ! (7 ∷ 8 ∷ []) $ free1 ! $ move ! (5 ∷ 6 ∷ []) $ free1 ! $ move ! (3 ∷ 4 ∷ []) $ free1 ! $ free0 ! $

@@ -90,7 +90,7 @@ module _ {M : Type 1} (𝓤 : URA M) (H : Heap 𝓤) (A : Atoms 𝓤) (W : Given
   t = getD ts i noTask
 
   abbrev p : ℕ
-  p = place 48 0 i
+  p = place 32 0 i
 
   abbrev x : ℕ → GName → RefT Task
   x l γ = record { ptr = (l, p); name = γ; now = t }
@@ -115,10 +115,10 @@ module _ {M : Type 1} (𝓤 : URA M) (H : Heap 𝓤) (A : Atoms 𝓤) (W : Given
         pass1 ! (init ! 16 refl (typedA 𝓤 H A W ts is-ts)) $ pass1 ! (init ! 14 refl (tt, record { fits = i-fits })) $ pass1 ! (init ! 12 refl (LL.lawful T.the-type T′.the-laws 𝓤 H A W .typed n _ is-n .0)) $ pass0 ! $
         -- [_9; …; _8; …; _7; …; _6; …; _5; …; _4; …; _3; …; _2; …; _1; …; _0; …]
         assigns ! (of-opd ! (load ! (from ! (stop !)) (look ! 16 refl))) (from ! (stop !)) (init ! 10 refl (typedA 𝓤 H A W ts is-ts)) $
-        assigns ! (bin ! (load ! (from ! (stop !)) (look ! 14 refl)) (lit ! tt) (scaled-fits i 16 48 small (lit< tt))) (from ! (stop !)) (init ! 6 refl (tt, scaled-fits i 16 48 small (lit< tt))) $
+        assigns ! (bin ! (load ! (from ! (stop !)) (look ! 14 refl)) (lit ! tt) (scaled-fits i 16 32 small (lit< tt))) (from ! (stop !)) (init ! 6 refl (tt, scaled-fits i 16 32 small (lit< tt))) $
         assigns ! (addr ! (from ! (stop !))) (from ! (stop !)) (init ! 4 refl (tt, tt)) $
         assigns ! (bin ! (load ! (from ! (stop !)) (look ! 4 refl)) (load ! (from ! (stop !)) (look ! 6 refl)) tt) (from ! (stop !)) (init ! 2 refl (tt, tt)) $
-        rewrite ! 2 (λ (k : ℕ). ‵ (fat fullShare tyPtr l₈ 0 (vptr l₄ k))) (sym (place-is 48 0 i)) refl $
+        rewrite ! 2 (λ (k : ℕ). ‵ (fat fullShare tyPtr l₈ 0 (vptr l₄ k))) (sym (place-is 32 0 i)) refl $
         assigns ! (addr ! (from ! (hop ! (look ! 2 refl) (stop !)))) (from ! (stop !)) (init ! 0 refl (tt, tt)) $
         -- the entries are taken apart, to the one at i
         owned ! All (Is All) (makesA 𝓤 H A W) ts _ is-ts $ move ! (11 ∷ 0 ∷ []) $ use2 W (‵ (Entries ts l₄ 0)) (all-in 𝓤 H A W ts l₄ 0) $ fsplit ! $ drop ! $
