@@ -43,8 +43,7 @@ use Rattle.executive.specs.declared.Table.{Table}
 use Rattle.executive.specs.declared.Outcome.{Outcome}
 use Rattle.executive.specs.declared.Fresh.{Fresh}
 use Rattle.board.specs.Blocks.{Each}
-use Rattle.board.specs.Image.{taskWidths, placeWidths, alarmWidths, requestWidths}
-use Rattle.board.specs.Image.{taskNumbers, placeNumbers, alarmNumbers, requestNumbers, FitsTable}
+use Rattle.board.specs.Image.{taskWidths, placeWidths, alarmWidths, requestWidths, taskNumbers, placeNumbers, alarmNumbers, requestNumbers, FitsTable}
 use Rattle.board.proofs.Trips.{FitsState}
 
 state-owned : (x : State) (vs : List Val) → Is (enum-row state-type) x vs → FitsState x

@@ -17,10 +17,7 @@ use Rattle.executive.specs.declared.Table.{Table}
 use Rattle.executive.specs.Queue.{pick}
 use Rattle.executive.specs.WellFormed.{Sizes}
 use Rattle.board.specs.Blocks.{row, blocks, Each, written, same}
-use Rattle.board.specs.Image.{tagOf, timeOf, maskOf, stateOf, taskWidths, placeWidths, headWidths, alarmWidths, requestWidths}
-use Rattle.board.specs.Image.{taskNumbers, placeNumbers, headNumbers, alarmNumbers, requestNumbers, taskOf, placeOf, alarmOf, requestOf}
-use Rattle.board.specs.Image.{taskBytes, placeBytes, headBytes, alarmBytes, requestBytes, taskFrom, placeFrom, alarmFrom, requestFrom, tableOf}
-use Rattle.board.specs.Image.{queueAt, headAt, alarmsAt, poolAt, imageLength, imageOf, loadOf, isImageOf, isImage, FitsTable}
+use Rattle.board.specs.Image.{tagOf, timeOf, maskOf, stateOf, taskWidths, placeWidths, headWidths, alarmWidths, requestWidths, taskNumbers, placeNumbers, headNumbers, alarmNumbers, requestNumbers, taskOf, placeOf, alarmOf, requestOf, taskBytes, placeBytes, headBytes, alarmBytes, requestBytes, taskFrom, placeFrom, alarmFrom, requestFrom, tableOf, queueAt, headAt, alarmsAt, poolAt, imageLength, imageOf, loadOf, isImageOf, isImage, FitsTable}
 use Rattle.board.proofs.Digits.{digit-fits}
 use Rattle.board.proofs.Spans.{length-row, length-blocks}
 use Rattle.board.proofs.Alike.{decide, never, same-self, same-true}

@@ -1,7 +1,7 @@
 // One number of some bytes, big-endian, at a place of a buffer: read and written.
 ghost use mathlib.Core.Path.{_≡_};
-ghost use Prim.Native.Nat.{_+_, _≤_, _<_, _^_};
-ghost use lib.ListN.{length, getD};
+ghost use Prim.Native.Nat.{_+_, _≤_, _<_};
+ghost use lib.ListN.{getD};
 ghost use Rattle.records.specs.Numbers.{numberOf, part, bytesIn};
 ghost use Rattle.board.specs.Blocks.{written, Number, Room};
 

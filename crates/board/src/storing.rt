@@ -13,7 +13,7 @@ ghost use mathlib.Core.List.{[], _∷_};
 ghost use Prim.Native.Nat.{_+_, _≤_};
 ghost use lib.ListN.{length};
 ghost use Rattle.board.specs.Blocks.{row, written};
-ghost use Rattle.board.specs.Image.{taskBytes, placeBytes, alarmBytes, requestBytes, headBytes, queueAt, headAt, alarmsAt, poolAt, imageLength, imageOf, storeNumber, storeBytes};
+ghost use Rattle.board.specs.Image.{taskBytes, placeBytes, alarmBytes, requestBytes, queueAt, headAt, alarmsAt, poolAt, imageLength, imageOf, storeNumber, storeBytes};
 ghost use Rattle.board.specs.Coding.{codedOf, frontBytes, runBytes, headOf};
 
 // A state's byte, time and mask; time and mask are 0 where it has none.

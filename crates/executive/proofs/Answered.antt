@@ -1,17 +1,16 @@
 -- From what is refused early or late to what a call is answered, and from a call to the step of a record's bytes.
-use Prim.Native.Nat.{ℕ, zero, suc}
+use Prim.Native.Nat.{ℕ}
 use mathlib.Core.Path.{_≡_, refl, ap, sym, _∙_}
-use mathlib.Core.Bool.{Bool, true, false, not, cond}
-use mathlib.Core.List.{List, [], _∷_}
+use mathlib.Core.Bool.{Bool, true, false, cond}
+use mathlib.Core.List.{List}
 use native.Mathlib.Omega.{arith}
-use borrow.Author.Tests.{eq-eqb, ne-eqb}
+use borrow.Author.Tests.{ne-eqb}
 use lib.Dec.{eqb}
-use lib.ListN.{length, getD}
+use lib.ListN.{length}
 use Rattle.records.specs.declared.Kind.{Kind}
 use Rattle.records.specs.declared.Kind.the-variants as kind
 use Rattle.records.specs.declared.Call.{Call}
 use Rattle.records.specs.declared.Call.the-variants as call
-use Rattle.records.specs.declared.Got.{Got}
 use Rattle.records.specs.declared.Got.the-variants as got
 use Rattle.records.specs.Numbers.{cut}
 use Rattle.records.specs.Kinds.{bodyOf, lengthOf, kindOf}
@@ -20,7 +19,6 @@ use Rattle.records.specs.Reading.{readAs, readOf}
 use Rattle.records.specs.Writing.{bytesOf}
 use Rattle.records.proofs.RoundTrips.{write-read}
 use Rattle.executive.specs.declared.Table.{Table}
-use Rattle.executive.specs.declared.Outcome.{Outcome}
 use Rattle.executive.specs.Queue.{pick}
 use Rattle.executive.specs.Table.{carry}
 use Rattle.executive.specs.Check.{isWellFormed}

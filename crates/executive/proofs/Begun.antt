@@ -14,7 +14,6 @@ use Rattle.executive.specs.Queue.{pick, one, count}
 use Rattle.executive.specs.Table.{nobody, never, noTask, pad, Names, taskAt, putAt, items, stays, Join, Plan, depart, apply, begin, admits, carry}
 use Rattle.executive.specs.Plans.{asks, begins}
 use Rattle.executive.specs.WellFormed.{WellFormed, sumOf, is, runsOf, Line}
-use Rattle.executive.specs.Check.{_and_}
 use Rattle.executive.specs.Fresh.{granuleIn, ownIn, markIn, tasksIn, isConfiguration, blankRest, dormantAt, sleepers, dormantTable, starter, starters, freshTable, freshOf, zeroTable}
 use Rattle.executive.proofs.Law.{not-zero}
 use Rattle.executive.proofs.Flight.{admits-rest, carry-still}

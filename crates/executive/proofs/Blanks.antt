@@ -15,7 +15,7 @@ use Rattle.executive.specs.declared.Task.{Task}
 use Rattle.executive.specs.declared.Request.{Request}
 use Rattle.executive.specs.Table.{nobody, noTask, noRequest, pad, taskAt}
 use Rattle.executive.specs.WellFormed.{kindOf, Zeros}
-use Rattle.executive.specs.Check.{_and_, allOf, isZero, isBlank, isNobody, isFree}
+use Rattle.executive.specs.Check.{allOf, isZero, isBlank, isNobody, isFree}
 use Rattle.executive.proofs.Tally.{both, every-get, every-make}
 use Rattle.executive.proofs.Both.{split, paired}
 

@@ -1,10 +1,11 @@
 -- A call that nothing refuses has what its method asks.
-use Prim.Native.Nat.{ℕ, zero, suc, _+_, _≤_, _<_, _^_, _/_, _%_}
-use mathlib.Core.Path.{_≡_, refl, ap, sym, _∙_}
-use mathlib.Core.Bool.{Bool, true, false, not}
+use Prim.Native.Nat.{ℕ, _+_, _≤_, _<_, _^_}
+use mathlib.Core.Path.{_≡_, refl, sym}
+use mathlib.Core.Bool.{Bool, true, false}
+use mathlib.Core.List.{List, [], _∷_}
 use native.Mathlib.Omega.{arith}
 use borrow.Author.Tests.{ltb-false, leb-false, eqb-false}
-use lib.Dec.{leb, ltb, eqb}
+use lib.Dec.{ltb}
 use Rattle.records.specs.declared.TaskNo.{TaskNo}
 use Rattle.records.specs.declared.FlagNo.{FlagNo}
 use Rattle.records.specs.declared.Call.{Call}
@@ -13,52 +14,67 @@ use Rattle.executive.specs.declared.Table.{Table}
 use Rattle.executive.specs.Queue.{pick}
 use Rattle.executive.specs.Table.{Fit, Standing}
 use Rattle.executive.specs.Plans.{stateAt, isDormant}
-use Rattle.executive.specs.Check.{_and_}
 use Rattle.executive.specs.WellFormed.{WellFormed, Times}
-use Rattle.executive.specs.Refusals.{_or_, isTick, nobodyActive, badBody, namesCaller, alarmRunning, poolFull, endsTime, overfills, callRefusals, firstOf, earlyOf}
+use Rattle.executive.specs.Refusals.{_or_, isTick, nobodyActive, badBody, namesCaller, alarmRunning, poolFull, endsTime, Refusal, when, callRefusals, firstOf, butLast, earlyOf}
+use Rattle.executive.proofs.Law.{clash}
 use Rattle.executive.proofs.Standing.{fit-of, standing-of}
 
+-- the first of a list is given no number: its condition does not hold
+pub first-none : (n : ℕ) (b : Bool) (rs : List Refusal) → 0 < n → firstOf (when n b ∷ rs) ≡ 0 → (b ≡ false) × (firstOf rs ≡ 0)
+unfolding firstOf
+first-none n true rs h e = absurd (omega arith)
+first-none n false rs h e = (refl, e)
+
+under : (b : Bool) (n : ℕ) {l m : ℕ} → (l ≡ 0 → m ≡ 0) → pick b n l ≡ 0 → pick b n m ≡ 0
+under true n f e = e
+under false n f e = f e
+
+-- of a list that gives no number, no front part gives one
+but-last : (rs : List Refusal) → firstOf rs ≡ 0 → firstOf (butLast rs) ≡ 0
+unfolding firstOf
+but-last [] e = refl
+but-last (r ∷ []) e = refl
+but-last (r ∷ s ∷ rs) e = under (r .given) (r .number) (but-last (s ∷ rs)) e
+
+pub early : (t : Table) (c : Call) → firstOf (callRefusals t c) ≡ 0 → earlyOf t c ≡ 0
+unfolding earlyOf
+early t c e = but-last (callRefusals t c) e
+
+-- none of what can be refused of a call holds, but for number 11, which need not be said
 pub record Clear (t : Table) (c : Call) : Type 0 where
   pub active : nobodyActive t c ≡ false
   pub body : badBody t c ≡ false
+  pub another : namesCaller t c ≡ false
   pub room : poolFull t c ≡ false
   pub time : endsTime t c ≡ false
 
-pass : (n : ℕ) (b : Bool) (m : ℕ) → pick b (suc n) m ≡ 0 → (b ≡ false) × (m ≡ 0)
-pass n true m h = absurd (omega arith)
-pass n false m h = (refl, h)
-
 pub clear-of : (t : Table) (c : Call) → earlyOf t c ≡ 0 → Clear t c
-unfolding earlyOf firstOf
+unfolding earlyOf
 clear-of t c h =
-    let a = pass 4 (nobodyActive t c) _ h in
-    let b = pass 5 (badBody t c) _ (a .1) in
-    let d = pass 6 (namesCaller t c) _ (b .1) in
-    let e = pass 8 (alarmRunning t c) _ (d .1) in
-    let f = pass 7 (poolFull t c) _ (e .1) in
-    let g = pass 9 (endsTime t c) _ (f .1) in
-    record { active = a .0; body = b .0; room = f .0; time = g .0 }
+    let a = first-none 5 (nobodyActive t c) _ (omega arith) h in
+    let b = first-none 6 (badBody t c) _ (omega arith) (a .1) in
+    let d = first-none 7 (namesCaller t c) _ (omega arith) (b .1) in
+    let e = first-none 9 (alarmRunning t c) _ (omega arith) (d .1) in
+    let f = first-none 8 (poolFull t c) _ (omega arith) (e .1) in
+    let g = first-none 10 (endsTime t c) _ (omega arith) (f .1) in
+    record { active = a .0; body = b .0; another = d .0; room = f .0; time = g .0 }
 
-or-first : (a b : Bool) → (a or b) ≡ false → a ≡ false
-or-first false b h = refl
-or-first true b h = h
-
-or-second : (a b : Bool) → (a or b) ≡ false → b ≡ false
-or-second false b h = h
-or-second true b h = absurd (let z : _≡_ {A = ℕ} 0 1 = cc in omega arith)
+pub or-none : (a b : Bool) → (a or b) ≡ false → (a ≡ false) × (b ≡ false)
+or-none false b h = (refl, h)
+or-none true b h = clash (sym h)
 
 -- what a body that is in range says
 pub flag-low : (t : Table) (o : ℕ) (f : FlagNo) → badBody t (call.Flag o f) ≡ false → f .0 < 32
 unfolding badBody
-flag-low t o f h = let l = ltb-false 31 (f .0) (or-first (ltb 31 (f .0)) (ltb 2 o) h) in omega arith
+flag-low t o f h = let l = ltb-false 31 (f .0) (or-none (ltb 31 (f .0)) (ltb 2 o) h .0) in omega arith
 
 pub alarm-low : (t : Table) (u n : ℕ) (f : FlagNo) → badBody t (call.Alarm u n f) ≡ false → f .0 < 32
 unfolding badBody
-alarm-low t u n f h = let l = ltb-false 31 (f .0) (or-second (ltb 4 u) (ltb 31 (f .0)) h) in omega arith
+alarm-low t u n f h = let l = ltb-false 31 (f .0) (or-none (ltb 4 u) (ltb 31 (f .0)) h .1) in omega arith
 
 alarm-unit : (t : Table) (u n : ℕ) (f : FlagNo) → badBody t (call.Alarm u n f) ≡ false → u < 5
 unfolding badBody
-alarm-unit t u n f h = let l = ltb-false 4 u (or-first (ltb 4 u) (ltb 31 (f .0)) h) in omega arith
+alarm-unit t u n f h = let l = ltb-false 4 u (or-none (ltb 4 u) (ltb 31 (f .0)) h .0) in omega arith
 
 pause-unit : (t : Table) (u n : ℕ) → badBody t (call.Pause u n) ≡ false → u < 5
 unfolding badBody

@@ -1,5 +1,5 @@
 -- The worked history, computed.
-use mathlib.Core.Path.{_≡_, refl}
+use mathlib.Core.Path.{refl}
 use Rattle.records.specs.Kinds.{kindOf}
 use Rattle.records.specs.Reading.{readAs, readOf}
 use Rattle.executive.specs.Queue.{behind, insert, count, ahead, prioIn, activeOf, departures, above, entriesAbove}

@@ -1,9 +1,8 @@
 -- The largest interval.
 use Prim.Native.Nat.{ℕ, zero, suc, _+_, _*_, _%_, _≤_, _<_, zero-le}
-use mathlib.Core.Path.{_≡_}
 use native.Mathlib.Nat.{mul-le-mul, le-trans}
 use native.Mathlib.Omega.{arith}
-use lib.ListN.{getD, length}
+use lib.ListN.{getD}
 use lib.Dec.{lit≤, ltb}
 use mathlib.Core.Bool.{Bool, true, false}
 use Rattle.executive.specs.declared.Millis.{Millis}

@@ -3,7 +3,6 @@
 --     all-in       the local's cell and what its value owns  ⊢  the entries side by side: what a lender takes one entry from
 --     all-out      and back, at the machine value
 -- Assumes `Given` (of it `at-raw`, `raw-at`, `at-elems` and `elems-at`).
-use mathlib.Core.Path.{_≡_}
 use Prim.Native.Nat.{ℕ}
 use mathlib.Core.List.{[], _∷_, List}
 use lib.Dec.{T as Holds}

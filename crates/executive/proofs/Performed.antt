@@ -1,21 +1,17 @@
 -- The step is its plan, and the plan is good: for a call that was read, and for a record's bytes.
 use mathlib.Core.Path.{_≡_, refl, sym, ap, _∙_}
-use mathlib.Core.Bool.{Bool, true, false, not, cond}
-use mathlib.Core.List.{List, _∷_}
+use mathlib.Core.Bool.{Bool, true, false, not}
+use mathlib.Core.List.{List}
 use Prim.Native.Nat.{ℕ, _/_, _%_, _≤_, _<_}
 use native.Mathlib.Omega.{arith}
 use borrow.Author.Tests.{eqb-true, eqb-false, ltb-false, leb-false}
 use lib.Dec.{leb, ltb, eqb}
-use lib.ListN.{length, getD}
 use Rattle.records.specs.declared.TaskNo.{TaskNo}
-use Rattle.records.specs.declared.Kind.{Kind}
-use Rattle.records.specs.declared.Kind.the-variants as kind
 use Rattle.records.specs.declared.Call.{Call}
 use Rattle.records.specs.declared.Call.the-variants as call
 use Rattle.records.specs.declared.Got.{Got}
 use Rattle.records.specs.declared.Got.the-variants as got
 use Rattle.records.specs.Calls.{InRange}
-use Rattle.records.specs.Kinds.{kindOf, lengthOf}
 use Rattle.records.specs.Numbers.{Bytes}
 use Rattle.records.specs.Reading.{readOf}
 use Rattle.records.proofs.Ranges.{GotInRange, read-in-range}
@@ -26,10 +22,11 @@ use Rattle.executive.specs.Table.{nobody, Plan, depart, joins, apply}
 use Rattle.executive.specs.Plans.{stateAt, isDormant, nothing}
 use Rattle.executive.specs.WellFormed.{WellFormed}
 use Rattle.executive.specs.Check.{_and_}
-use Rattle.executive.specs.Refusals.{_or_, planOf, noSuchTask, nobodyActive, badBody, namesCaller, alarmRunning, poolFull, endsTime, overfills, Refusal, when, callRefusals, refusals, firstOf, calledBy, callIn}
+use Rattle.executive.specs.Refusals.{planOf, noSuchTask, nobodyActive, badBody, namesCaller, poolFull, endsTime, overfills, callRefusals, refusals, firstOf, calledBy, callIn}
 use Rattle.executive.specs.Steps.{marks, answerOf, hasV, accepted, refused, outcomeOf, performed, stepOf}
 use Rattle.executive.specs.Demands.{planFor, planned, planIn}
 use Rattle.executive.proofs.Law.{clash}
+use Rattle.executive.proofs.Clear.{Clear, clear-of, early, first-none, or-none}
 use Rattle.executive.proofs.Formed.{Formed, formed, well-formed}
 use Rattle.executive.proofs.Kept.{Good, Kept, apply-kept}
 use Rattle.executive.proofs.Plans.{nothing-good, pause-good, end-good, restart-good}
@@ -37,37 +34,9 @@ use Rattle.executive.proofs.Asking.{cancel-good, start-only-good, ask-g
 use Rattle.executive.proofs.Flagged.{flag-good, wait-good, alarm-good}
 use Rattle.executive.proofs.Tick.{tick-good}
 
-or-none : (a b : Bool) → a or b ≡ false → (a ≡ false) × (b ≡ false)
-or-none true b e = clash (sym e)
-or-none false b e = (refl, e)
-
 and-other : (a b : Bool) → a and b ≡ false → a ≡ true → b ≡ false
 and-other true b e f = e
 and-other false b e f = clash f
-
--- the first of a list is given no number: its condition does not hold
-pub first-none : (n : ℕ) (b : Bool) (rs : List Refusal) → 0 < n → firstOf (when n b ∷ rs) ≡ 0 → (b ≡ false) × (firstOf rs ≡ 0)
-unfolding firstOf
-first-none n true rs h e = absurd (omega arith)
-first-none n false rs h e = (refl, e)
-
--- none of what can be refused of a call holds, but for number 11, which need not be said
-pub record Allowed (t : Table) (c : Call) : Type 0 where
-  pub somebody : nobodyActive t c ≡ false
-  pub body : badBody t c ≡ false
-  pub another : namesCaller t c ≡ false
-  pub room : poolFull t c ≡ false
-  pub time : endsTime t c ≡ false
-
-pub allowed : (t : Table) (c : Call) → firstOf (callRefusals t c) ≡ 0 → Allowed t c
-allowed t c e =
-    let a = first-none 5 (nobodyActive t c) _ (omega arith) e in
-    let b = first-none 6 (badBody t c) _ (omega arith) (a .1) in
-    let d = first-none 7 (namesCaller t c) _ (omega arith) (b .1) in
-    let f = first-none 9 (alarmRunning t c) _ (omega arith) (d .1) in
-    let g = first-none 8 (poolFull t c) _ (omega arith) (f .1) in
-    let h = first-none 10 (endsTime t c) _ (omega arith) (g .1) in
-    record { somebody = a .0; body = b .0; another = d .0; room = g .0; time = h .0 }
 
 -- a call that names a task, and is not refused, names one of the count
 such : (t : Table) (k : TaskNo) → noSuchTask t k ≡ false → (0 < k .0) × (k .0 ≤ t .rest .count)
@@ -78,22 +47,22 @@ such t k e =
 some-ready : (t : Table) → eqb (t .ready) 0 ≡ false → 0 < t .ready
 some-ready t e = omega (arith, eqb-false (t .ready) 0 e)
 
--- ---- a call that is allowed has a good plan
-pub call-good : (t : Table) (c : Call) → Formed t → InRange c → Allowed t c → Good (planOf t c) t
+-- ---- a call that nothing refuses has a good plan
+pub call-good : (t : Table) (c : Call) → Formed t → InRange c → Clear t c → Good (planOf t c) t
 unfolding planOf nobodyActive badBody namesCaller poolFull endsTime
-call-good t call.Terminate w r a = end-good t w (some-ready t (a .somebody))
-call-good t (call.Restart p n) w r a = restart-good t w (some-ready t (a .somebody)) p n (r .1 .0)
-call-good t (call.Pause u n) w r a = pause-good t u n w (some-ready t (a .somebody)) (omega (arith, ltb-false 4 u (a .body))) (r .1 .0)
+call-good t call.Terminate w r a = end-good t w (some-ready t (a .active))
+call-good t (call.Restart p n) w r a = restart-good t w (some-ready t (a .active)) p n (r .1 .0)
+call-good t (call.Pause u n) w r a = pause-good t u n w (some-ready t (a .active)) (omega (arith, ltb-false 4 u (a .body))) (r .1 .0)
 call-good t (call.CancelPause k) w r a = cancel-good t w k
 call-good t (call.Start o k) w r a =
     let s = such t k (or-none (noSuchTask t k) (not (eqb (o / 16 % 8) 0)) (a .body) .0) in
-    start-only-good t w (some-ready t (a .somebody)) o k (s .0) (s .1)
+    start-only-good t w (some-ready t (a .active)) o k (s .0) (s .1)
 call-good t (call.Queue o k x) w r a =
     let s = such t k (or-none (noSuchTask t k) (eqb (o / 32 % 4) 3) (a .body) .0) in
-    ask-good t w (some-ready t (a .somebody)) o k (s .0) (s .1) x (a .another)
+    ask-good t w (some-ready t (a .active)) o k (s .0) (s .1) x (a .another)
     (λ b. leb-false 32 (t .rest .queued) (and-other (not (isDormant (stateAt t k))) (leb 32 (t .rest .queued)) (a .room) (ap not b)))
 call-good t (call.Flag o f) w r a = flag-good t w o f
-call-good t (call.Wait m mask) w r a = wait-good t w (some-ready t (a .somebody)) m mask (or-none (ltb 1 m) (eqb mask 0) (a .body) .1)
+call-good t (call.Wait m mask) w r a = wait-good t w (some-ready t (a .active)) m mask (or-none (ltb 1 m) (eqb mask 0) (a .body) .1)
 call-good t (call.Alarm u n f) w r a = alarm-good t w u n f (omega (arith, ltb-false 4 u (or-none (ltb 4 u) (ltb 31 (f .0)) (a .body) .0))) (r .1 .0)
 call-good t call.Tick w r a = tick-good t w (ltb-false _ _ (a .time))
 call-good t (call.Granule g) w r a = nothing-good t w
@@ -101,7 +70,7 @@ call-good t (call.Task p m) w r a = nothing-good t w
 call-good t call.End w r a = nothing-good t w
 
 -- number 11 never arises
-pub never-full : (t : Table) (c : Call) → WellFormed t → InRange c → Allowed t c → overfills t c ≡ false
+pub never-full : (t : Table) (c : Call) → WellFormed t → InRange c → Clear t c → overfills t c ≡ false
 unfolding overfills
 never-full t c w r a = apply-kept (planOf t c) t (formed w) (call-good t c (formed w) r a) .never-full
 
@@ -135,7 +104,7 @@ outcome-is t n c w g = go (eqb n 0) refl
 
 pub performed-is : (t : Table) (c : Call) → WellFormed t → InRange c → Executes t (performed t c .table) (planned t c)
 unfolding performed planned
-performed-is t c w r = outcome-is t (firstOf (callRefusals t c)) c (formed w) (λ e. call-good t c (formed w) r (allowed t c e))
+performed-is t c w r = outcome-is t (firstOf (callRefusals t c)) c (formed w) (λ e. call-good t c (formed w) r (clear-of t c (early t c e)))
 
 pub performed-kept : (t : Table) (c : Call) → WellFormed t → InRange c → WellFormed (performed t c .table)
 performed-kept t c w r = let x = performed-is t c w r in rw (x .table) (well-formed (apply (planned t c) t) (x .kept .formed))
@@ -148,7 +117,7 @@ call-in-range s b = go (readOf s) (read-in-range s b)
     go (got.Call c) r = r
     go (got.Refused n) r = tt
 
--- an accepted record's call is allowed
+-- nothing refuses an accepted record's call
 call-allowed : (t : Table) (s : List ℕ) → firstOf (refusals t s) ≡ 0 → firstOf (callRefusals t (callIn s)) ≡ 0
 unfolding refusals
 call-allowed t s e =
@@ -160,7 +129,7 @@ call-allowed t s e =
 pub step-is : (t : Table) (s : List ℕ) → WellFormed t → Bytes s → Executes t (stepOf t s .table) (planIn t s)
 unfolding stepOf planIn
 step-is t s w b = outcome-is t (firstOf (refusals t s)) (callIn s) (formed w)
-    (λ e. call-good t (callIn s) (formed w) (call-in-range s b) (allowed t (callIn s) (call-allowed t s e)))
+    (λ e. call-good t (callIn s) (formed w) (call-in-range s b) (clear-of t (callIn s) (early t (callIn s) (call-allowed t s e))))
 
 pub step-kept : (t : Table) (s : List ℕ) → WellFormed t → Bytes s → WellFormed (stepOf t s .table)
 step-kept t s w b = let x = step-is t s w b in rw (x .table) (well-formed (apply (planIn t s) t) (x .kept .formed))

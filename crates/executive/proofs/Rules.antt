@@ -19,7 +19,7 @@ use Rattle.executive.specs.Queue.{pick, one, count}
 use Rattle.executive.specs.Table.{nobody, never, noTask, noRequest, pad, line, requests, taskAt, items}
 use Rattle.executive.specs.Plans.{met}
 use Rattle.executive.specs.WellFormed.{InRange, Queue, Stored, Timely, Times, Unmet, Waiters, Zeros, sumOf, kindOf, is, startsOf, endsOf, runsOf, idleOf}
-use Rattle.executive.specs.Check.{_and_, upTo, allOf, entryInRange, requestInRange, isBlank, sizesRight, inBounds, numbersRight, isTask, isNobody, falls, standsIn, exactAt, queueRight, isStored, isTimely, alarmRight, taskTimely, timesRight, isStarted, startedRight, isUnmet, taskUnmet, masksRight, targetBusy, busyRight, waitersAt, namesOthers, waitersRight, isZero, sleepsRight, dormantRight, isFree, poolRight}
+use Rattle.executive.specs.Check.{upTo, allOf, entryInRange, requestInRange, isBlank, sizesRight, inBounds, numbersRight, isTask, isNobody, falls, standsIn, exactAt, queueRight, isStored, isTimely, alarmRight, taskTimely, timesRight, isStarted, startedRight, isUnmet, taskUnmet, masksRight, targetBusy, busyRight, waitersAt, namesOthers, waitersRight, isZero, sleepsRight, dormantRight, isFree, poolRight}
 use Rattle.executive.proofs.Tasks.{at-none}
 use Rattle.executive.proofs.Tally.{all-get, all-make, every-get, every-make}
 use Rattle.executive.proofs.Both.{split, paired, one-none, none-one, not-of, of-not, within, in-reach, sum-none, none-all}

@@ -1,15 +1,12 @@
 -- Laws of a configuration's bytes: what the loops over its tasks come to.
 use Prim.Native.Nat.{ℕ, zero, suc, _+_, _-_, _≤_, _<_}
 use mathlib.Core.Path.{_≡_, refl, ap, sym, _∙_}
-use mathlib.Core.Bool.{Bool, true, false}
 use mathlib.Core.List.{List, [], _∷_, _++_, append-assoc, append-nil}
-use native.Mathlib.Numerals.{add-one}
 use native.Mathlib.Omega.{arith}
 use borrow.Author.Tests.{eq-eqb, ne-eqb}
 use lib.ListN.{length, getD, set}
 use Rattle.executive.specs.declared.Task.{Task}
 use Rattle.executive.specs.declared.Work.{Work}
-use Rattle.executive.specs.Queue.{pick}
 use Rattle.executive.specs.Table.{noTask, pad, Fit, Join, admits}
 use Rattle.executive.specs.Fresh.{placeIn, ownIn, tasksFrom, withTasks, blankRest, dormantAt, sleepers, starter, starters}
 use Rattle.executive.proofs.Pad.{pad-more, length-pad}

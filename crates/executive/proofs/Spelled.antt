@@ -10,7 +10,6 @@ use lib.Dec.{eqb}
 use lib.ListN.{length, getD, drop, drop-of-length-le}
 use lib.Seq.{drop-cons}
 use Rattle.executive.specs.Queue.{pick}
-use Rattle.executive.specs.Check.{_and_}
 use Rattle.executive.specs.Fresh.{granuleIn, placeIn, ownIn, markIn, tasksFrom, tasksIn, configurationIn, taskRight, isConfiguration}
 use Rattle.executive.specs.FreshLaw.{Entry, recordsOf, AllRight, Configuration}
 use Rattle.executive.proofs.Tally.{all-make}

@@ -1,6 +1,6 @@
 -- The rules of the calls (01, "Rules of the calls"), a plan for each kind: who departs, who enters in which order, what the rest of the table is afterwards.
 -- Rulings that 01 marks H are marked H here.
-use Prim.Native.Nat.{ℕ, zero, suc, _+_, _/_, _%_}
+use Prim.Native.Nat.{ℕ, suc, _+_, _/_, _%_}
 use mathlib.Core.Bool.{Bool, true, false, not}
 use mathlib.Core.List.{List, [], _∷_, _++_}
 use lib.Dec.{leb, ltb, eqb}

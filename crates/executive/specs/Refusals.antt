@@ -15,7 +15,7 @@ use Rattle.records.specs.declared.Got.the-variants as got
 use Rattle.records.specs.Kinds.{kindOf, lengthOf}
 use Rattle.records.specs.Reading.{readOf}
 use Rattle.executive.specs.declared.Table.{Table}
-use Rattle.executive.specs.Numbers.{mostTasks, mostQueued, flagCount, endOfTime}
+use Rattle.executive.specs.Numbers.{mostQueued, endOfTime}
 use Rattle.executive.specs.Queue.{pick}
 use Rattle.executive.specs.Table.{never, Plan, carry}
 use Rattle.executive.specs.Plans.{caller, stateAt, isDormant, nothing, endPlan, restartPlan, pausePlan, cancelPlan, startOnlyPlan, askPlan, flagPlan, waitPlan, alarmPlan, tickPlan}

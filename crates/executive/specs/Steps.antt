@@ -1,7 +1,7 @@
 -- The step: the answer and the table that a record brings about, from any table and any bytes.
 use Prim.Native.Nat.{ℕ, _%_}
-use mathlib.Core.Bool.{Bool, true, false, not}
-use mathlib.Core.List.{List, [], _∷_}
+use mathlib.Core.Bool.{Bool, false, not}
+use mathlib.Core.List.{List}
 use lib.Dec.{ltb, eqb}
 use Rattle.records.specs.declared.Call.{Call}
 use Rattle.records.specs.declared.Call.the-variants as call

@@ -1,17 +1,15 @@
 -- A well-formed table (01, "A table is well formed when"): a field for each of its rules, in 01's order. Rules on links and names are counts.
 use mathlib.Core.Path.{_≡_}
-use mathlib.Core.Bool.{Bool, true, false, not}
+use mathlib.Core.Bool.{false, not}
 use mathlib.Core.List.{List, [], _∷_}
-use Prim.Native.Nat.{ℕ, zero, suc, _+_, _≤_, _<_}
+use Prim.Native.Nat.{ℕ, _+_, _≤_, _<_}
 use lib.Dec.{eqb, ltb}
 use lib.ListN.{length, getD}
 use Rattle.records.specs.declared.TaskNo.{TaskNo}
-use Rattle.executive.specs.declared.Millis.{Millis}
 use Rattle.executive.specs.declared.State.{State}
 use Rattle.executive.specs.declared.State.the-variants.{Dormant, Ready, Paused, Due, Flags, AwaitStart, AwaitEnd}
 use Rattle.executive.specs.declared.Task.{Task}
 use Rattle.executive.specs.declared.Request.{Request}
-use Rattle.executive.specs.declared.Rest.{Rest}
 use Rattle.executive.specs.declared.Table.{Table}
 use Rattle.executive.specs.Numbers.{mostTasks, mostQueued, flagCount, highest, mostGranule, endOfTime, longest}
 use Rattle.executive.specs.Queue.{pick, one, count, Desc}

@@ -14,7 +14,7 @@ ghost use lib.ListN.{drop, take};
 ghost use Rattle.executive.specs.Queue.{one};
 ghost use Rattle.executive.specs.Table.{taskAt};
 ghost use Rattle.executive.specs.WellFormed.{kindOf, is, runsOf};
-ghost use Rattle.executive.specs.Check.{upTo, allOf, inBounds, entryInRange, isZero, isBlank, requestInRange, isNobody, falls, standsIn, exactAt, isStored, isTimely, alarmRight, isUnmet, waitersAt, namesOthers, sleepsRight, isFree, entryRight, requestFits, requestRight, isQuiet, isLone, lineRight, askedRight, linkOf, linksIn, isWellFormed, Checked, Decided, Tallies};
+ghost use Rattle.executive.specs.Check.{upTo, allOf, inBounds, entryInRange, isZero, isBlank, requestInRange, isNobody, falls, exactAt, isStored, isTimely, alarmRight, isUnmet, waitersAt, namesOthers, sleepsRight, isFree, entryRight, requestFits, requestRight, isQuiet, isLone, lineRight, askedRight, linkOf, linksIn, isWellFormed, Checked, Decided, Tallies};
 ghost use Rattle.executive.specs.Broken.{Broken};
 
 // What a request's waiter waits for: its start, or the end of the run that it begins.

@@ -2,7 +2,6 @@
 use crate::Millis;
 use crate::Table;
 use crate::entries;
-use crate::places;
 use records::Call;
 use records::FlagNo;
 use records::TaskNo;
@@ -11,7 +10,6 @@ ghost use Prim.Native.Nat.{_≤_, _^_};
 ghost use lib.Dec.{ltb, eqb};
 ghost use lib.ListN.{getD};
 ghost use Rattle.executive.specs.Table.{never};
-ghost use Rattle.executive.specs.Plans.{stateAt};
 ghost use Rattle.executive.specs.Refusals.{_or_, isTick, noSuchTask, nobodyActive, badBody, namesCaller, alarmRunning, poolFull, endsTime, earlyOf};
 
 pub(crate) fn is_tick(call: Call) -> bool

@@ -1,4 +1,4 @@
-use mathlib.Core.Path.{_≡_, refl, sym, _∙_}
+use mathlib.Core.Path.{refl}
 use borrow.Author.Needs.{needs}
 use Rattle.executive.proofs.Rest.with_flag.Statement.{statement}
 use Rattle.executive.proofs.Rest.with_flag.Tie as tie

@@ -1,4 +1,4 @@
-use mathlib.Core.Path.{_≡_, refl, sym, ap, _∙_}
+use mathlib.Core.Path.{refl}
 use borrow.Author.Needs.{needs}
 use Rattle.executive.proofs.Table.answer.Statement.{statement}
 use Rattle.executive.proofs.Table.answer.Tie as tie

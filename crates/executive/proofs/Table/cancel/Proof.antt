@@ -1,4 +1,4 @@
-use mathlib.Core.Path.{_≡_, refl, sym, _∙_}
+use mathlib.Core.Path.{sym, _∙_}
 use Rattle.executive.proofs.Scans.{cancelled, not-cancelled}
 use borrow.Author.Needs.{needs}
 use Rattle.executive.proofs.Table.cancel.Statement.{statement}

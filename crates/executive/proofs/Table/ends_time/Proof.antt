@@ -1,4 +1,3 @@
-use mathlib.Core.Path.{_≡_, refl, sym, _∙_}
 use Rattle.executive.specs.Refusals.{endsTime}
 use borrow.Author.Needs.{needs}
 use Rattle.executive.proofs.Table.ends_time.Statement.{statement}

@@ -1,4 +1,4 @@
-use mathlib.Core.Path.{_≡_, refl, sym, _∙_}
+use mathlib.Core.Path.{refl}
 use borrow.Author.Tests.{ne-eqb}
 use Rattle.executive.specs.Plans.{flagPlan}
 use Rattle.executive.proofs.Scans.{unchanged}

@@ -2,7 +2,7 @@ use Rattle.executive.specs.Plans.{pausePlan}
 use Rattle.executive.specs.Table.{carry, departed, depart, admits, nobody}
 use Rattle.executive.proofs.Interval.{interval-most}
 use Prim.Native.Nat.{_≤_}
-use mathlib.Core.Path.{_≡_, refl, sym, ap, _∙_}
+use mathlib.Core.Path.{refl}
 use native.Mathlib.Omega.{arith}
 use borrow.Author.Tests.{ne-eqb}
 use Rattle.executive.proofs.Fits.{head-line}

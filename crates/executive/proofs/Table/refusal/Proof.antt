@@ -1,4 +1,4 @@
-use mathlib.Core.Path.{_≡_, refl, sym, _∙_}
+use mathlib.Core.Path.{refl}
 use Rattle.executive.specs.Refusals.{earlyOf, firstOf}
 use borrow.Author.Needs.{needs}
 use Rattle.executive.proofs.Table.refusal.Statement.{statement}

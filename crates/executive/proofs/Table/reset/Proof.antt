@@ -1,4 +1,4 @@
-use mathlib.Core.Path.{_≡_, refl, sym, _∙_}
+use mathlib.Core.Path.{refl}
 use Rattle.executive.specs.Plans.{resetPlan}
 use Rattle.executive.specs.Table.{carry, depart, admits}
 use borrow.Author.Needs.{needs}

@@ -1,7 +1,4 @@
 use native.Mathlib.Nat.{le-trans}
-use mathlib.Core.Path.{_≡_, refl, sym, ap, _∙_}
-use native.Mathlib.Omega.{arith}
-use Prim.Native.Nat.{_≤_, _<_, _%_}
 use Rattle.executive.proofs.Fits.{departed-fit}
 use Rattle.executive.proofs.Flight.{begin-flying, admits-flying}
 use Rattle.executive.proofs.Ends.{restarted-now, restarted-later}

@@ -1,4 +1,4 @@
-use mathlib.Core.Path.{_≡_, refl, sym, _∙_}
+use mathlib.Core.Path.{refl}
 use Rattle.executive.specs.Plans.{setPlan}
 use Rattle.executive.specs.Table.{carry, depart}
 use Rattle.executive.proofs.Scans.{risers-timely}

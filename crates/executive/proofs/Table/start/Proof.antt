@@ -1,5 +1,5 @@
-use mathlib.Core.Path.{_≡_, refl, sym, ap, _∙_}
-use Rattle.executive.specs.Plans.{outOf, startPlan}
+use mathlib.Core.Path.{refl, sym}
+use Rattle.executive.specs.Plans.{startPlan}
 use Rattle.executive.proofs.Flight.{begin-flying, depart-fit, carry-still}
 use borrow.Author.Needs.{needs}
 use Rattle.executive.proofs.Table.start.Statement.{statement}

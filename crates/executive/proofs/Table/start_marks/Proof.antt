@@ -1,4 +1,4 @@
-use mathlib.Core.Path.{_≡_, refl, sym, ap, _∙_}
+use mathlib.Core.Path.{refl}
 use Rattle.executive.specs.Steps.{marksOf}
 use borrow.Author.Needs.{needs}
 use Rattle.executive.proofs.Table.start_marks.Statement.{statement}

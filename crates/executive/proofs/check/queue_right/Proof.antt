@@ -3,7 +3,6 @@ use Rattle.executive.specs.Check.{falls}
 use mathlib.Core.Path.{sym, _∙_}
 use borrow.Author.Tests.{not-true, not-false}
 use lib.ListN.{take}
-use borrow.Author.Needs.{needs}
 use Rattle.executive.proofs.check.queue_right.Statement.{statement}
 use Rattle.executive.proofs.check.queue_right.Tie as tie
 

@@ -1,7 +1,7 @@
-use mathlib.Core.Path.{_≡_, refl, sym, ap, _∙_}
+use mathlib.Core.Path.{refl}
 use native.Mathlib.Omega.{arith}
-use Prim.Native.Nat.{_≤_, _<_, _%_}
-use borrow.Author.Tests.{lt-ltb, le-ltb, le-leb, lt-leb}
+use Prim.Native.Nat.{_≤_, _%_}
+use borrow.Author.Tests.{lt-ltb, le-ltb}
 use Rattle.executive.specs.Time.{aimAt}
 use Rattle.executive.proofs.Interval.{interval-most}
 use borrow.Author.Needs.{needs}

@@ -3,8 +3,6 @@ use lib.Pow.{pow-lt}
 use borrow.Author.Needs.{needs}
 use Rattle.executive.proofs.clock.bit_of.Statement.{statement}
 use Rattle.executive.proofs.clock.bit_of.Tie as tie
-use Rattle.executive.proofs.clock.bit_of.Reads as reads
-use Rattle.executive.proofs.clock.bit_of.Lts as lts
 
 cast-result : tie.Need-cast-result
 cast-result c = search needs

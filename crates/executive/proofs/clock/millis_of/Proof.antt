@@ -5,8 +5,6 @@ use borrow.Author.Needs.{needs}
 use Rattle.executive.specs.Time.{interval}
 use Rattle.executive.proofs.clock.millis_of.Statement.{statement}
 use Rattle.executive.proofs.clock.millis_of.Tie as tie
-use Rattle.executive.proofs.clock.millis_of.Reads as reads
-use Rattle.executive.proofs.clock.millis_of.Lts as lts
 
 mul-t5 : tie.Need-mul-t5
 mul-t5 c = search needs

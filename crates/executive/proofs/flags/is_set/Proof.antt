@@ -1,4 +1,4 @@
-use mathlib.Core.Path.{_≡_, refl, sym, _∙_}
+use mathlib.Core.Path.{refl}
 use Rattle.executive.specs.Rests.{isSet}
 use borrow.Author.Needs.{needs}
 use Rattle.executive.proofs.flags.is_set.Statement.{statement}

@@ -8,8 +8,6 @@ use Rattle.executive.specs.Table.{noRequest}
 use Rattle.executive.proofs.Without.{without-start, without-turn, without-end}
 use Rattle.executive.proofs.pool.dropped_at.Statement.{statement}
 use Rattle.executive.proofs.pool.dropped_at.Tie as tie
-use Rattle.executive.proofs.pool.dropped_at.Reads as reads
-use Rattle.executive.proofs.pool.dropped_at.Lts as lts
 
 abbrev Inv-loop : tie.InvT-loop
 Inv-loop at pool p₀ i₀ p i = (at ≤ i) × (i ≤ 31) × (p ≡ take i (closedAt noRequest pool at) ++ drop i pool)

@@ -1,23 +1,19 @@
-use mathlib.Core.List.{List, []}
-use mathlib.Core.Path.{refl, sym, _∙_}
+use mathlib.Core.List.{List}
+use mathlib.Core.Path.{refl, _≡_}
 use native.Mathlib.Numerals.{add-one}
 use borrow.Author.Tests.{eq-eqb, ne-eqb, lt-ltb, le-ltb}
-use lib.ListN.{length, getD, drop-of-length-le}
+use lib.ListN.{length, getD, drop-of-length-le, take, drop}
 use lib.Seq.{length-take-le, getD-take, drop-cons}
 use Rattle.records.specs.declared.TaskNo.{TaskNo}
 use Rattle.executive.specs.declared.Request.{Request}
 use Rattle.executive.specs.declared.pool.Found.the-variants.{At, Nothing}
 use Prim.Native.Nat.{ℕ, suc, _+_, _≤_, _<_, _-_}
 use native.Mathlib.Omega.{arith}
-use mathlib.Core.Path.{_≡_}
-use lib.ListN.{take, drop}
 use Rattle.executive.specs.Places.{foundAt}
 use Rattle.executive.specs.Rests.{placeOf}
 use Rattle.executive.specs.Table.{noRequest}
 use Rattle.executive.proofs.pool.first_for.Statement.{statement}
 use Rattle.executive.proofs.pool.first_for.Tie as tie
-use Rattle.executive.proofs.pool.first_for.Reads as reads
-use Rattle.executive.proofs.pool.first_for.Lts as lts
 
 abbrev Inv-loop : tie.InvT-loop
 Inv-loop queued k pool i₀ i = (i ≤ queued) × (placeOf (k .0) (take queued pool) ≡ i + placeOf (k .0) (drop i (take queued pool)))
