@@ -5,21 +5,22 @@ ghost use mathlib.Core.Path.{_≡_};
 ghost use Rattle.board.specs.Blocks.{same};
 ghost use Rattle.board.specs.Image.{isImageOf};
 
-// Whether the bytes are the same.
+// Whether the bytes are the same. It looks at all of them, so that the compiler can take many at a time.
 fn same_bytes(a: &[u8], b: &[u8]) -> bool
     ensures { λ r. ⌜ r ≡ same (now (a .entry)) (now (b .entry)) ⌝ }
 {
     if a.len() != b.len() {
         return false;
     }
+    let mut right = true;
     let mut i: usize = 0;
     while i < a.len() {
         if a[i] != b[i] {
-            return false;
+            right = false;
         }
         i += 1;
     }
-    true
+    right
 }
 
 // Whether the bytes are the image of this table.
