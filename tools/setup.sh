@@ -3,8 +3,8 @@
 # The kit builds for x86-64 Linux. On another machine its programs run under its own emulator, and C is compiled across.
 machine=$(uname -m)
 case $machine in
-x86_64 | amd64) emulated=no c_compiler=gcc c_package=gcc ;;
-*) emulated=yes c_compiler=x86_64-linux-gnu-gcc c_package=gcc-x86-64-linux-gnu ;;
+x86_64 | amd64) emulated=no c_compiler=gcc c_packages=gcc ;;
+*) emulated=yes c_compiler=x86_64-linux-gnu-gcc c_packages='gcc-x86-64-linux-gnu libc6-dev-amd64-cross' ;;
 esac
 
 # runnable PROGRAM: prints what runs this x86-64 program here: itself, or a script beside it that calls the emulator.
@@ -24,31 +24,33 @@ runnable() {
         chmod +x "$1.emulated" && printf '%s\n' "$1.emulated"
 }
 
-# add_package PACKAGE: from the distribution's packages, where this user may.
-add_package() {
+# add_packages PACKAGE..: from the distribution's packages, where this user may.
+add_packages() {
     as=
     if [ "$(id -u)" != 0 ]; then
         sudo -n true 2>/dev/null || return 1
         as='sudo -n'
     fi
     if command -v apt-get >/dev/null 2>&1; then
-        $as apt-get install -y "$1" || { $as apt-get update && $as apt-get install -y "$1"; }
+        $as apt-get install -y "$@" || { $as apt-get update && $as apt-get install -y "$@"; }
     elif command -v dnf >/dev/null 2>&1; then
-        $as dnf install -y "$1"
+        $as dnf install -y "$@"
     elif command -v zypper >/dev/null 2>&1; then
-        $as zypper --non-interactive install "$1"
+        $as zypper --non-interactive install "$@"
     elif command -v pacman >/dev/null 2>&1; then
-        $as pacman -S --noconfirm "$1"
+        $as pacman -S --noconfirm "$@"
     else
         return 1
     fi
 }
 
-# need COMMAND PACKAGE: the command is there, or is installed, or one sentence says what to install.
+# need COMMAND PACKAGE..: the command is there, or is installed, or one sentence says what to install.
 need() {
-    command -v "$1" >/dev/null 2>&1 && return 0
-    add_package "$2" >&2 </dev/null && command -v "$1" >/dev/null 2>&1 && return 0
-    echo "Please install the package $2: the command $1 is missing." >&2
+    wanted=$1
+    shift
+    command -v "$wanted" >/dev/null 2>&1 && return 0
+    add_packages "$@" >&2 </dev/null && command -v "$wanted" >/dev/null 2>&1 && return 0
+    echo "Please install the package $*: the command $wanted is missing." >&2
     return 1
 }
 
