@@ -6,7 +6,6 @@ use mathlib.Core.List.{List}
 use native.Mathlib.Omega.{arith}
 use native.Mathlib.Numerals.{add-one}
 use lib.Bits.{bitOr}
-use lib.Dec.{eqb, leb}
 use lib.ListN.{length, drop, getD, set, drop-of-length-le}
 use lib.Seq.{drop-cons, drop-drop, getD-drop}
 use Rattle.executive.specs.declared.Millis.{Millis}
@@ -15,9 +14,8 @@ use Rattle.executive.specs.declared.State.{State}
 use Rattle.executive.specs.declared.Task.{Task}
 use Rattle.executive.specs.declared.Work.{Work}
 use Rattle.executive.specs.Entries.{risen}
-use Rattle.executive.specs.Places.{isDue, nextOf}
-use Rattle.executive.specs.Queue.{pick, one}
-use Rattle.executive.specs.Rests.{each, rung}
+use Rattle.executive.specs.Places.{nextOf}
+use Rattle.executive.specs.Rests.{isDue, each, rung}
 use Rattle.executive.specs.Plans.{rises, risers}
 use Rattle.executive.specs.Table.{never, noTask, taskAt, Flying, admit, admits}
 use Rattle.executive.proofs.Flight.{each-turn, turned, turned-drop, turn, admits-flying}
@@ -81,24 +79,14 @@ abbrev pub ringing : Rest → Millis → List Millis → ℕ → Rest
 ringing b now alarms flags = record { count = b .count; granule = b .granule; clock = now; flags = flags; alarms = alarms; pool = b .pool; queued = b .queued }
 
 module _ (b : Rest) (now : Millis) (alarms : List Millis) (flags : ℕ) where
-  silent : (p q : Bool) (x r : Rest) → pick p false q ≡ false → pick p r (pick q x r) ≡ r
-  silent true q x r e = refl
-  silent false true x r e = absurd (let z : 1 ≡ 0 = ap one e in omega arith)
-  silent false false x r e = refl
-
-  loud : (p q : Bool) (x r : Rest) → pick p false q ≡ true → pick p r (pick q x r) ≡ x
-  loud true q x r e = absurd (let z : 0 ≡ 1 = ap one e in omega arith)
-  loud false true x r e = refl
-  loud false false x r e = absurd (let z : 0 ≡ 1 = ap one e in omega arith)
-
   rung-not : (i : ℕ) → isDue (now .0) (getD alarms i never) ≡ false → rung (ringing b now alarms flags) i ≡ ringing b now alarms flags
   unfolding rung
-  rung-not i e = silent (eqb (getD alarms i never .0) 0) (leb (getD alarms i never .0) (now .0)) _ _ e
+  rung-not i e = rw e refl
 
   rung-due : (i : ℕ) → isDue (now .0) (getD alarms i never) ≡ true
       → rung (ringing b now alarms flags) i ≡ ringing b now (set alarms i never) (bitOr flags (2 ^ i))
   unfolding rung
-  rung-due i e = loud (eqb (getD alarms i never .0) 0) (leb (getD alarms i never .0) (now .0)) _ _ e
+  rung-due i e = rw e refl
 
   -- those before the next due one do not ring
   pub ring-on : length alarms ≡ 32 → (i j : ℕ) → i ≤ 32 → j ≡ nextOf (isDue (now .0)) i (drop i alarms)

@@ -4,7 +4,7 @@ use mathlib.Core.Path.{_≡_, refl, sym, _∙_}
 use mathlib.Core.Bool.{Bool, true, false}
 use mathlib.Core.List.{List}
 use native.Mathlib.Omega.{arith}
-use borrow.Author.Tests.{ne-eqb, lt-ltb, le-ltb, ltb-true, ltb-false}
+use borrow.Author.Tests.{lt-ltb, le-ltb, ltb-true, ltb-false}
 use lib.Dec.{ltb}
 use lib.ListN.{length, getD, set, length-set, List·getD-eq-default}
 use lib.Seq.{set-out, getD-set-same}
@@ -82,16 +82,10 @@ module _ (ts : List Task) where
 
 -- the priority that an entry has once it is put in place
 pub level-put : (ts : List Task) (e : Task) → length ts ≡ 16 → (n : ℕ) → levelAt n (e .priority) ≡ taskAt (putAt ts n e) n .priority
-unfolding levelAt taskAt putAt
+unfolding levelAt entryPlace taskAt putAt
 level-put ts e l zero = refl
-level-put ts e l (suc i) = rw (ne-eqb (suc i) 0 (λ h. omega arith)) (go (ltb 16 (suc i)) refl)
+level-put ts e l (suc i) = go (ltb i 16) refl
   where
-    go : (b : Bool) → ltb 16 (suc i) ≡ b → pick b 0 (e .priority) ≡ getD (set ts i e) i noTask .priority
-    go true h =
-        let g : 16 < suc i = ltb-true 16 (suc i) h in
-        let m : length (set ts i e) ≡ length ts = length-set ts i e in
-        let o : length (set ts i e) ≤ i = omega arith in
-        rw (List·getD-eq-default (set ts i e) noTask o) refl
-    go false h =
-        let g : suc i ≤ 16 = ltb-false 16 (suc i) h in
-        rw (getD-set-same ts i e noTask (omega arith)) refl
+    go : (b : Bool) → ltb i 16 ≡ b → pick (ltb (pick b i 16) 16) (e .priority) 0 ≡ getD (set ts i e) i noTask .priority
+    go true h = rw (h, getD-set-same ts i e noTask (omega (arith, ltb-true i 16 h))) refl
+    go false h = rw (List·getD-eq-default (set ts i e) noTask {n = i} (omega (arith, ltb-false i 16 h, length-set ts i e))) refl

@@ -4,8 +4,8 @@ use mathlib.Core.Bool.{Bool, true, false}
 use mathlib.Core.List.{List, [], _∷_}
 use Prim.Native.Nat.{ℕ, zero, suc, _+_, _^_, _≤_, _<_, zero-le}
 use native.Mathlib.Omega.{arith}
-use borrow.Author.Tests.{leb-true, leb-false, eqb-true, eqb-false}
-use lib.Dec.{leb, ltb, eqb}
+use borrow.Author.Tests.{ne-eqb, leb-true, leb-false, eqb-true, eqb-false}
+use lib.Dec.{ltb, eqb}
 use lib.ListN.{length, getD, set, length-set, List·getD-eq-default}
 use lib.Bits.{bitOr}
 use Rattle.executive.specs.declared.Millis.{Millis}
@@ -17,7 +17,7 @@ use Rattle.executive.specs.Entries.{aimed}
 use Rattle.executive.specs.Plans.{over, risers, tickPlan}
 use Rattle.executive.specs.Numbers.{flagCount, endOfTime, longest}
 use Rattle.executive.specs.Queue.{pick}
-use Rattle.executive.specs.Rests.{withClock, each, rung, advanced}
+use Rattle.executive.specs.Rests.{withClock, each, isDue, rung, advanced}
 use Rattle.executive.specs.Table.{never, requests}
 use Rattle.executive.specs.WellFormed.{is}
 use Rattle.executive.proofs.Formed.{Calm, Rested, Formed}
@@ -32,12 +32,11 @@ module _ {B : Type 0} (g : Rest → B)
     (alone : (r : Rest) (fs : ℕ) (al : List Millis) → g (record { count = r .count; granule = r .granule; clock = r .clock; flags = fs; alarms = al; pool = r .pool; queued = r .queued }) ≡ g r) where
   rung-alone : (r : Rest) (i : ℕ) → g (rung r i) ≡ g r
   unfolding rung
-  rung-alone r i = go (eqb (getD (r .alarms) i never .0) 0) (leb (getD (r .alarms) i never .0) (r .clock .0))
+  rung-alone r i = go (isDue (r .clock .0) (getD (r .alarms) i never))
     where
-      go : (x y : Bool) → g (pick x r (pick y (record { count = r .count; granule = r .granule; clock = r .clock; flags = bitOr (r .flags) (2 ^ i); alarms = set (r .alarms) i never; pool = r .pool; queued = r .queued }) r)) ≡ g r
-      go true y = refl
-      go false true = alone r (bitOr (r .flags) (2 ^ i)) (set (r .alarms) i never)
-      go false false = refl
+      go : (x : Bool) → g (pick x (record { count = r .count; granule = r .granule; clock = r .clock; flags = bitOr (r .flags) (2 ^ i); alarms = set (r .alarms) i never; pool = r .pool; queued = r .queued }) r) ≡ g r
+      go true = alone r (bitOr (r .flags) (2 ^ i)) (set (r .alarms) i never)
+      go false = refl
 
   rings-alone : (n k : ℕ) (r : Rest) → g (each rung n k r) ≡ g r
   unfolding each
@@ -90,9 +89,13 @@ set-here [] k = refl
 set-here (x ∷ l) zero = refl
 set-here (x ∷ l) (suc k) = set-here l k
 
+-- an alarm that is running and not due has its time ahead
+not-due : (c : ℕ) (a : Millis) → isDue c a ≡ false → 0 < a .0 → c < a .0
+not-due c a e h = leb-false (a .0) c (rw (ne-eqb (a .0) 0 (λ z. omega arith)) at e)
+
 rung-kept : (r : Rest) (k : ℕ) → Rung r k → Rung (rung r k) (k + 1)
 unfolding rung
-rung-kept r k h = go (eqb (getD (r .alarms) k never .0) 0) refl (leb (getD (r .alarms) k never .0) (r .clock .0)) refl
+rung-kept r k h = go (isDue (r .clock .0) (getD (r .alarms) k never)) refl
   where
     -- what holds before k, and at k, holds up to k
     up : (P : ℕ → Type 0) → ((i : ℕ) → i < k → P i) → P k → (i : ℕ) → i < k + 1 → P i
@@ -105,17 +108,16 @@ rung-kept r k h = go (eqb (getD (r .alarms) k never .0) 0) refl (leb (getD (r .a
     same : (0 < getD (r .alarms) k never .0 → r .clock .0 < getD (r .alarms) k never .0) → Rung r (k + 1)
     same at = record { sized = h .sized; passed = up (λ (i : ℕ). 0 < getD (r .alarms) i never .0 → r .clock .0 < getD (r .alarms) i never .0) (h .passed) at; near = h .near }
 
-    go : (x : Bool) → eqb (getD (r .alarms) k never .0) 0 ≡ x → (y : Bool) → leb (getD (r .alarms) k never .0) (r .clock .0) ≡ y
-        → Rung (pick x r (pick y (record { count = r .count; granule = r .granule; clock = r .clock; flags = bitOr (r .flags) (2 ^ k); alarms = set (r .alarms) k never; pool = r .pool; queued = r .queued }) r)) (k + 1)
-    go true e y f = same (λ g. absurd (omega (arith, eqb-true (getD (r .alarms) k never .0) 0 e)))
-    go false e true f = record {
+    go : (x : Bool) → isDue (r .clock .0) (getD (r .alarms) k never) ≡ x
+        → Rung (pick x (record { count = r .count; granule = r .granule; clock = r .clock; flags = bitOr (r .flags) (2 ^ k); alarms = set (r .alarms) k never; pool = r .pool; queued = r .queued }) r) (k + 1)
+    go true e = record {
       sized = length-set (r .alarms) k never ∙ h .sized;
       passed = up (λ (i : ℕ). 0 < getD (set (r .alarms) k never) i never .0 → r .clock .0 < getD (set (r .alarms) k never) i never .0)
           (λ i g. set-all (λ (i : ℕ) (x : Millis). i < k → 0 < x .0 → r .clock .0 < x .0) (r .alarms) k never never (λ _ z. absurd (omega arith)) (h .passed) i g)
           (λ z. absurd (omega (arith, set-here (r .alarms) k)));
       near = set-all (λ (i : ℕ) (x : Millis). x .0 ≤ r .clock .0 + longest) (r .alarms) k never never zero-le (h .near);
     }
-    go false e false f = same (λ _. leb-false (getD (r .alarms) k never .0) (r .clock .0) f)
+    go false e = same (not-due (r .clock .0) (getD (r .alarms) k never) e)
 
 pub rings-kept : (n k : ℕ) (r : Rest) → Rung r k → Rung (each rung n k r) (k + n)
 unfolding each

@@ -242,7 +242,7 @@ inPasses t =
 -- ---- a tally of numbers: how often k stands in a line is told at place k - 1
 pub record Tallies (c : List ℕ) (xs : List TaskNo) : Type 0 where
   pub sized : length c ≡ 17
-  pub counts : (j : ℕ) → j < 16 → getD c j 0 ≡ standsIn (suc j) xs
+  pub counts : (j : ℕ) → j < mostTasks → getD c j 0 ≡ standsIn (suc j) xs
 
 -- ---- whom a request names as a waiter
 abbrev pub linkOf : Link → Request → ℕ

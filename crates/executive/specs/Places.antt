@@ -2,15 +2,15 @@
 use Prim.Native.Nat.{ℕ, suc, _+_, _-_}
 use mathlib.Core.List.{List, [], _∷_, _++_}
 use lib.ListN.{take, drop}
-use mathlib.Core.Bool.{Bool, false}
-use lib.Dec.{ltb, leb, eqb}
+use mathlib.Core.Bool.{Bool}
+use lib.Dec.{ltb}
 use Rattle.executive.specs.declared.pool.Found.{Found}
 use Rattle.executive.specs.declared.pool.Found.the-variants.{At, Nothing}
 use Rattle.records.specs.declared.TaskNo.{TaskNo}
-use Rattle.executive.specs.declared.Millis.{Millis}
 use Rattle.executive.specs.declared.Task.{Task}
+use Rattle.executive.specs.Numbers.{mostTasks}
 use Rattle.executive.specs.Queue.{pick, behind}
-use Rattle.executive.specs.Table.{taskAt}
+use Rattle.executive.specs.Table.{taskAt, entryPlace}
 
 -- how many at the front stay ahead of a task of priority p: all of equal or higher priority
 unfoldable pub aheadOf : List Task → ℕ → List TaskNo → ℕ
@@ -33,10 +33,6 @@ unfoldable pub nextOf : {A : Type 0} → (A → Bool) → ℕ → List A → ℕ
 nextOf f i [] = i
 nextOf f i (x ∷ xs) = pick (f x) i (nextOf f (suc i) xs)
 
--- an alarm is due when it is running and its time has come
-abbrev pub isDue : ℕ → Millis → Bool
-isDue c a = pick (eqb (a .0) 0) false (leb (a .0) c)
-
 -- the priority p of the task numbered n; a number that names no task has none
 unfoldable pub levelAt : ℕ → ℕ → ℕ
-levelAt n p = pick (eqb n 0) 0 (pick (ltb 16 n) 0 p)
+levelAt n p = pick (ltb (entryPlace n) mostTasks) p 0

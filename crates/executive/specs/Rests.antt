@@ -1,6 +1,6 @@
 -- What is neither a task's entry nor the queue: the pool, the flags, the alarms and the clock, and what a step makes of them.
 use Prim.Native.Nat.{ℕ, zero, suc, _+_, _-_, _^_}
-use mathlib.Core.Bool.{Bool, not}
+use mathlib.Core.Bool.{Bool, false, not}
 use mathlib.Core.List.{List, [], _∷_, _++_}
 use lib.Dec.{leb, eqb}
 use lib.Bits.{bitAnd, bitOr}
@@ -8,12 +8,13 @@ use lib.ListN.{length, getD, set, take, drop}
 use Rattle.executive.specs.declared.Millis.{Millis}
 use Rattle.executive.specs.declared.Request.{Request}
 use Rattle.executive.specs.declared.Rest.{Rest}
+use Rattle.executive.specs.Numbers.{flagCount, mostQueued}
 use Rattle.executive.specs.Queue.{pick}
 use Rattle.executive.specs.Table.{never, noRequest, pad}
 
 -- ---- the pool
 abbrev pub withRequests : List Request → Rest → Rest
-withRequests p r = record { count = r .count; granule = r .granule; clock = r .clock; flags = r .flags; alarms = r .alarms; pool = pad 32 noRequest p; queued = length p }
+withRequests p r = record { count = r .count; granule = r .granule; clock = r .clock; flags = r .flags; alarms = r .alarms; pool = pad mostQueued noRequest p; queued = length p }
 
 -- the place of the earliest request for task k; the number of requests where there is none. The requests without the one at a place
 unfoldable pub placeOf : ℕ → List Request → ℕ
@@ -50,14 +51,17 @@ unfoldable pub each : {A : Type 0} → (A → ℕ → A) → ℕ → ℕ → A �
 each f zero k a = a
 each f (suc n) k a = each f n (k + 1) (f a k)
 
+-- an alarm is due, at the clock c, when it is running and its time has come
+abbrev pub isDue : ℕ → Millis → Bool
+isDue c a = pick (eqb (a .0) 0) false (leb (a .0) c)
+
 -- alarm i, if it is due, sets its flag and is cleared
 unfoldable pub rung : Rest → ℕ → Rest
 rung r i =
-    pick (eqb (getD (r .alarms) i never .0) 0) r
-    (pick (leb (getD (r .alarms) i never .0) (r .clock .0))
+    pick (isDue (r .clock .0) (getD (r .alarms) i never))
     (record { count = r .count; granule = r .granule; clock = r .clock; flags = bitOr (r .flags) (2 ^ i); alarms = set (r .alarms) i never; pool = r .pool; queued = r .queued })
-    r)
+    r
 
 -- the clock gains one granule; due alarms set their flags and are cleared
 unfoldable pub advanced : Rest → Rest
-advanced r = each rung 32 0 (withClock (record { 0 = r .clock .0 + r .granule }) r)
+advanced r = each rung flagCount 0 (withClock (record { 0 = r .clock .0 + r .granule }) r)

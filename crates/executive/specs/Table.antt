@@ -14,7 +14,7 @@ use Rattle.executive.specs.declared.Request.{Request}
 use Rattle.executive.specs.declared.Rest.{Rest}
 use Rattle.executive.specs.declared.Table.{Table}
 use Rattle.executive.specs.declared.Work.{Work}
-use Rattle.executive.specs.Numbers.{endOfTime}
+use Rattle.executive.specs.Numbers.{mostTasks, mostQueued, endOfTime}
 use Rattle.executive.specs.Queue.{Item, Moves, pick, behind}
 
 -- ---- blank entries
@@ -45,13 +45,13 @@ requests r = take (r .queued) (r .pool)
 
 -- the places behind a line are blank
 pub record Neat (r : Rest) : Type 0 where
-  pub room : r .queued ≤ 32
-  pub clear : r .pool ≡ pad 32 noRequest (requests r)
+  pub room : r .queued ≤ mostQueued
+  pub clear : r .pool ≡ pad mostQueued noRequest (requests r)
 
 pub record Fit (t : Table) : Type 0 where
-  pub all : length (t .tasks) ≡ 16
-  pub few : t .ready ≤ 16
-  pub tidy : t .queue ≡ pad 16 nobody (line t)
+  pub all : length (t .tasks) ≡ mostTasks
+  pub few : t .ready ≤ mostTasks
+  pub tidy : t .queue ≡ pad mostTasks nobody (line t)
   pub neat : Neat (t .rest)
 
 -- ---- tasks are numbered from 1; number 0 is nobody
@@ -65,8 +65,8 @@ putAt ts (suc i) e = set ts i e
 
 -- the place of number k in an array of sixteen, k - 1; 16, which is no place, where k is 0 or over 16
 unfoldable pub entryPlace : ℕ → ℕ
-entryPlace zero = 16
-entryPlace (suc i) = pick (ltb i 16) i 16
+entryPlace zero = mostTasks
+entryPlace (suc i) = pick (ltb i mostTasks) i mostTasks
 
 -- what the calls' methods ask of a table, besides a caller: the arrays in order, no time out of range
 pub record Standing (t : Table) : Type 0 where
@@ -100,7 +100,7 @@ headOf (k ∷ ks) = k
 
 -- ---- the two moves: the caller leaves with entry e; task k enters with entry e
 abbrev pub withLine : List Task → List TaskNo → Table → Table
-withLine ts xs t = record { tasks = ts; queue = pad 16 nobody xs; ready = length xs; rest = t .rest }
+withLine ts xs t = record { tasks = ts; queue = pad mostTasks nobody xs; ready = length xs; rest = t .rest }
 
 unfoldable pub departed : Task → Table → Table
 departed e t = withLine (putAt (t .tasks) (headOf (line t) .0) e) (tail (line t)) t
@@ -151,7 +151,7 @@ abbrev pub away : Work → Work
 away w = record { table = w .table; full = true }
 
 unfoldable pub admit : TaskNo → Task → Work → Work
-admit k e w = pick (ltb (w .table .ready) 16) (seated k e w) (away w)
+admit k e w = pick (ltb (w .table .ready) mostTasks) (seated k e w) (away w)
 
 -- what every method in flight asks
 pub record Flying (w : Work) : Type 0 where

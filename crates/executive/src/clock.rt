@@ -5,8 +5,8 @@ ghost use mathlib.Core.Path.{_≡_};
 ghost use Prim.Native.Nat.{_<_, _≤_, _+_, _^_};
 ghost use Rattle.executive.specs.Time.{interval, aimAt};
 ghost use lib.ListN.{drop};
-ghost use Rattle.executive.specs.Places.{isDue, nextOf};
-ghost use Rattle.executive.specs.Rests.{advanced};
+ghost use Rattle.executive.specs.Places.{nextOf};
+ghost use Rattle.executive.specs.Rests.{isDue, advanced};
 
 // The word with one bit.
 pub(crate) fn bit_of(n: usize) -> u32

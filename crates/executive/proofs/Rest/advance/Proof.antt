@@ -6,8 +6,7 @@ use borrow.Author.Needs.{needs}
 use lib.Bits.{bitOr}
 use lib.ListN.{length, length-map, getD, set, length-set}
 use Rattle.executive.specs.declared.Millis.{Millis}
-use Rattle.executive.specs.Places.{isDue}
-use Rattle.executive.specs.Rests.{each, rung, advanced}
+use Rattle.executive.specs.Rests.{each, isDue, rung, advanced}
 use Rattle.executive.specs.Table.{never}
 use Rattle.executive.proofs.Flight.{each-end}
 use Rattle.executive.proofs.Next.{ringing, ring-on, ring-turn}
