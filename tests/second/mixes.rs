@@ -1,4 +1,4 @@
-//! Three long inputs whose speed is measured.
+//! What the two speed runs share: three long inputs, and the median.
 
 use crate::bench::LONGEST_INPUT;
 
