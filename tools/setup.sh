@@ -3,9 +3,10 @@
 # The kit builds for x86-64 Linux. On another machine its programs run under its own emulator, and C is compiled across.
 machine=$(uname -m)
 case $machine in
-x86_64 | amd64) emulated=no c_compiler=gcc c_packages=gcc ;;
-*) emulated=yes c_compiler=x86_64-linux-gnu-gcc c_packages='gcc-x86-64-linux-gnu libc6-dev-amd64-cross' ;;
+x86_64 | amd64) emulated=no c_prefix= c_packages=gcc ;;
+*) emulated=yes c_prefix=x86_64-linux-gnu- c_packages='gcc-x86-64-linux-gnu libc6-dev-amd64-cross' ;;
 esac
+c_compiler=${c_prefix}gcc c_lister=${c_prefix}objdump
 
 # runnable PROGRAM: prints what runs this x86-64 program here: itself, or a script beside it that calls the emulator.
 runnable() {

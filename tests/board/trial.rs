@@ -18,7 +18,7 @@ mod runs;
 mod speed;
 mod tables;
 
-use executive::{fresh, fresh_from_start, step_with, well_formed, Answer, Fault};
+use executive::{fresh, fresh_from_start, step_with, well_formed, Answer, Fault, UNITS};
 use image::{decode, encode, LENGTH};
 use met::Met;
 use runs::Rng;
@@ -70,6 +70,19 @@ struct Trial {
 type Told = Result<(), String>;
 
 impl Trial {
+    /// A pause of every count of every unit, once, from a table with one task.
+    fn intervals(&mut self) -> Told {
+        let table = fresh(&[0x40, 1, 0x41, 0, 1, 0x42]).expect("a good configuration");
+        let image = encode(&table);
+        for unit in 0..UNITS.len() as u8 {
+            for count in 0..=255 {
+                self.step(&image, &[0x02, unit, count], &UNWRITTEN)?;
+            }
+        }
+        println!("a pause of each of {} intervals agrees", UNITS.len() * 256);
+        Ok(())
+    }
+
     /// Walks through one generated run, with edits, damage and bad records on the way.
     fn walk(&mut self, index: u64) -> Told {
         let rng = &mut Rng::new(!self.seed, index);
@@ -243,6 +256,12 @@ fn trial(steps: u64, seed: u64, wrong: Wrong) -> bool {
         wrong,
         met: Met::default(),
     };
+    if wrong == Wrong::Nothing {
+        if let Err(difference) = trial.intervals() {
+            println!("{difference}");
+            return false;
+        }
+    }
     let mut index = 0;
     while trial.met.steps() < steps {
         if let Err(difference) = trial.walk(index) {

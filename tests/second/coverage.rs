@@ -1,7 +1,7 @@
 //! What a set of runs has met: kinds, numbers and ways of waking; and what it never met.
 
 use crate::bench::{cut, LONGEST_INPUT};
-use crate::executive::{fresh_from_start, step, Answer, State, Table};
+use crate::executive::{fresh_from_start, step, Answer, State, Table, UNITS};
 
 const KINDS: [(u8, &str); 10] = [
     (0x00, "terminate"),
@@ -44,6 +44,15 @@ const WAYS: [&str; 15] = [
     "started by 05",
 ];
 
+/// The kinds with an interval.
+const TIMED: [u8; 3] = [0x01, 0x02, 0x0B];
+/// The counts that each of them must meet in every unit.
+const COUNTS: [(&str, fn(u8) -> bool); 3] = [
+    ("count 0", |count| count == 0),
+    ("count 255", |count| count == 255),
+    ("a power of two", u8::is_power_of_two),
+];
+
 #[derive(Clone, Default)]
 pub struct Coverage {
     runs: u64,
@@ -52,6 +61,8 @@ pub struct Coverage {
     refused: [u64; KINDS.len()],
     numbers: [u64; 32],
     ways: [u64; WAYS.len()],
+    /// Accepted intervals: by kind, then count, then unit.
+    intervals: [[[u64; UNITS.len()]; COUNTS.len()]; TIMED.len()],
     changed_by_refusal: u64,
 }
 
@@ -97,6 +108,7 @@ impl Coverage {
             return;
         }
         self.accepted[kind] += 1;
+        self.watch_interval(record);
         for number in 1..=before.count {
             let (old, new) = (before.task(number).state, table.task(number).state);
             let caller = number == before.queue[0];
@@ -105,6 +117,20 @@ impl Coverage {
                     self.ways[way] += 1;
                 }
             }
+        }
+    }
+
+    /// Notes the unit and count of an accepted interval.
+    fn watch_interval(&mut self, record: &[u8]) {
+        let Some(kind) = TIMED.iter().position(|kind| *kind == record[0]) else {
+            return;
+        };
+        let unit = usize::from(record[1] & 7);
+        if unit >= UNITS.len() {
+            return;
+        }
+        for (met, (_, is)) in self.intervals[kind].iter_mut().zip(COUNTS) {
+            met[unit] += u64::from(is(record[2]));
         }
     }
 
@@ -119,6 +145,9 @@ impl Coverage {
         sum(&mut self.refused, &other.refused);
         sum(&mut self.numbers, &other.numbers);
         sum(&mut self.ways, &other.ways);
+        let both = self.intervals.iter_mut().zip(&other.intervals);
+        both.flat_map(|(to, from)| to.iter_mut().zip(from))
+            .for_each(|(to, from)| sum(to, from));
     }
 
     /// Prints the table; true if everything was met that can be, and nothing that cannot.
@@ -154,8 +183,26 @@ impl Coverage {
             println!("{way:<27} {met:>10}");
             note(&mut missed, met, || format!("way of waking '{way}'"));
         }
+        self.print_intervals(&mut missed);
         missed.iter().for_each(|what| println!("NEVER MET: {what}"));
         missed.is_empty() && self.nothing_impossible()
+    }
+
+    /// A line for each kind with an interval and each of the counts: how often in each unit.
+    fn print_intervals(&self, missed: &mut Vec<String>) {
+        println!(
+            "interval                   met in units 0 to {}",
+            UNITS.len() - 1
+        );
+        for (kind, counts) in TIMED.iter().zip(&self.intervals) {
+            for ((name, _), units) in COUNTS.iter().zip(counts) {
+                let met: Vec<String> = units.iter().map(u64::to_string).collect();
+                println!("{kind:02X} {name:<22}  {}", met.join(" "));
+                for (unit, met) in units.iter().enumerate() {
+                    note(missed, *met, || format!("{kind:02X}, unit {unit}, {name}"));
+                }
+            }
+        }
     }
 
     /// False, and said so, where a step answered what no bench run can, or a refusal changed something.

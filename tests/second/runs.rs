@@ -1,7 +1,7 @@
 //! Seeded runs for the bench: deep valid ones, damaged ones, and ones near the longest input.
 
 use crate::bench::{cut, LONGEST_INPUT};
-use crate::executive::{fresh_from_start, step, State, Table, PLACES, TASKS};
+use crate::executive::{fresh_from_start, step, State, Table, PLACES, TASKS, UNITS};
 
 /// A small generator of numbers (splitmix64).
 pub struct Rng(u64);
@@ -170,11 +170,12 @@ impl Run {
         }
     }
 
-    /// A unit and a count that come to a few granules, give or take 1 ms, or to anything.
+    /// A unit and a count that come to a few granules, give or take 1 ms, or to anything; the ends of the
+    /// count's range and the powers of two in any unit.
     fn interval(&self, rng: &mut Rng) -> [u8; 2] {
         let granules = rng.below(5) * self.table.granule as usize;
         match rng.below(12) {
-            0 => [rng.below(5) as u8, rng.byte()],
+            0 => [rng.below(UNITS.len()) as u8, some_count(rng)],
             1 => [rng.below(3) as u8, rng.below(4) as u8],
             2 | 3 => [1, (granules / 10 + rng.below(2)).min(255) as u8],
             _ => [
@@ -371,6 +372,16 @@ fn dead(table: &Table) -> bool {
 }
 
 /// Mostly one of the first flags, so that sets, masks and alarms meet.
+/// No units, the most, a power of two, or any count.
+fn some_count(rng: &mut Rng) -> u8 {
+    match rng.below(4) {
+        0 => 0,
+        1 => 255,
+        2 => 1 << rng.below(8),
+        _ => rng.byte(),
+    }
+}
+
 fn some_flag(rng: &mut Rng) -> u8 {
     if rng.one_in(8) {
         rng.pick(&[7, 8, 15, 16, 23, 24, 30, 31])

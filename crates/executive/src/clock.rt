@@ -2,9 +2,10 @@
 use crate::Millis;
 use crate::Rest;
 ghost use mathlib.Core.Path.{_≡_};
-ghost use Prim.Native.Nat.{_<_, _≤_, _+_, _^_};
-ghost use Rattle.executive.specs.Time.{interval, aimAt};
-ghost use lib.ListN.{drop};
+ghost use Prim.Native.Nat.{_<_, _≤_, _+_, _*_, _^_};
+ghost use Rattle.executive.specs.Numbers.{longest};
+ghost use Rattle.executive.specs.Time.{units, interval, aimAt};
+ghost use lib.ListN.{drop, getD};
 ghost use Rattle.executive.specs.Places.{nextOf};
 ghost use Rattle.executive.specs.Rests.{isDue, advanced};
 
@@ -16,19 +17,46 @@ pub(crate) fn bit_of(n: usize) -> u32
     1u32 << (n as u32)
 }
 
+// The milliseconds of one of a unit.
+fn unit_of(unit: u8) -> u64
+    requires { ⌜ unit < 5 ⌝ }
+    ensures { λ r. ⌜ r ≡ getD units unit 0 ⌝ }
+{
+    match unit {
+        0 => 1,
+        1 => 10,
+        2 => 1000,
+        3 => 60000,
+        _ => 3600000,
+    }
+}
+
+// So many of a unit added up, bit by bit of the count: the unit is doubled from turn to turn, and counts where the bit is set.
+// A loop, since the compiler makes a product again of a sum of shifts by constants.
+fn added_up(unit: u64, count: u8) -> u64
+    requires { ⌜ count * unit ≤ longest ⌝ }
+    ensures { λ r. ⌜ r ≡ count * unit ⌝ }
+{
+    let mut sum: u64 = 0;
+    let mut step = unit;
+    let mut left = count;
+    while left != 0 {
+        if left & 1 == 1 {
+            sum = sum + step;
+        }
+        step = step << 1;
+        left = left >> 1;
+    }
+    sum
+}
+
 // The milliseconds of a count of units.
 pub(crate) fn millis_of(unit: u8, count: u8) -> Millis
     requires { ⌜ unit < 5 ⌝ }
     ensures { λ r. ⌜ r ≡ interval unit count ⌝ }
 {
-    let n = count as u64;
-    match unit {
-        0 => Millis(n),
-        1 => Millis(n * 10),
-        2 => Millis(n * 1000),
-        3 => Millis(n * 60000),
-        _ => Millis(n * 3600000),
-    }
+    let one = unit_of(unit);
+    Millis(added_up(one, count))
 }
 
 // The time that a restart aims at.

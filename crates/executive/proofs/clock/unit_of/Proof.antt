@@ -1,0 +1,25 @@
+use mathlib.Core.Path.{_≡_}
+use native.Mathlib.Omega.{arith}
+use borrow.Author.Needs.{needs}
+use Rattle.executive.proofs.clock.unit_of.Statement.{statement}
+use Rattle.executive.proofs.clock.unit_of.Tie as tie
+
+returns : tie.Need-returns
+returns c = search needs
+
+returns-2 : tie.Need-returns-2
+returns-2 c = search needs
+
+returns-3 : tie.Need-returns-3
+returns-3 c = search needs
+
+returns-4 : tie.Need-returns-4
+returns-4 c = search needs
+
+returns-5 : tie.Need-returns-5
+returns-5 c =
+    let e : c .before .args .unit ≡ 4 = omega arith in
+    simp e
+
+pub unit-of-spec : {M : Type 1} → statement M
+unit-of-spec = tie.close (tie.spec returns returns-2 returns-3 returns-4 returns-5)
