@@ -10,6 +10,7 @@ use Rattle.records.specs.declared.TaskNo.{TaskNo}
 use Rattle.records.specs.declared.FlagNo.{FlagNo}
 use Rattle.records.specs.declared.Call.{Call}
 use Rattle.records.specs.declared.Call.the-variants as call
+use Rattle.executive.specs.Numbers.{lastUnit}
 use Rattle.executive.specs.declared.Table.{Table}
 use Rattle.executive.specs.Queue.{pick}
 use Rattle.executive.specs.Table.{Fit, Standing}
@@ -70,15 +71,15 @@ flag-low t o f h = let l = ltb-false 31 (f .0) (or-none (ltb 31 (f .0)) (ltb 2 o
 
 pub alarm-low : (t : Table) (u n : ℕ) (f : FlagNo) → badBody t (call.Alarm u n f) ≡ false → f .0 < 32
 unfolding badBody
-alarm-low t u n f h = let l = ltb-false 31 (f .0) (or-none (ltb 4 u) (ltb 31 (f .0)) h .1) in omega arith
+alarm-low t u n f h = let l = ltb-false 31 (f .0) (or-none (ltb lastUnit u) (ltb 31 (f .0)) h .1) in omega arith
 
-alarm-unit : (t : Table) (u n : ℕ) (f : FlagNo) → badBody t (call.Alarm u n f) ≡ false → u < 5
+alarm-unit : (t : Table) (u n : ℕ) (f : FlagNo) → badBody t (call.Alarm u n f) ≡ false → u ≤ lastUnit
 unfolding badBody
-alarm-unit t u n f h = let l = ltb-false 4 u (or-none (ltb 4 u) (ltb 31 (f .0)) h .0) in omega arith
+alarm-unit t u n f h = let l = ltb-false lastUnit u (or-none (ltb lastUnit u) (ltb 31 (f .0)) h .0) in omega arith
 
-pause-unit : (t : Table) (u n : ℕ) → badBody t (call.Pause u n) ≡ false → u < 5
+pause-unit : (t : Table) (u n : ℕ) → badBody t (call.Pause u n) ≡ false → u ≤ lastUnit
 unfolding badBody
-pause-unit t u n h = let l = ltb-false 4 u h in omega arith
+pause-unit t u n h = let l = ltb-false lastUnit u h in omega arith
 
 -- ---- what each method asks
 module _ (t : Table) (w : WellFormed t) where
@@ -92,7 +93,7 @@ module _ (t : Table) (w : WellFormed t) where
   pub restart-owed : (p n : ℕ) → earlyOf t (call.Restart p n) ≡ 0 → Standing t × (0 < t .ready)
   restart-owed p n h = (standing-of t w, active (call.Restart p n) refl h)
 
-  pub pause-owed : (u n : ℕ) → earlyOf t (call.Pause u n) ≡ 0 → Fit t × (0 < t .ready) × (t .rest .clock .0 ≤ 2 ^ 40) × (u < 5)
+  pub pause-owed : (u n : ℕ) → earlyOf t (call.Pause u n) ≡ 0 → Fit t × (0 < t .ready) × (t .rest .clock .0 ≤ 2 ^ 40) × (u ≤ lastUnit)
   pause-owed u n h = (fit-of t w, active (call.Pause u n) refl h, w .numbers .clock, pause-unit t u n (clear-of t (call.Pause u n) h .body))
 
   pub start-owed : (o : ℕ) (k : TaskNo) → earlyOf t (call.Start o k) ≡ 0 → Fit t × (0 < t .ready)
@@ -109,7 +110,7 @@ module _ (t : Table) (w : WellFormed t) where
   pub wait-owed : (m x : ℕ) → earlyOf t (call.Wait m x) ≡ 0 → Fit t × (0 < t .ready)
   wait-owed m x h = (fit-of t w, active (call.Wait m x) refl h)
 
-  pub alarm-owed : (u n : ℕ) (f : FlagNo) → earlyOf t (call.Alarm u n f) ≡ 0 → Fit t × Times t × (f .0 < 32) × (t .rest .clock .0 ≤ 2 ^ 40) × (u < 5)
+  pub alarm-owed : (u n : ℕ) (f : FlagNo) → earlyOf t (call.Alarm u n f) ≡ 0 → Fit t × Times t × (f .0 < 32) × (t .rest .clock .0 ≤ 2 ^ 40) × (u ≤ lastUnit)
   alarm-owed u n f h =
       let b = clear-of t (call.Alarm u n f) h .body in
       (fit-of t w, w .times, alarm-low t u n f b, w .numbers .clock, alarm-unit t u n f b)

@@ -9,6 +9,7 @@ use lib.Dec.{eqb}
 use lib.Bits.{bitAnd}
 use lib.ListN.{length-set}
 use Rattle.records.specs.declared.FlagNo.{FlagNo}
+use Rattle.executive.specs.Numbers.{lastUnit, longest}
 use Rattle.executive.specs.declared.Millis.{Millis}
 use Rattle.executive.specs.declared.State.{State}
 use Rattle.executive.specs.declared.State.the-variants.{Dormant, Ready, Paused, Due, Flags, AwaitStart, AwaitEnd}
@@ -146,7 +147,7 @@ module _ (t : Table) (w : Formed t) where
           }
 
   -- ---- 0B
-  pub alarm-good : (unit n : ℕ) (f : FlagNo) → unit < 5 → n < 256 → Good (alarmPlan t unit n f) t
+  pub alarm-good : (unit n : ℕ) (f : FlagNo) → unit ≤ lastUnit → n < 256 → Good (alarmPlan t unit n f) t
   unfolding alarmPlan puts
   alarm-good unit n f hu hn = go (eqb n 0) refl
     where
@@ -156,7 +157,7 @@ module _ (t : Table) (w : Formed t) where
       go : (b : Bool) → eqb n 0 ≡ b → Good (pick b (setPlan t f) (record { out = stays; ins = []; rest = withAlarm (f .0) at (t .rest) })) t
       go true e = set-good f
       go false e =
-          let m : interval unit n .0 ≤ 918000000 = interval-most unit n hn in
+          let m : interval unit n .0 ≤ longest = interval-most unit n hn in
           let s : 0 < interval unit n .0 = interval-some unit n hu (omega (arith, eqb-false n 0 e)) in
           record {
             leaving = refl;

@@ -6,23 +6,25 @@ use native.Mathlib.Omega.{arith}
 use lib.ListN.{getD}
 use lib.Dec.{lit≤, ltb}
 use mathlib.Core.Bool.{Bool, true, false}
+use Rattle.executive.specs.Numbers.{lastUnit, longest}
 use Rattle.executive.specs.declared.Millis.{Millis}
 use Rattle.executive.specs.Queue.{pick}
 use Rattle.executive.specs.Time.{units, interval, aimAt}
 
-unit-most : (u : ℕ) → getD units u 0 ≤ 3600000
+-- the largest count of any unit is at most the longest interval
+unit-most : (u : ℕ) → 255 * getD units u 0 ≤ longest
 unit-most zero = lit≤ tt
 unit-most (suc zero) = lit≤ tt
 unit-most (suc (suc zero)) = lit≤ tt
 unit-most (suc (suc (suc zero))) = lit≤ tt
 unit-most (suc (suc (suc (suc zero)))) = lit≤ tt
-unit-most (suc (suc (suc (suc (suc u))))) = zero-le
+unit-most (suc (suc (suc (suc (suc u))))) = lit≤ tt
 
-pub interval-most : (u n : ℕ) → n < 256 → interval u n .0 ≤ 918000000
+pub interval-most : (u n : ℕ) → n < 256 → interval u n .0 ≤ longest
 unfolding interval
-interval-most u n h = le-trans (mul-le-mul {n₂ = 255} {m₂ = 3600000} (omega arith) (unit-most u)) (lit≤ tt)
+interval-most u n h = le-trans (mul-le-mul-right (getD units u 0) (omega arith)) (unit-most u)
 
-unit-least : (u : ℕ) → u < 5 → 1 ≤ getD units u 0
+unit-least : (u : ℕ) → u ≤ lastUnit → 1 ≤ getD units u 0
 unit-least zero h = lit≤ tt
 unit-least (suc zero) h = lit≤ tt
 unit-least (suc (suc zero)) h = lit≤ tt
@@ -31,7 +33,7 @@ unit-least (suc (suc (suc (suc zero)))) h = lit≤ tt
 unit-least (suc (suc (suc (suc (suc u))))) h = absurd (omega arith)
 
 -- no interval of one unit or more is 0
-pub interval-some : (u n : ℕ) → u < 5 → 0 < n → 0 < interval u n .0
+pub interval-some : (u n : ℕ) → u ≤ lastUnit → 0 < n → 0 < interval u n .0
 unfolding interval
 interval-some u n h g =
     let i : 1 ≤ n = omega arith in
@@ -39,11 +41,11 @@ interval-some u n h g =
     omega arith
 
 -- a restart aims at most the largest interval ahead
-pub aim-most : (start now : Millis) (p n : ℕ) → start .0 ≤ now .0 → n < 256 → aimAt start now p n .0 ≤ now .0 + 918000000
+pub aim-most : (start now : Millis) (p n : ℕ) → start .0 ≤ now .0 → n < 256 → aimAt start now p n .0 ≤ now .0 + longest
 unfolding aimAt
-aim-most start now p n h hn = go (ltb 4 (p % 8)) (ltb p 128)
+aim-most start now p n h hn = go (ltb lastUnit (p % 8)) (ltb p 128)
   where
-    go : (a b : Bool) → pick {A = Millis} a now (record { 0 = pick b (start .0) (now .0) + interval (p % 8) n .0 }) .0 ≤ now .0 + 918000000
+    go : (a b : Bool) → pick {A = Millis} a now (record { 0 = pick b (start .0) (now .0) + interval (p % 8) n .0 }) .0 ≤ now .0 + longest
     go true b = omega arith
     go false true = omega (arith, interval-most (p % 8) n hn)
     go false false = omega (arith, interval-most (p % 8) n hn)

@@ -15,6 +15,7 @@ use Rattle.records.specs.Calls.{InRange}
 use Rattle.records.specs.Numbers.{Bytes}
 use Rattle.records.specs.Reading.{readOf}
 use Rattle.records.proofs.Ranges.{GotInRange, read-in-range}
+use Rattle.executive.specs.Numbers.{lastUnit}
 use Rattle.executive.specs.declared.Table.{Table}
 use Rattle.executive.specs.declared.Outcome.{Outcome}
 use Rattle.executive.specs.Queue.{pick}
@@ -52,7 +53,7 @@ pub call-good : (t : Table) (c : Call) → Formed t → InRange c → Clear t c 
 unfolding planOf nobodyActive badBody namesCaller poolFull endsTime
 call-good t call.Terminate w r a = end-good t w (some-ready t (a .active))
 call-good t (call.Restart p n) w r a = restart-good t w (some-ready t (a .active)) p n (r .1 .0)
-call-good t (call.Pause u n) w r a = pause-good t u n w (some-ready t (a .active)) (omega (arith, ltb-false 4 u (a .body))) (r .1 .0)
+call-good t (call.Pause u n) w r a = pause-good t u n w (some-ready t (a .active)) (omega (arith, ltb-false lastUnit u (a .body))) (r .1 .0)
 call-good t (call.CancelPause k) w r a = cancel-good t w k
 call-good t (call.Start o k) w r a =
     let s = such t k (or-none (noSuchTask t k) (not (eqb (o / 16 % 8) 0)) (a .body) .0) in
@@ -63,7 +64,7 @@ call-good t (call.Queue o k x) w r a =
     (λ b. leb-false 32 (t .rest .queued) (and-other (not (isDormant (stateAt t k))) (leb 32 (t .rest .queued)) (a .room) (ap not b)))
 call-good t (call.Flag o f) w r a = flag-good t w o f
 call-good t (call.Wait m mask) w r a = wait-good t w (some-ready t (a .active)) m mask (or-none (ltb 1 m) (eqb mask 0) (a .body) .1)
-call-good t (call.Alarm u n f) w r a = alarm-good t w u n f (omega (arith, ltb-false 4 u (or-none (ltb 4 u) (ltb 31 (f .0)) (a .body) .0))) (r .1 .0)
+call-good t (call.Alarm u n f) w r a = alarm-good t w u n f (omega (arith, ltb-false lastUnit u (or-none (ltb lastUnit u) (ltb 31 (f .0)) (a .body) .0))) (r .1 .0)
 call-good t call.Tick w r a = tick-good t w (ltb-false _ _ (a .time))
 call-good t (call.Granule g) w r a = nothing-good t w
 call-good t (call.Task p m) w r a = nothing-good t w

@@ -8,6 +8,7 @@ use borrow.Author.Tests.{ltb-true, ltb-false, leb-true, leb-false, eqb-true, eqb
 use lib.Dec.{ltb, leb, eqb}
 use lib.ListN.{length, getD}
 use Rattle.records.specs.declared.TaskNo.{TaskNo}
+use Rattle.executive.specs.Numbers.{lastUnit, longest}
 use Rattle.executive.specs.declared.Millis.{Millis}
 use Rattle.executive.specs.declared.Wait.{Wait}
 use Rattle.executive.specs.declared.Wait.the-variants.{Goes, ForStart, ForEnd}
@@ -73,7 +74,7 @@ runs t w h =
     record { is-ready = r; is-busy = omega arith; no-start = omega arith; no-end = omega arith; names = busy-names (t .tasks) (headOf (line t) .0) (omega arith) }
 
 -- ---- 02
-pub pause-good : (t : Table) (u n : ℕ) → Formed t → 0 < t .ready → u < 5 → n < 256 → Good (pausePlan t u n) t
+pub pause-good : (t : Table) (u n : ℕ) → Formed t → 0 < t .ready → u ≤ lastUnit → n < 256 → Good (pausePlan t u n) t
 unfolding puts pausePlan
 pause-good t u n w h hu hn = go (eqb n 0) refl
   where
@@ -84,7 +85,7 @@ pause-good t u n w h hu hn = go (eqb n 0) refl
         let c : ℕ = headOf (line t) .0 in
         let r : Runs (t .tasks) c = runs t w h in
         let e : Task = withState (Paused (record { 0 = t .rest .clock .0 + interval u n .0 })) (taskAt (t .tasks) c) in
-        let m : interval u n .0 ≤ 918000000 = interval-most u n hn in
+        let m : interval u n .0 ≤ longest = interval-most u n hn in
         let s : 0 < interval u n .0 = interval-some u n hu (omega (arith, eqb-false n 0 z)) in
         record {
           leaving = refl;
@@ -293,7 +294,7 @@ module _ (t : Table) (w : Formed t) (h : 0 < t .ready) where
         go true y = rw (eqb-true k (c .0) y, still) o
         go false y = freed .own k y
 
-    later-good : aim .0 ≤ now + 918000000 → now < aim .0 → Good (record { out = leaves (dueAt aim); ins = waking (endWaiter t c) ++ []; rest = t .rest }) t
+    later-good : aim .0 ≤ now + longest → now < aim .0 → Good (record { out = leaves (dueAt aim); ins = waking (endWaiter t c) ++ []; rest = t .rest }) t
     unfolding puts
     later-good far z =
         let u = puts-append (waking (endWaiter t c)) [] ts₄ in
@@ -323,7 +324,7 @@ module _ (t : Table) (w : Formed t) (h : 0 < t .ready) where
   unfolding restartPlan
   restart-good p n hn = go (aimAt (e .start) (t .rest .clock) p n) (aim-most (e .start) (t .rest .clock) p n (w .own (c .0) .started) hn)
     where
-      go : (aim : Millis) → aim .0 ≤ now + 918000000 → Good (restartBy t c aim) t
+      go : (aim : Millis) → aim .0 ≤ now + longest → Good (restartBy t c aim) t
       go aim far = by (leb (aim .0) now) refl
         where
           by : (b : Bool) → leb (aim .0) now ≡ b → Good (record { out = leaves (dueAt aim); ins = waking (endWaiter t c) ++ pick b (raising c ∷ []) []; rest = t .rest }) t

@@ -25,6 +25,10 @@ mostGranule = 255
 abbrev pub endOfTime : ℕ
 endOfTime = 2 ^ 40
 
+-- units 0 to 4
+abbrev pub lastUnit : ℕ
+lastUnit = 4
+
 -- the largest interval in ms: 255 hours
 abbrev pub longest : ℕ
 longest = 918000000

@@ -15,7 +15,7 @@ use Rattle.records.specs.declared.Got.the-variants as got
 use Rattle.records.specs.Kinds.{kindOf, lengthOf}
 use Rattle.records.specs.Reading.{readOf}
 use Rattle.executive.specs.declared.Table.{Table}
-use Rattle.executive.specs.Numbers.{mostQueued, endOfTime}
+use Rattle.executive.specs.Numbers.{lastUnit, mostQueued, endOfTime}
 use Rattle.executive.specs.Queue.{pick}
 use Rattle.executive.specs.Table.{never, Plan, carry}
 use Rattle.executive.specs.Plans.{caller, stateAt, isDormant, nothing, endPlan, restartPlan, pausePlan, cancelPlan, startOnlyPlan, askPlan, flagPlan, waitPlan, alarmPlan, tickPlan}
@@ -96,13 +96,13 @@ noSuchTask t k = eqb (k .0) 0 or ltb (t .rest .count) (k .0)
 unfoldable pub badBody : Table → Call → Bool
 badBody t call.Terminate = false
 badBody t (call.Restart p n) = false
-badBody t (call.Pause u n) = ltb 4 u
+badBody t (call.Pause u n) = ltb lastUnit u
 badBody t (call.CancelPause k) = noSuchTask t k
 badBody t (call.Start o k) = noSuchTask t k or not (eqb (o / 16 % 8) 0)
 badBody t (call.Queue o k a) = noSuchTask t k or eqb (o / 32 % 4) 3
 badBody t (call.Flag o f) = ltb 31 (f .0) or ltb 2 o
 badBody t (call.Wait m mask) = ltb 1 m or eqb mask 0
-badBody t (call.Alarm u n f) = ltb 4 u or ltb 31 (f .0)
+badBody t (call.Alarm u n f) = ltb lastUnit u or ltb 31 (f .0)
 badBody t call.Tick = false
 badBody t (call.Granule g) = false
 badBody t (call.Task p m) = false

@@ -10,6 +10,7 @@ use Rattle.executive.specs.declared.Table.{Table}
 use Rattle.executive.specs.declared.Marks.{Marks}
 use Rattle.executive.specs.declared.Answer.{Answer}
 use Rattle.executive.specs.declared.Outcome.{Outcome}
+use Rattle.executive.specs.Numbers.{lastUnit}
 use Rattle.executive.specs.Queue.{pick}
 use Rattle.executive.specs.Table.{nobody, taskAt, carry}
 use Rattle.executive.specs.Rests.{isSet}
@@ -28,7 +29,7 @@ flagMarks operation old = marks (pick (eqb operation 0) (not old) (pick (eqb ope
 unfoldable pub marksOf : Table → Call → Marks
 marksOf t call.Terminate = marks false false false
 -- 01: V for units 5 to 7
-marksOf t (call.Restart p n) = marks false (ltb 4 (p % 8)) false
+marksOf t (call.Restart p n) = marks false (ltb lastUnit (p % 8)) false
 -- 02: count 0 has Z (H)
 marksOf t (call.Pause u n) = marks (eqb n 0) false false
 -- 03: Z where the task is not paused

@@ -4,6 +4,7 @@ use crate::Marks;
 use crate::Outcome;
 use crate::Table;
 use crate::calls;
+use crate::clock;
 use crate::entries;
 use crate::flags;
 use crate::places;
@@ -123,7 +124,7 @@ impl Table {
         match call {
             Call::Restart { parameter, .. } => Marks {
                 z: false,
-                v: 4 < parameter % 8,
+                v: clock::LAST_UNIT < parameter % 8,
                 c: false,
             },
             Call::Pause { count, .. } => only_z(count == 0),

@@ -11,6 +11,7 @@ use crate::pool::Found;
 use records::TaskNo;
 ghost use mathlib.Core.Path.{_≡_};
 ghost use Prim.Native.Nat.{_<_, _≤_, _+_, _^_};
+ghost use Rattle.executive.specs.Numbers.{lastUnit};
 ghost use Rattle.executive.specs.Table.{Fit, Standing, Out, depart, carry};
 ghost use Rattle.executive.specs.Entries.{withState};
 ghost use Rattle.executive.specs.Plans.{isPaused, endPlan, restartPlan, pausePlan, cancelPlan, tickPlan};
@@ -102,7 +103,7 @@ impl Table {
 
     // Kind 02, its interval in range.
     pub(crate) fn pause(mut self, unit: u8, count: u8) -> Work
-        requires { ⌜ Fit self × (0 < self .ready) × (self .rest .clock .0 ≤ 2 ^ 40) × (unit < 5) ⌝ }
+        requires { ⌜ Fit self × (0 < self .ready) × (self .rest .clock .0 ≤ 2 ^ 40) × (unit ≤ lastUnit) ⌝ }
         ensures { λ r. ⌜ r ≡ carry (pausePlan self unit count) self ⌝ }
     {
         if count == 0 {

@@ -5,6 +5,7 @@ use crate::Request;
 use crate::State;
 use crate::Table;
 use crate::Task;
+use crate::clock;
 use crate::places;
 use records::TaskNo;
 ghost use mathlib.Core.Path.{_≡_};
@@ -112,11 +113,11 @@ fn sleeps_right(e: Task) -> bool
     is_zero(e)
 }
 
-// A stored time is after the clock and at most 918,000,000 ms after it.
+// A stored time is after the clock and at most the longest interval after it.
 fn is_stored(at: Millis, now: Millis) -> bool
     ensures { λ r. ⌜ r ≡ isStored (now .0) (at .0) ⌝ }
 {
-    now.0 < at.0 && at.0 - now.0 <= 918000000
+    now.0 < at.0 && at.0 - now.0 <= clock::LONGEST
 }
 
 fn is_timely(s: State, now: Millis) -> bool

@@ -3,11 +3,16 @@ use crate::Millis;
 use crate::Rest;
 ghost use mathlib.Core.Path.{_≡_};
 ghost use Prim.Native.Nat.{_<_, _≤_, _+_, _*_, _^_};
-ghost use Rattle.executive.specs.Numbers.{longest};
+ghost use Rattle.executive.specs.Numbers.{lastUnit, longest};
 ghost use Rattle.executive.specs.Time.{units, interval, aimAt};
 ghost use lib.ListN.{drop, getD};
 ghost use Rattle.executive.specs.Places.{nextOf};
 ghost use Rattle.executive.specs.Rests.{isDue, advanced};
+
+// The last unit of an interval, and the longest interval in ms.
+pub(crate) const LAST_UNIT: u8 = 4;
+
+pub(crate) const LONGEST: u64 = 918000000;
 
 // The word with one bit.
 pub(crate) fn bit_of(n: usize) -> u32
@@ -19,7 +24,7 @@ pub(crate) fn bit_of(n: usize) -> u32
 
 // The milliseconds of one of a unit.
 fn unit_of(unit: u8) -> u64
-    requires { ⌜ unit < 5 ⌝ }
+    requires { ⌜ unit ≤ lastUnit ⌝ }
     ensures { λ r. ⌜ r ≡ getD units unit 0 ⌝ }
 {
     match unit {
@@ -52,7 +57,7 @@ fn added_up(unit: u64, count: u8) -> u64
 
 // The milliseconds of a count of units.
 pub(crate) fn millis_of(unit: u8, count: u8) -> Millis
-    requires { ⌜ unit < 5 ⌝ }
+    requires { ⌜ unit ≤ lastUnit ⌝ }
     ensures { λ r. ⌜ r ≡ interval unit count ⌝ }
 {
     let one = unit_of(unit);
@@ -65,7 +70,7 @@ pub(crate) fn aim_at(start: Millis, now: Millis, param: u8, count: u8) -> Millis
     ensures { λ r. ⌜ r ≡ aimAt start now param count ⌝ }
 {
     let unit = param % 8;
-    if 4 < unit {
+    if LAST_UNIT < unit {
         return now;
     }
     let wait = millis_of(unit, count);

@@ -1,6 +1,7 @@
 // The refusals: for each number of 01, whether it is given (01, "Numbers an answer can carry").
 use crate::Millis;
 use crate::Table;
+use crate::clock;
 use crate::entries;
 use records::Call;
 use records::FlagNo;
@@ -9,6 +10,7 @@ ghost use mathlib.Core.Path.{_≡_};
 ghost use Prim.Native.Nat.{_≤_, _^_};
 ghost use lib.Dec.{ltb, eqb};
 ghost use lib.ListN.{getD};
+ghost use Rattle.executive.specs.Numbers.{lastUnit};
 ghost use Rattle.executive.specs.Table.{never};
 ghost use Rattle.executive.specs.Refusals.{_or_, isTick, noSuchTask, nobodyActive, badBody, namesCaller, alarmRunning, poolFull, endsTime, earlyOf};
 
@@ -52,9 +54,9 @@ fn bad_wait(mode: u8, mask: u32) -> bool
 }
 
 fn bad_alarm(unit: u8, f: FlagNo) -> bool
-    ensures { λ r. ⌜ r ≡ (ltb 4 unit or ltb 31 (f .0)) ⌝ }
+    ensures { λ r. ⌜ r ≡ (ltb lastUnit unit or ltb 31 (f .0)) ⌝ }
 {
-    if 4 < unit {
+    if clock::LAST_UNIT < unit {
         return true;
     }
     31 < f.0
@@ -114,7 +116,7 @@ impl Table {
         ensures { λ r. ⌜ r ≡ badBody self call ⌝ }
     {
         match call {
-            Call::Pause { unit, .. } => 4 < unit,
+            Call::Pause { unit, .. } => clock::LAST_UNIT < unit,
             Call::CancelPause { task } => self.no_such_task(task),
             Call::Start { option, task } => self.bad_start(option, task),
             Call::Queue { option, task, .. } => self.bad_queue(option, task),

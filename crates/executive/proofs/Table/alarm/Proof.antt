@@ -2,6 +2,7 @@ use mathlib.Core.Path.{refl}
 use native.Mathlib.Omega.{arith}
 use Prim.Native.Nat.{_≤_}
 use borrow.Author.Tests.{ne-eqb}
+use Rattle.executive.specs.Numbers.{longest}
 use Rattle.executive.specs.Plans.{alarmPlan}
 use Rattle.executive.specs.Table.{carry, depart, admits}
 use Rattle.executive.proofs.Interval.{interval-most}
@@ -16,7 +17,7 @@ returns c = rw (c .set .ensures, c .before .if1 .taken) refl
 add-t11 : tie.Need-add-t11
 add-t11 c =
     let s = c .before .before .before .before .before in
-    let b : c .before .before .before .millis-of .result .0 ≤ 918000000 = rw (c .before .before .before .millis-of .ensures) (interval-most (s .args .unit) (s .args .count) (omega arith)) in
+    let b : c .before .before .before .millis-of .result .0 ≤ longest = rw (c .before .before .before .millis-of .ensures) (interval-most (s .args .unit) (s .args .count) (omega arith)) in
     omega (arith, s .pre .3)
 
 returns-2 : tie.Need-returns-2

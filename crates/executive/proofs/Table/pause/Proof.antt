@@ -1,3 +1,4 @@
+use Rattle.executive.specs.Numbers.{longest}
 use Rattle.executive.specs.Plans.{pausePlan}
 use Rattle.executive.specs.Table.{carry, departed, depart, admits, nobody}
 use Rattle.executive.proofs.Interval.{interval-most}
@@ -26,7 +27,7 @@ millis-of-requires c κs = search needs
 add-t15 : tie.Need-add-t15
 add-t15 c =
     let s = c .before .before .before .before .before .before .before .before in
-    let b : c .before .before .millis-of .result .0 ≤ 918000000 = rw (c .before .before .millis-of .ensures) (interval-most (s .args .unit) (s .args .count) (omega arith)) in
+    let b : c .before .before .millis-of .result .0 ≤ longest = rw (c .before .before .millis-of .ensures) (interval-most (s .args .unit) (s .args .count) (omega arith)) in
     omega (arith, s .pre .2)
 
 with-state-requires : tie.Need-with-state-requires
