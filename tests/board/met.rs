@@ -1,10 +1,15 @@
-//! What a trial met: numbers, kinds and checks.
+//! What a trial met: numbers, kinds, checks and days that ended.
 
+use crate::executive::{State, Table, FLAGS, TASKS};
 use std::collections::BTreeMap;
 
 /// The numbers that must be met: by steps, and by the making of fresh tables. From a well-formed table 11 never arises.
 const OF_STEPS: [u8; 11] = [0, 1, 3, 4, 5, 6, 7, 8, 9, 10, 20];
 const OF_FRESH: [u8; 3] = [0, 1, 2];
+/// What waits for a time.
+const TIMED: [&str; 3] = ["paused task", "due task", "alarm"];
+/// The longest interval that is no day's: 255 hours.
+const HOURS: u64 = 918_000_000;
 const KINDS: [u8; 10] = [0x00, 0x01, 0x02, 0x03, 0x04, 0x05, 0x09, 0x0A, 0x0B, 0x80];
 
 #[derive(Default)]
@@ -13,6 +18,30 @@ pub struct Met {
     kinds: BTreeMap<u8, u64>,
     fresh: BTreeMap<u8, u64>,
     checks: BTreeMap<bool, u64>,
+    days: [u64; TIMED.len()],
+}
+
+/// Since when each task has been in its state and each alarm has had its time.
+#[derive(Default)]
+pub struct Since {
+    tasks: [u64; TASKS],
+    alarms: [u64; FLAGS],
+}
+
+impl Since {
+    /// What differs between two tables is as old as the clock.
+    pub fn changed(&mut self, before: &Table, after: &Table) {
+        for at in 0..TASKS {
+            if before.tasks[at].state != after.tasks[at].state {
+                self.tasks[at] = after.clock;
+            }
+        }
+        for at in 0..FLAGS {
+            if before.alarms[at] != after.alarms[at] {
+                self.alarms[at] = after.clock;
+            }
+        }
+    }
 }
 
 impl Met {
@@ -25,6 +54,21 @@ impl Met {
 
     pub fn made(&mut self, number: u8) {
         *self.fresh.entry(number).or_default() += 1;
+    }
+
+    /// The times that came at an accepted tick, and were further off than hours reach.
+    pub fn ticked(&mut self, since: &Since, before: &Table, after: &Table) {
+        let came = |time: u64, from: u64| time <= after.clock && time - from > HOURS;
+        for (task, from) in before.tasks.iter().zip(since.tasks) {
+            match task.state {
+                State::Paused(time) => self.days[0] += u64::from(came(time, from)),
+                State::Due(time) => self.days[1] += u64::from(came(time, from)),
+                _ => {}
+            }
+        }
+        for (time, from) in before.alarms.iter().zip(since.alarms) {
+            self.days[2] += u64::from(*time != 0 && came(*time, from));
+        }
     }
 
     /// A damaged image: whether it is one of a well-formed table all the same.
@@ -45,6 +89,9 @@ impl Met {
         print_counts("fresh table, number", &self.fresh, |number| {
             number.to_string()
         });
+        for (what, count) in TIMED.iter().zip(self.days) {
+            println!("  {what} after more than 255 hours: {count}");
+        }
         println!(
             "  damaged images: {} not well formed, {} well formed all the same",
             of(false),
@@ -53,6 +100,7 @@ impl Met {
         let complete = OF_STEPS.iter().all(|n| self.steps.contains_key(n))
             && OF_FRESH.iter().all(|n| self.fresh.contains_key(n))
             && KINDS.iter().all(|kind| self.kinds.contains_key(kind))
+            && self.days.iter().all(|count| *count > 0)
             && of(false) > 0
             && of(true) > 0;
         if !complete {

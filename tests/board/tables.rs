@@ -8,8 +8,8 @@ use crate::runs::Rng;
 type Edit = fn(&mut Table, &mut Rng);
 
 /// Edits that mostly keep a table well formed.
-const EDITS: [Edit; 9] = [
-    clock, own, runs, flags, timed, waits, fill_pool, move_end, to_end,
+const EDITS: [Edit; 10] = [
+    clock, forward, own, runs, flags, timed, waits, fill_pool, move_end, to_end,
 ];
 
 /// Edits that mostly break one rule, by as little as they can.
@@ -67,7 +67,7 @@ pub fn bad_record(record: &[u8], rng: &mut Rng) -> Vec<u8> {
         2 => bad.push(rng.byte()),
         3 => bad[0] = rng.pick(&[0x06, 0x08, 0x0C, 0x3F, 0x40, 0x41, 0x42, 0x43, 0x81, 0xFF]),
         4 => bad[0] = rng.byte(),
-        5 | 6 => bad[at] = rng.pick(&[0, 2, 3, 4, 5, 0x10, 0x11, 0x1F, 0x20, 0x40, 0x60, 0x80]),
+        5 | 6 => bad[at] = rng.pick(&[0, 2, 3, 4, 5, 6, 0x10, 0x11, 0x1F, 0x20, 0x40, 0x60, 0x80]),
         _ => bad = (0..rng.below(9)).map(|_| rng.byte() & 0x0F).collect(),
     }
     bad
@@ -112,6 +112,18 @@ fn clock(table: &mut Table, rng: &mut Rng) {
         *time = carried(*time);
     }
     table.clock = clock;
+}
+
+/// The clock comes to just before the next stored time, and nothing else changes.
+fn forward(table: &mut Table, _: &mut Rng) {
+    let waits = table.tasks.iter().filter_map(|task| match task.state {
+        State::Paused(time) | State::Due(time) => Some(time),
+        _ => None,
+    });
+    let alarms = table.alarms.iter().copied().filter(|time| *time != 0);
+    if let Some(next) = waits.chain(alarms).min() {
+        table.clock = next - 1;
+    }
 }
 
 fn own(table: &mut Table, rng: &mut Rng) {

@@ -22,8 +22,8 @@ static const struct step listing[] = {
     {{0x0A, 0x00, 0x00, 0x00, 0x00, 0x01}, 6, "6 0A 0 000 2"},
     {{0x00}, 1, "7 00 0 000 3"},
     {{0x09, 0x01, 0x00}, 3, "8 09 0 000 3"},
-    {{0x02, 0x05, 0x01}, 3, "9 02 6 010 3"},
-    {{0x00}, 1, "10 00 0 000 1"},
+    {{0x02, 0x05, 0x01}, 3, "9 02 0 000 1"},
+    {{0x00}, 1, "10 00 0 000 2"},
 };
 
 static const uint8_t tick[] = {0x80};
@@ -88,8 +88,48 @@ static void try_refusals(void) {
     tell("the check of a damaged image: 1", quermanic_check(image, whole) == 1);
 }
 
+/* A fresh table with one task, and one step from it: its number is checked, and V is as given. */
+static int steps(uint8_t number, uint8_t v, const uint8_t *record, size_t length) {
+    static const uint8_t alone[] = {0x40, 1, 0x41, 7, 1, 0x42};
+    uint8_t answer[QUERMANIC_ANSWER_LENGTH];
+
+    return quermanic_fresh(alone, sizeof alone, image, sizeof image) == 0 &&
+           quermanic_step(image, sizeof image, record, length, answer, sizeof answer) == number &&
+           answer[QUERMANIC_ANSWER_V] == v && answer[QUERMANIC_ANSWER_NUMBER] == number;
+}
+
+/* Whether task 1 is in a state (docs/TABLE.md), with this time. */
+static int is_timed(uint8_t state, uint64_t time) {
+    uint64_t stored = 0;
+    size_t i;
+
+    for (i = 2; i < 10; i++) {
+        stored = stored << 8 | image[i];
+    }
+    return image[1] == state && stored == time;
+}
+
+/* Unit 5 is a day: at the bounds of the longest interval, and of the units. */
+static void try_days(void) {
+    static const uint8_t units[] = {6, 7, 255};
+    size_t i;
+
+    tell("a pause of 255 days: 0, and stored exactly", steps(0, 0, (const uint8_t[]){0x02, 5, 255}, 3) && is_timed(2, 22032000000));
+    tell("a time that far off is well formed", quermanic_check(image, sizeof image) == 0);
+    image[9]++;
+    tell("one ms further is not", quermanic_check(image, sizeof image) == 1);
+    for (i = 0; i < sizeof units; i++) {
+        tell("a pause in no unit: 6, V", steps(6, 1, (const uint8_t[]){0x02, units[i], 1}, 3));
+        tell("an alarm in no unit: 6, V", steps(6, 1, (const uint8_t[]){0x0B, units[i], 1, 0}, 4));
+    }
+    tell("a restart in unit 6: 0, V, at once", steps(0, 1, (const uint8_t[]){0x01, 6, 1}, 3) && is_timed(1, 0));
+    tell("a restart in unit 7: 0, V, at once", steps(0, 1, (const uint8_t[]){0x01, 7, 1}, 3) && is_timed(1, 0));
+    tell("a restart in a day: 0, due", steps(0, 0, (const uint8_t[]){0x01, 5, 1}, 3) && is_timed(3, 86400000));
+}
+
 int main(void) {
     take_listing();
     try_refusals();
+    try_days();
     return failed;
 }

@@ -20,7 +20,7 @@ mod tables;
 
 use executive::{fresh, fresh_from_start, step_with, well_formed, Answer, Fault, UNITS};
 use image::{decode, encode, LENGTH};
-use met::Met;
+use met::{Met, Since};
 use runs::Rng;
 use std::process::ExitCode;
 use std::time::Instant;
@@ -83,6 +83,23 @@ impl Trial {
         Ok(())
     }
 
+    /// The image that a board wrote before unit 5 was a day is well formed still, and its steps go on.
+    fn before_days(&mut self) -> Told {
+        let text = include_str!("before-days.hex").lines();
+        let bytes = text.filter(|line| !line.starts_with('#')).flat_map(|line| {
+            line.split(' ')
+                .map(|byte| u8::from_str_radix(byte, 16).expect("a byte in hex"))
+        });
+        let image: Vec<u8> = bytes.collect();
+        if library::check(&image) != 0 {
+            return Err("the image of an older board is refused".to_string());
+        }
+        self.image(&image, &[0x80])?;
+        self.image(&image, &[0x00])?;
+        println!("the image of an older board is well formed");
+        Ok(())
+    }
+
     /// Walks through one generated run, with edits, damage and bad records on the way.
     fn walk(&mut self, index: u64) -> Told {
         let rng = &mut Rng::new(!self.seed, index);
@@ -94,6 +111,7 @@ impl Trial {
             return Ok(());
         };
         let edits = rng.pick(&[6, 20, 60, 1000]);
+        let mut since = Since::default();
         let mut image = encode(&table);
         let mut rest = &bytes[used..];
         for _ in 0..LONGEST_WALK {
@@ -102,10 +120,19 @@ impl Trial {
             };
             rest = more;
             if rng.one_in(edits) {
-                image = encode(&tables::edited(&table_of(&image), rng));
+                let before = table_of(&image);
+                let edited = tables::edited(&before, rng);
+                since.changed(&before, &edited);
+                image = encode(&edited);
             }
             self.beside(&image, record, rng)?;
+            let before = table_of(&image);
             image = self.step(&image, record, &UNWRITTEN)?;
+            let after = table_of(&image);
+            if after.clock != before.clock {
+                self.met.ticked(&since, &before, &after);
+            }
+            since.changed(&before, &after);
         }
         Ok(())
     }
@@ -257,7 +284,7 @@ fn trial(steps: u64, seed: u64, wrong: Wrong) -> bool {
         met: Met::default(),
     };
     if wrong == Wrong::Nothing {
-        if let Err(difference) = trial.intervals() {
+        if let Err(difference) = trial.intervals().and_then(|()| trial.before_days()) {
             println!("{difference}");
             return false;
         }

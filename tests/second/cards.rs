@@ -20,8 +20,8 @@ pub const PAPER_OUTPUT: &[u8] = b"granule 10 tasks 3 active 1
 6 0A 0 000 2
 7 00 0 000 3
 8 09 0 000 3
-9 02 6 010 3
-10 00 0 000 1
+9 02 0 000 1
+10 00 0 000 2
 end
 ";
 
@@ -95,7 +95,10 @@ fn p3() -> bool {
         accepted(&mut t, &[&[2, unit, count]]);
         t.task(1).state
     };
-    paused(2, 30) == State::Paused(30_000) && paused(4, 255) == State::Paused(918_000_000)
+    paused(2, 30) == State::Paused(30_000)
+        && paused(4, 255) == State::Paused(918_000_000)
+        && paused(5, 30) == State::Paused(2_592_000_000)
+        && paused(5, 255) == State::Paused(22_032_000_000)
 }
 
 /// The one task, last scheduled at `started`, after its run ended at `clock` by 01, 5 minutes.
@@ -118,8 +121,13 @@ fn p5() -> bool {
 fn p6() -> bool {
     let mut t = table(1, &[(7, 1)]);
     t.clock = 5;
-    let answer = step(&mut t, &[1, 5, 9]);
-    zvc(answer) == (0, false, true, false) && answer.active == 1 && t.tasks[0].started == 5
+    let answer = step(&mut t, &[1, 6, 9]);
+    let at_once = answer.active == 1 && t.tasks[0].started == 5;
+    let day = step(&mut t, &[1, 5, 1]);
+    zvc(answer) == (0, false, true, false)
+        && at_once
+        && zvc(day) == (0, false, false, false)
+        && t.tasks[0].state == State::Due(86_400_005)
 }
 
 fn p7() -> bool {
@@ -192,13 +200,13 @@ fn refusals_change_nothing() -> bool {
         (&[5, 0x60, 1, 0], 3),
         (&[5, 0x60, 1, 0, 0], 6),
         (&[5, 0x40, 1, 0, 0], 7),
-        (&[2, 5, 0], 6),
+        (&[2, 6, 0], 6),
         (&[2, 8, 1], 6),
         (&[3, 3], 6),
         (&[4, 0x10, 2], 6),
         (&[9, 3, 0], 6),
         (&[0x0A, 0, 0, 0, 0, 0], 6),
-        (&[0x0B, 5, 0, 4], 6),
+        (&[0x0B, 6, 0, 4], 6),
         (&[0x0B, 0, 0, 4], 9),
     ];
     all.iter().all(|(record, number)| {

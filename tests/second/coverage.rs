@@ -231,7 +231,7 @@ fn way_of_waking(record: &[u8], old: State) -> Option<usize> {
         (0x80, State::Paused(_)) => Some(0),
         (0x03, State::Paused(_)) => Some(1),
         (0x80, State::Due(_)) => Some(2),
-        (0x01, State::Ready) if record[1] & 7 > 4 => Some(4),
+        (0x01, State::Ready) if record[1] & 7 > 5 => Some(4),
         (0x01, State::Ready) if record[1] & 0x80 == 0 && record[2] > 0 => Some(3),
         (0x09, State::WaitAny(_)) => Some(5),
         (0x09, State::WaitAll(_)) => Some(6),

@@ -232,7 +232,7 @@ impl Run {
     fn restart(&mut self, rng: &mut Rng) {
         let [unit, count] = self.interval(rng);
         match rng.below(3) {
-            0 => self.add(&[0x01, rng.byte() | 0x05, rng.byte()]),
+            0 => self.add(&[0x01, rng.byte() | 0x06, rng.byte()]),
             1 => self.add(&[0x01, 0x80 | unit, count]),
             _ => self.add(&[0x01, rng.byte(), rng.byte()]),
         }

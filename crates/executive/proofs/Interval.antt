@@ -18,7 +18,8 @@ unit-most (suc zero) = lit≤ tt
 unit-most (suc (suc zero)) = lit≤ tt
 unit-most (suc (suc (suc zero))) = lit≤ tt
 unit-most (suc (suc (suc (suc zero)))) = lit≤ tt
-unit-most (suc (suc (suc (suc (suc u))))) = lit≤ tt
+unit-most (suc (suc (suc (suc (suc zero))))) = lit≤ tt
+unit-most (suc (suc (suc (suc (suc (suc u)))))) = lit≤ tt
 
 pub interval-most : (u n : ℕ) → n < 256 → interval u n .0 ≤ longest
 unfolding interval
@@ -30,7 +31,8 @@ unit-least (suc zero) h = lit≤ tt
 unit-least (suc (suc zero)) h = lit≤ tt
 unit-least (suc (suc (suc zero))) h = lit≤ tt
 unit-least (suc (suc (suc (suc zero)))) h = lit≤ tt
-unit-least (suc (suc (suc (suc (suc u))))) h = absurd (omega arith)
+unit-least (suc (suc (suc (suc (suc zero))))) h = lit≤ tt
+unit-least (suc (suc (suc (suc (suc (suc u)))))) h = absurd (omega arith)
 
 -- no interval of one unit or more is 0
 pub interval-some : (u n : ℕ) → u ≤ lastUnit → 0 < n → 0 < interval u n .0

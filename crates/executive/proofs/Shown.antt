@@ -20,10 +20,10 @@ unfolding behind pad taskAt putAt enterAt departed entered depart admit admits c
 cards = record {
   p1 = (refl, refl);
   p2 = (refl, refl);
-  p3 = (refl, refl, refl);
+  p3 = (refl, refl, refl, refl, refl);
   p4 = (refl, refl, refl);
   p5 = (refl, refl, refl);
-  p6 = (refl, refl);
+  p6 = (refl, refl, refl, refl);
   p7 = (refl, refl);
   p8 = (refl, refl, refl, refl);
   p9 = (refl, refl, refl);

@@ -1,7 +1,7 @@
 -- The bench cards P1 to P12 (01, "Bench cards"), as one list under one statement; each is shown of the definitions, with 01's sentence above it.
 use Prim.Native.Nat.{ℕ, _-_, _^_}
 use mathlib.Core.Path.{_≡_}
-use mathlib.Core.Bool.{true}
+use mathlib.Core.Bool.{true, false}
 use mathlib.Core.List.{List, [], _∷_}
 use lib.ListN.{replicate}
 use Rattle.records.specs.declared.TaskNo.{TaskNo}
@@ -94,14 +94,16 @@ pub record Cards : Type 0 where
   pub p1 : (line (two 10) ≡ task 1 ∷ task 2 ∷ []) × (caller (two 10) ≡ task 1)
   -- Granule 100: pauses of 1 and of 99 ms both end at the next tick.
   pub p2 : (line (afterCalls (two 100) (pause 1 ∷ pause 99 ∷ [])) ≡ []) × (line (afterCalls (two 100) (pause 1 ∷ pause 99 ∷ call.Tick ∷ [])) ≡ task 1 ∷ task 2 ∷ [])
-  -- 30 seconds is 30,000 ms; 255 hours is 918,000,000 ms.
-  pub p3 : (interval 2 30 .0 ≡ 30000) × (interval 4 255 .0 ≡ 918000000) × (longest ≡ 918000000)
+  -- 30 seconds is 30,000 ms; 255 hours is 918,000,000 ms. 30 days are 2,592,000,000 ms; 255 days, the largest interval, 22,032,000,000 ms (02).
+  pub p3 : (interval 2 30 .0 ≡ 30000) × (interval 4 255 .0 ≡ 918000000)
+      × (interval 5 30 .0 ≡ 2592000000) × (interval 5 255 .0 ≡ 22032000000) × (longest ≡ 22032000000)
   -- Scheduled start 0, every 5 minutes, ended at 420,000: enters at once, scheduled start 300,000.
   pub p4 : (scheduled 1 (one 10) ≡ 0) × (state 1 (ended 420000 (one 10)) ≡ Ready) × (scheduled 1 (ended 420000 (one 10)) ≡ 300000)
   -- That run ended at 540,000: due at 600,000. Ended at exactly 600,000: enters at once.
   pub p5 : (state 1 (ended 540000 again) ≡ Due (record { 0 = 600000 })) × (state 1 (ended 600000 again) ≡ Ready) × (scheduled 1 (ended 600000 again) ≡ 600000)
-  -- Kind 01 with unit 5: answer 0, V 1.
-  pub p6 : (answer (one 10) (call.Restart 5 1) .number ≡ 0) × (answer (one 10) (call.Restart 5 1) .v ≡ true)
+  -- Kind 01 with unit 6: answer 0, V 1. With unit 5, a day: answer 0, V 0 (02).
+  pub p6 : (answer (one 10) (call.Restart 6 1) .number ≡ 0) × (answer (one 10) (call.Restart 6 1) .v ≡ true)
+      × (answer (one 10) (call.Restart 5 1) .number ≡ 0) × (answer (one 10) (call.Restart 5 1) .v ≡ false)
   -- Waiting for all of mask 3; flag 0 set, flag 0 reset, flag 1 set: still waiting.
   pub p7 : (afterCalls (two 10) blinking .rest .flags ≡ 2) × (state 1 (afterCalls (two 10) blinking) ≡ Flags All 3)
   -- 32 queued, one more for a busy task: 8. One begins, ask again: 0.

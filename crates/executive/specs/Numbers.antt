@@ -1,4 +1,4 @@
--- The numbers of document 01, each by one name.
+-- The numbers of documents 01 and 02, each by one name.
 use Prim.Native.Nat.{ℕ, _^_}
 
 -- 1 to 16 tasks; so many can be ready
@@ -25,10 +25,10 @@ mostGranule = 255
 abbrev pub endOfTime : ℕ
 endOfTime = 2 ^ 40
 
--- units 0 to 4
+-- units 0 to 5
 abbrev pub lastUnit : ℕ
-lastUnit = 4
+lastUnit = 5
 
--- the largest interval in ms: 255 hours
+-- the largest interval in ms: 255 days
 abbrev pub longest : ℕ
-longest = 918000000
+longest = 22032000000

@@ -28,7 +28,7 @@ flagMarks operation old = marks (pick (eqb operation 0) (not old) (pick (eqb ope
 
 unfoldable pub marksOf : Table → Call → Marks
 marksOf t call.Terminate = marks false false false
--- 01: V for units 5 to 7
+-- 01: V for units 6 and 7
 marksOf t (call.Restart p n) = marks false (ltb lastUnit (p % 8)) false
 -- 02: count 0 has Z (H)
 marksOf t (call.Pause u n) = marks (eqb n 0) false false

@@ -145,7 +145,7 @@ pub record WellFormed (t : Table) : Type 0 where
   pub numbers : InRange t
   -- the ready queue holds exactly the ready tasks, once each, in descending priority
   pub queue : Queue t
-  -- every stored pause, due and alarm time is after the clock and at most 918,000,000 ms after it
+  -- every stored pause, due and alarm time is after the clock and at most 22,032,000,000 ms after it (02, days)
   pub times : Times t
   -- every last scheduled start is at or before the clock
   pub started : (k : ℕ) → taskAt (t .tasks) k .start .0 ≤ t .rest .clock .0

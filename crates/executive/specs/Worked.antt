@@ -19,14 +19,14 @@ configuration = 0x40 ∷ 0x0A ∷ 0x41 ∷ 5 ∷ 1 ∷ 0x41 ∷ 5 ∷ 1 ∷ 0x41
 abbrev pub table : Table
 table = freshOf configuration .table
 
--- 1 starts 3; 3 pauses for 15 ms; two ticks, and 3 is back; 3 asks for a pause in unit 5, which is refused; 3 terminates; 1 terminates
+-- 1 starts 3; 3 pauses for 15 ms; two ticks, and 3 is back; 3 asks for a pause in unit 6, which is refused; 3 terminates; 1 terminates
 abbrev pub records : List (List ℕ)
 records =
     (0x04 ∷ 0x80 ∷ 3 ∷ [])
     ∷ (0x02 ∷ 0 ∷ 15 ∷ [])
     ∷ (0x80 ∷ [])
     ∷ (0x80 ∷ [])
-    ∷ (0x02 ∷ 5 ∷ 1 ∷ [])
+    ∷ (0x02 ∷ 6 ∷ 1 ∷ [])
     ∷ (0x00 ∷ [])
     ∷ (0x00 ∷ [])
     ∷ []

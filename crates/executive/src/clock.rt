@@ -10,9 +10,9 @@ ghost use Rattle.executive.specs.Places.{nextOf};
 ghost use Rattle.executive.specs.Rests.{isDue, advanced};
 
 // The last unit of an interval, and the longest interval in ms.
-pub(crate) const LAST_UNIT: u8 = 4;
+pub(crate) const LAST_UNIT: u8 = 5;
 
-pub(crate) const LONGEST: u64 = 918000000;
+pub(crate) const LONGEST: u64 = 22032000000;
 
 // The word with one bit.
 pub(crate) fn bit_of(n: usize) -> u32
@@ -32,7 +32,8 @@ fn unit_of(unit: u8) -> u64
         1 => 10,
         2 => 1000,
         3 => 60000,
-        _ => 3600000,
+        4 => 3600000,
+        _ => 86400000,
     }
 }
 

@@ -17,9 +17,12 @@ returns-4 : tie.Need-returns-4
 returns-4 c = search needs
 
 returns-5 : tie.Need-returns-5
-returns-5 c =
-    let e : c .before .args .unit ≡ 4 = omega arith in
+returns-5 c = search needs
+
+returns-6 : tie.Need-returns-6
+returns-6 c =
+    let e : c .before .args .unit ≡ 5 = omega arith in
     simp e
 
 pub unit-of-spec : {M : Type 1} → statement M
-unit-of-spec = tie.close (tie.spec returns returns-2 returns-3 returns-4 returns-5)
+unit-of-spec = tie.close (tie.spec returns returns-2 returns-3 returns-4 returns-5 returns-6)
