@@ -13,12 +13,12 @@ use Rattle.executive.specs.declared.Outcome.{Outcome}
 use Rattle.executive.specs.Queue.{pick}
 use Rattle.executive.specs.Check.{isWellFormed, Checked}
 use Rattle.executive.proofs.Checked.{well-formed-iff}
-use Rattle.executive.specs.Steps.{stepOf}
+use Rattle.executive.specs.Steps.{noTable, stepOf}
 use Rattle.executive.specs.Fresh.{freshOf}
 use Rattle.board.specs.Blocks.{written}
 use Rattle.board.specs.Image.{imageLength, imageOf, loadOf, isImageOf, isImage, FitsTable}
 use Rattle.board.specs.Promises.{Promises}
-use Rattle.board.specs.Entries.{checkNumber, CheckedImage, Holds, freshNumber, freshImage, answerLength, answerBytes, noTable, answerTo, imageAfter, stepNumber, stepImage, stepAnswer}
+use Rattle.board.specs.Entries.{checkNumber, CheckedImage, Holds, freshNumber, freshImage, answerLength, answerBytes, answerTo, imageAfter, stepNumber, stepImage, stepAnswer}
 use Rattle.board.proofs.Alike.{decide, never}
 use Rattle.board.proofs.Trips.{load-store, image-parts, stored, load-fits}
 

@@ -1,7 +1,7 @@
 -- What the entry points answer and leave in their buffers, for every input.
 use Prim.Native.Nat.{ℕ}
 use mathlib.Core.Path.{_≡_}
-use mathlib.Core.Bool.{true, false}
+use mathlib.Core.Bool.{true}
 use mathlib.Core.List.{List, [], _∷_}
 use mathlib.Core.Logic.{_↔_}
 use lib.Dec.{eqb, ltb}
@@ -10,10 +10,9 @@ use Rattle.records.specs.Numbers.{lay}
 use Rattle.executive.specs.declared.Answer.{Answer}
 use Rattle.executive.specs.declared.Table.{Table}
 use Rattle.executive.specs.Queue.{pick, one}
-use Rattle.executive.specs.Table.{nobody}
 use Rattle.executive.specs.WellFormed.{WellFormed}
 use Rattle.executive.specs.Check.{isWellFormed}
-use Rattle.executive.specs.Steps.{stepOf}
+use Rattle.executive.specs.Steps.{noTable, stepOf}
 use Rattle.executive.specs.Fresh.{freshOf}
 use Rattle.board.specs.Blocks.{written}
 use Rattle.board.specs.Image.{imageLength, imageOf, loadOf, isImage}
@@ -52,11 +51,7 @@ answerLength = 8
 abbrev pub answerBytes : Answer → List ℕ
 answerBytes a = lay answerWidths (a .number ∷ one (a .z) ∷ one (a .v) ∷ one (a .c) ∷ a .active .0 ∷ 0 ∷ a .argument ∷ [])
 
--- the answer to a step on bytes that are no image: they are no well-formed table
-abbrev pub noTable : Answer
-noTable = record { number = 1; z = false; v = false; c = false; active = nobody; argument = 0 }
-
--- the executive's own answer, and the image of its own table where the step is accepted; a refusal keeps every byte
+-- the executive's own answer (bytes that are no image are no well-formed table), and the image of its own table where the step is accepted; a refusal keeps every byte
 unfoldable pub answerTo : List ℕ → List ℕ → Answer
 answerTo s call = pick (isImage s) (stepOf (loadOf s) call .answer) noTable
 

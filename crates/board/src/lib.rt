@@ -1,7 +1,5 @@
 // The board library: the executive's table as bytes, and entry points for C, on byte slices and numbers only.
-use executive::Answer;
 use executive::configuration;
-use records::TaskNo;
 ghost use mathlib.Core.Path.{_≡_};
 ghost use Rattle.executive.specs.Fresh.{freshOf};
 ghost use Rattle.executive.specs.Steps.{stepOf};
@@ -62,14 +60,7 @@ pub extern "C" fn quermanic_step(image: &mut [u8], call: &[u8], answer: &mut [u8
     }
     let table = loading::load(image);
     if !checking::is_image_of(image, table) {
-        let none = Answer {
-            number: 1,
-            z: false,
-            v: false,
-            c: false,
-            active: TaskNo(0),
-            argument: 0,
-        };
+        let none = executive::answers::no_table();
         answers::put_answer(answer, none);
         return 1;
     }

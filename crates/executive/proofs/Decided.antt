@@ -12,12 +12,11 @@ use Rattle.records.specs.declared.Call.{Call}
 use Rattle.executive.specs.declared.Table.{Table}
 use Rattle.executive.specs.declared.Outcome.{Outcome}
 use Rattle.executive.specs.Queue.{pick}
-use Rattle.executive.specs.Table.{nobody}
 use Rattle.executive.specs.Plans.{caller}
 use Rattle.executive.specs.WellFormed.{WellFormed}
 use Rattle.executive.specs.Check.{isWellFormed}
 use Rattle.executive.specs.Refusals.{Refusal, when, callIn, refusals, firstOf}
-use Rattle.executive.specs.Steps.{marks, answerOf, hasV, accepted, refused, outcomeOf, stepOf}
+use Rattle.executive.specs.Steps.{noTable, marks, answerOf, hasV, accepted, refused, outcomeOf, stepOf}
 use Rattle.executive.specs.Demands.{FirstAt, Decides}
 use Rattle.executive.proofs.Checked.{well-formed-iff}
 use Rattle.executive.proofs.Performed.{refused-table}
@@ -89,7 +88,7 @@ number-is t n c = go (eqb n 0) refl (eqb n 1) refl
   where
     go : (a : Bool) → eqb n 0 ≡ a → (b : Bool) → eqb n 1 ≡ b
         → pick a (accepted t c) (pick {A = Outcome} b
-        (record { answer = record { number = 1; z = false; v = false; c = false; active = nobody; argument = 0 }; table = t })
+        (record { answer = noTable; table = t })
         (record { answer = answerOf n (marks false (hasV n) false) t; table = t })) .answer .number ≡ n
     go true e b f = sym (eqb-true n 0 e)
     go false e true f = sym (eqb-true n 1 f)

@@ -19,12 +19,12 @@ use Rattle.executive.specs.Numbers.{lastUnit}
 use Rattle.executive.specs.declared.Table.{Table}
 use Rattle.executive.specs.declared.Outcome.{Outcome}
 use Rattle.executive.specs.Queue.{pick}
-use Rattle.executive.specs.Table.{nobody, Plan, depart, joins, apply}
+use Rattle.executive.specs.Table.{Plan, depart, joins, apply}
 use Rattle.executive.specs.Plans.{stateAt, isDormant, nothing}
 use Rattle.executive.specs.WellFormed.{WellFormed}
 use Rattle.executive.specs.Check.{_and_}
 use Rattle.executive.specs.Refusals.{planOf, noSuchTask, nobodyActive, badBody, namesCaller, poolFull, endsTime, overfills, callRefusals, refusals, firstOf, calledBy, callIn}
-use Rattle.executive.specs.Steps.{marks, answerOf, hasV, accepted, refused, outcomeOf, performed, stepOf}
+use Rattle.executive.specs.Steps.{noTable, marks, answerOf, hasV, accepted, refused, outcomeOf, performed, stepOf}
 use Rattle.executive.specs.Demands.{planFor, planned, planIn}
 use Rattle.executive.proofs.Law.{clash}
 use Rattle.executive.proofs.Clear.{Clear, clear-of, early, first-none, or-none}
@@ -92,7 +92,7 @@ picked f false x y v p q = q
 pub refused-table : (t : Table) (n : ℕ) → refused t n .table ≡ t
 unfolding refused
 refused-table t n = picked (λ (o : Outcome). o .table) (eqb n 1)
-    (record { answer = record { number = 1; z = false; v = false; c = false; active = nobody; argument = 0 }; table = t })
+    (record { answer = noTable; table = t })
     (record { answer = answerOf n (marks false (hasV n) false) t; table = t }) t refl refl
 
 outcome-is : (t : Table) (n : ℕ) (c : Call) → Formed t → (n ≡ 0 → Good (planOf t c) t) → Executes t (outcomeOf t n c .table) (planFor t n c)

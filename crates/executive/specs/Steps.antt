@@ -59,10 +59,14 @@ accepted t c = record { answer = answerOf 0 (marksOf t c) (carry (planOf t c) t 
 abbrev pub hasV : ℕ → Bool
 hasV n = eqb n 4 or eqb n 6 or eqb n 7
 
+-- the answer where there is no well-formed table
+abbrev pub noTable : Answer
+noTable = record { number = 1; z = false; v = false; c = false; active = nobody; argument = 0 }
+
 unfoldable pub refused : Table → ℕ → Outcome
 refused t n =
     pick (eqb n 1)
-    (record { answer = record { number = 1; z = false; v = false; c = false; active = nobody; argument = 0 }; table = t })
+    (record { answer = noTable; table = t })
     (record { answer = answerOf n (marks false (hasV n) false) t; table = t })
 
 abbrev pub outcomeOf : Table → ℕ → Call → Outcome

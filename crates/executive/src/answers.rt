@@ -15,17 +15,33 @@ ghost use mathlib.Core.Path.{_≡_};
 ghost use mathlib.Core.Bool.{false};
 ghost use Prim.Native.Nat.{_<_};
 ghost use Rattle.executive.specs.Refusals.{badBody};
-ghost use Rattle.executive.specs.Steps.{marks, flagMarks, marksOf, answerOf, hasV, refused};
+ghost use Rattle.executive.specs.Steps.{noTable, marks, flagMarks, marksOf, answerOf, hasV, refused};
+
+// The answer where there is no well-formed table.
+pub fn no_table() -> Answer
+    ensures { λ r. ⌜ r ≡ noTable ⌝ }
+{
+    Answer {
+        number: 1,
+        z: false,
+        v: false,
+        c: false,
+        active: TaskNo(0),
+        argument: 0,
+    }
+}
+
+fn marked(z: bool, v: bool, c: bool) -> Marks
+    ensures { λ r. ⌜ r ≡ marks z v c ⌝ }
+{
+    Marks { z, v, c }
+}
 
 // Z alone, where it is true.
 fn only_z(z: bool) -> Marks
     ensures { λ r. ⌜ r ≡ marks z false false ⌝ }
 {
-    Marks {
-        z,
-        v: false,
-        c: false,
-    }
+    marked(z, false, false)
 }
 
 // Kind 09: C is the flag's old value, Z says that a set or a reset changed nothing.
@@ -33,24 +49,12 @@ fn flag_marks(operation: u8, old: bool) -> Marks
     ensures { λ r. ⌜ r ≡ flagMarks operation old ⌝ }
 {
     if operation == 0 {
-        return Marks {
-            z: !old,
-            v: false,
-            c: old,
-        };
+        return marked(!old, false, old);
     }
     if operation == 1 {
-        return Marks {
-            z: old,
-            v: false,
-            c: old,
-        };
+        return marked(old, false, old);
     }
-    Marks {
-        z: false,
-        v: false,
-        c: old,
-    }
+    marked(false, false, old)
 }
 
 // V is 1 for 4, 6 and 7.
@@ -67,6 +71,13 @@ fn has_v(number: u8) -> bool
 }
 
 impl Table {
+    // Kind 01: V where there is no such unit.
+    fn restart_marks(self, parameter: u8, count: u8) -> Marks
+        ensures { λ r. ⌜ r ≡ marksOf self (Call.Restart parameter count) ⌝ }
+    {
+        marked(false, clock::LAST_UNIT < parameter % 8, false)
+    }
+
     // Kind 03: Z where the task is not paused.
     fn cancel_marks(self, k: TaskNo) -> Marks
         ensures { λ r. ⌜ r ≡ marksOf self (Call.CancelPause k) ⌝ }
@@ -103,17 +114,9 @@ impl Table {
         let fs = self.rest.flags;
         let old = flags::is_set(fs, f);
         if count == 0 {
-            return Marks {
-                z: old,
-                v: false,
-                c: old,
-            };
+            return marked(old, false, old);
         }
-        Marks {
-            z: false,
-            v: false,
-            c: old,
-        }
+        marked(false, false, old)
     }
 
     // Z, V and C of a call that is accepted.
@@ -122,11 +125,7 @@ impl Table {
         ensures { λ r. ⌜ r ≡ marksOf self call ⌝ }
     {
         match call {
-            Call::Restart { parameter, .. } => Marks {
-                z: false,
-                v: clock::LAST_UNIT < parameter % 8,
-                c: false,
-            },
+            Call::Restart { parameter, count } => self.restart_marks(parameter, count),
             Call::Pause { count, .. } => only_z(count == 0),
             Call::CancelPause { task } => self.cancel_marks(task),
             Call::Start { task, .. } => self.start_marks(task),
@@ -168,25 +167,14 @@ impl Table {
         ensures { λ r. ⌜ r ≡ refused self number ⌝ }
     {
         if number == 1 {
-            let none = Answer {
-                number: 1,
-                z: false,
-                v: false,
-                c: false,
-                active: TaskNo(0),
-                argument: 0,
-            };
+            let answer = no_table();
             return Outcome {
-                answer: none,
+                answer,
                 table: self,
             };
         }
         let v = has_v(number);
-        let m = Marks {
-            z: false,
-            v,
-            c: false,
-        };
+        let m = marked(false, v, false);
         let answer = self.answer(number, m);
         Outcome {
             answer,

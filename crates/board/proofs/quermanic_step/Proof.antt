@@ -5,6 +5,8 @@ use denote.Ref.{now}
 use borrow.Author.Tests.{not-true, not-false}
 use Rattle.executive.specs.Steps.{stepOf}
 use Rattle.executive.specs.declared.Outcome.{Outcome}
+use Rattle.board.specs.Blocks.{written}
+use Rattle.board.specs.Entries.{answerBytes}
 use Rattle.board.specs.Image.{loadOf}
 use Rattle.board.proofs.Owned.{outcome-owned}
 use Rattle.board.proofs.Trips.{image-parts}
@@ -21,14 +23,14 @@ returns c =
 
 returns-2 : tie.Need-returns-2
 returns-2 c =
-    let a = c .before .before .before .before .before .before .before .before .before .before .before .before .before .args in
+    let a = c .before .before .before .before .before .before .before .before .before .before .before .before .before .before .args in
     let s = now (a .image) in
-    let l = c .before .before .before .before .before .before .before .load in
-    let i = c .before .before .before .before .before .is-image-of in
+    let l = c .before .before .before .before .before .before .before .before .load in
+    let i = c .before .before .before .before .before .before .is-image-of in
     let e =
-    step-none s (now (a .call)) (now (a .answer)) (c .before .before .before .before .before .before .before .before .before .if1 .left)
-    (told s (l .result) (l .ensures) (i .ensures) ∙ not-true (i .result) (c .before .before .before .before .if2 .taken))
-    (c .before .before .put-answer .ensures) in
+    step-none s (now (a .call)) (now (a .answer)) (c .before .before .before .before .before .before .before .before .before .before .if1 .left)
+    (told s (l .result) (l .ensures) (i .ensures) ∙ not-true (i .result) (c .before .before .before .before .before .if2 .taken))
+    (c .before .before .put-answer .ensures ∙ ap (λ x. written (now (a .answer)) 0 (answerBytes x)) (c .before .before .before .before .no-table .ensures)) in
     (e .0, (e .1 .0, (e .1 .1, λ z. absurd (omega arith))))
 
 returns-3 : tie.Need-returns-3
@@ -72,6 +74,7 @@ quermanic-step-spec =
     tie.close
     (tie.spec
     returns
+    (λ c κs. search needs)
     (λ c κs. search needs)
     (λ c κs. search needs)
     (λ c κs. search needs)

@@ -12,7 +12,7 @@ alarm-marks-requires c κs = let s = c .before .before .before in alarm-low (s .
 
 returns : tie.Need-returns
 unfolding marksOf
-returns c = simp (c .before .call .given .1)
+returns c = simp (c .before .before .call .given .1, c .restart-marks .ensures)
 
 returns-2 : tie.Need-returns-2
 unfolding marksOf
@@ -67,6 +67,7 @@ marks-of-spec =
     tie.close
     (tie.spec
     (λ c. search needs)
+    (λ c κs. search needs)
     (λ c. search needs)
     (λ c κs. search needs)
     (λ c. search needs)
