@@ -20,8 +20,9 @@ extern "C" {
 /* The bytes of a table's image (docs/TABLE.md). */
 #define QUERMANIC_IMAGE_LENGTH 896
 
-/* The bytes of an answer, and where each of its parts stands. The argument is two bytes, the higher first. */
-#define QUERMANIC_ANSWER_LENGTH 8
+/* The bytes of an answer, and where each of its parts stands. The argument is two bytes, the higher first; how many grid times
+ * a restart by 01 with bit 6 passed over is eight, the highest first. */
+#define QUERMANIC_ANSWER_LENGTH 16
 #define QUERMANIC_ANSWER_NUMBER 0
 #define QUERMANIC_ANSWER_Z 1
 #define QUERMANIC_ANSWER_V 2
@@ -29,6 +30,7 @@ extern "C" {
 #define QUERMANIC_ANSWER_ACTIVE 4
 #define QUERMANIC_ANSWER_ZERO 5
 #define QUERMANIC_ANSWER_ARGUMENT 6
+#define QUERMANIC_ANSWER_SKIPPED 8
 
 /* The longest configuration: one 40, sixteen 41, one 42. */
 #define QUERMANIC_LONGEST_CONFIGURATION 51
@@ -80,7 +82,7 @@ uint8_t quermanic_check(const uint8_t *image, size_t image_length);
  *
  * But for 20, the answer is written to the first QUERMANIC_ANSWER_LENGTH bytes of `answer`; the bytes after it keep their content.
  * Its number, Z, V, C, the active task (0 when idle) and its run's argument (0 when idle) are those after the step; after 1 all but
- * the number are 0.
+ * the number are 0. Grid times are passed over by an accepted 01 with bit 6 only, and 0 after any other step.
  */
 uint8_t quermanic_step(uint8_t *image, size_t image_length, const uint8_t *record, size_t record_length, uint8_t *answer,
                        size_t answer_length);

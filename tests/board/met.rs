@@ -19,6 +19,8 @@ pub struct Met {
     fresh: BTreeMap<u8, u64>,
     checks: BTreeMap<bool, u64>,
     days: [u64; TIMED.len()],
+    /// The most grid times that one step passed over.
+    skipped: u64,
 }
 
 /// Since when each task has been in its state and each alarm has had its time.
@@ -56,6 +58,14 @@ impl Met {
         *self.fresh.entry(number).or_default() += 1;
     }
 
+    /// The count of an answer, eight bytes.
+    pub fn skipped(&mut self, bytes: &[u8]) {
+        let count = bytes
+            .iter()
+            .fold(0, |all, byte| all << 8 | u64::from(*byte));
+        self.skipped = self.skipped.max(count);
+    }
+
     /// The times that came at an accepted tick, and were further off than hours reach.
     pub fn ticked(&mut self, since: &Since, before: &Table, after: &Table) {
         let came = |time: u64, from: u64| time <= after.clock && time - from > HOURS;
@@ -89,6 +99,10 @@ impl Met {
         print_counts("fresh table, number", &self.fresh, |number| {
             number.to_string()
         });
+        println!(
+            "  grid times passed over in one step: at most {}",
+            self.skipped
+        );
         for (what, count) in TIMED.iter().zip(self.days) {
             println!("  {what} after more than 255 hours: {count}");
         }
@@ -100,6 +114,7 @@ impl Met {
         let complete = OF_STEPS.iter().all(|n| self.steps.contains_key(n))
             && OF_FRESH.iter().all(|n| self.fresh.contains_key(n))
             && KINDS.iter().all(|kind| self.kinds.contains_key(kind))
+            && self.skipped > u64::from(u32::MAX)
             && self.days.iter().all(|count| *count > 0)
             && of(false) > 0
             && of(true) > 0;

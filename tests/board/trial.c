@@ -68,13 +68,14 @@ static int refused(uint8_t number, size_t image_length, const uint8_t *record, s
 }
 
 static void try_refusals(void) {
-    static const uint8_t no_table[] = {1, 0, 0, 0, 0, 0, 0, 0};
-    static const uint8_t no_kind[] = {4, 0, 1, 0, 1, 0, 0, 0};
-    static const uint8_t no_record[] = {3, 0, 0, 0, 1, 0, 0, 0};
-    static const uint8_t unwritten[] = {0xA5, 0xA5, 0xA5, 0xA5, 0xA5, 0xA5, 0xA5, 0xA5};
+    static const uint8_t no_table[QUERMANIC_ANSWER_LENGTH] = {1, 0, 0, 0, 0};
+    static const uint8_t no_kind[QUERMANIC_ANSWER_LENGTH] = {4, 0, 1, 0, 1};
+    static const uint8_t no_record[QUERMANIC_ANSWER_LENGTH] = {3, 0, 0, 0, 1};
+    uint8_t unwritten[QUERMANIC_ANSWER_LENGTH];
     const size_t whole = QUERMANIC_IMAGE_LENGTH;
     const size_t room = QUERMANIC_ANSWER_LENGTH;
 
+    memset(unwritten, 0xA5, sizeof unwritten);
     tell("an unknown kind: 4", refused(4, whole, unknown, sizeof unknown, no_kind, room));
     tell("an empty record: 3", refused(3, whole, tick, 0, no_record, room));
     tell("a short answer's buffer: 20", refused(20, whole, tick, sizeof tick, unwritten, room - 1));
@@ -88,26 +89,38 @@ static void try_refusals(void) {
     tell("the check of a damaged image: 1", quermanic_check(image, whole) == 1);
 }
 
-/* A fresh table with one task, and one step from it: its number is checked, and V is as given. */
-static int steps(uint8_t number, uint8_t v, const uint8_t *record, size_t length) {
-    static const uint8_t alone[] = {0x40, 1, 0x41, 7, 1, 0x42};
-    uint8_t answer[QUERMANIC_ANSWER_LENGTH];
+/* The answer of the last step by `steps`. */
+static uint8_t said[QUERMANIC_ANSWER_LENGTH];
 
-    return quermanic_fresh(alone, sizeof alone, image, sizeof image) == 0 &&
-           quermanic_step(image, sizeof image, record, length, answer, sizeof answer) == number &&
-           answer[QUERMANIC_ANSWER_V] == v && answer[QUERMANIC_ANSWER_NUMBER] == number;
+static int fresh_alone(void) {
+    static const uint8_t alone[] = {0x40, 1, 0x41, 7, 1, 0x42};
+
+    return quermanic_fresh(alone, sizeof alone, image, sizeof image) == 0;
+}
+
+/* One step from the image as it is: its number, and V. */
+static int goes_on(uint8_t number, uint8_t v, const uint8_t *record, size_t length) {
+    return quermanic_step(image, sizeof image, record, length, said, sizeof said) == number && said[QUERMANIC_ANSWER_V] == v &&
+           said[QUERMANIC_ANSWER_NUMBER] == number;
+}
+
+/* The same from a fresh table with one task. */
+static int steps(uint8_t number, uint8_t v, const uint8_t *record, size_t length) {
+    return fresh_alone() && goes_on(number, v, record, length);
+}
+
+static uint64_t eight_bytes(const uint8_t *bytes) {
+    uint64_t number = 0;
+    size_t i;
+
+    for (i = 0; i < 8; i++) {
+        number = number << 8 | bytes[i];
+    }
+    return number;
 }
 
 /* Whether task 1 is in a state (docs/TABLE.md), with this time. */
-static int is_timed(uint8_t state, uint64_t time) {
-    uint64_t stored = 0;
-    size_t i;
-
-    for (i = 2; i < 10; i++) {
-        stored = stored << 8 | image[i];
-    }
-    return image[1] == state && stored == time;
-}
+static int is_timed(uint8_t state, uint64_t time) { return image[1] == state && eight_bytes(image + 2) == time; }
 
 /* Unit 5 is a day: at the bounds of the longest interval, and of the units. */
 static void try_days(void) {
@@ -127,9 +140,27 @@ static void try_days(void) {
     tell("a restart in a day: 0, due", steps(0, 0, (const uint8_t[]){0x01, 5, 1}, 3) && is_timed(3, 86400000));
 }
 
+/* Bit 6 of 01's parameter: the next time on the grid, and how many were passed over. */
+static void try_skipping(void) {
+    const uint64_t end = (uint64_t)1 << 40;
+    const uint8_t *skipped = said + QUERMANIC_ANSWER_SKIPPED;
+
+    tell("skipping from a fresh table: due in a ms, none passed over",
+         steps(0, 0, (const uint8_t[]){0x01, 0x40, 1}, 3) && is_timed(3, 1) && eight_bytes(skipped) == 0);
+    fresh_alone();
+    image[438] = 1; /* the clock is 2^40: docs/TABLE.md, 436 */
+    tell("skipping 2^40 starts of a ms: due at 2^40 + 1",
+         goes_on(0, 0, (const uint8_t[]){0x01, 0x40, 1}, 3) && is_timed(3, end + 1) && eight_bytes(skipped) == end);
+    tell("bits 7 and 6: 6, V, none passed over", steps(6, 1, (const uint8_t[]){0x01, 0xC0, 1}, 3) && eight_bytes(skipped) == 0);
+    tell("bits 7 and 6 in no unit: 6, V", steps(6, 1, (const uint8_t[]){0x01, 0xC6, 0}, 3));
+    tell("bit 6 in no unit: 0, V, at once", steps(0, 1, (const uint8_t[]){0x01, 0x46, 1}, 3) && is_timed(1, 0));
+    tell("bit 6 with count 0: at once", steps(0, 0, (const uint8_t[]){0x01, 0x40, 0}, 3) && is_timed(1, 0));
+}
+
 int main(void) {
     take_listing();
     try_refusals();
     try_days();
+    try_skipping();
     return failed;
 }

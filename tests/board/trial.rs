@@ -30,7 +30,7 @@ const USAGE: &str = "usage: trial [--steps N] [--seed S] [--fault NAME]
 
 /// The most steps that are taken of one generated run.
 const LONGEST_WALK: usize = 400;
-const ANSWER: usize = 8;
+const ANSWER: usize = 16;
 /// What stands in the answer's buffer before a step.
 const UNWRITTEN: [u8; ANSWER + 4] = [0xA5; ANSWER + 4];
 
@@ -40,18 +40,20 @@ enum Wrong {
     Nothing,
     Rule(Fault),
     Answer,
+    Skipped,
     Image,
     Check,
     Fresh,
 }
 
-const WRONGS: [(&str, Wrong); 9] = [
+const WRONGS: [(&str, Wrong); 10] = [
     ("equal-in-front", Wrong::Rule(Fault::EqualInFront)),
     ("drifting-catch-up", Wrong::Rule(Fault::DriftingCatchUp)),
     ("cancel-wakes-due", Wrong::Rule(Fault::CancelWakesDue)),
     ("remembered-flag", Wrong::Rule(Fault::RememberedFlag)),
     ("lost-start", Wrong::Rule(Fault::LostStart)),
     ("answer", Wrong::Answer),
+    ("one-skipped-too-few", Wrong::Skipped),
     ("image", Wrong::Image),
     ("check", Wrong::Check),
     ("fresh", Wrong::Fresh),
@@ -186,6 +188,9 @@ impl Trial {
             return Err(difference(image, record, &given, &expected));
         }
         self.met.stepped(given.0, record);
+        if given.2.len() >= ANSWER {
+            self.met.skipped(&given.2[8..ANSWER]);
+        }
         Ok(given.1)
     }
 
@@ -212,6 +217,7 @@ impl Trial {
             after.1[LENGTH - 1] ^= u8::from(self.wrong == Wrong::Image);
         }
         said.argument ^= u16::from(self.wrong == Wrong::Answer);
+        said.skipped -= u64::from(self.wrong == Wrong::Skipped).min(said.skipped);
         after.0 = said.number;
         after.2[..ANSWER].copy_from_slice(&answer_bytes(&said));
         after
@@ -249,7 +255,10 @@ fn table_of(image: &[u8]) -> executive::Table {
 fn answer_bytes(answer: &Answer) -> [u8; ANSWER] {
     let [high, low] = answer.argument.to_be_bytes();
     let [z, v, c] = [answer.z, answer.v, answer.c].map(u8::from);
-    [answer.number, z, v, c, answer.active, 0, high, low]
+    let mut bytes = [0; ANSWER];
+    bytes[..8].copy_from_slice(&[answer.number, z, v, c, answer.active, 0, high, low]);
+    bytes[8..].copy_from_slice(&answer.skipped.to_be_bytes());
+    bytes
 }
 
 fn hex(bytes: &[u8]) -> String {

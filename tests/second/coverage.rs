@@ -53,6 +53,15 @@ const COUNTS: [(&str, fn(u8) -> bool); 3] = [
     ("a power of two", u8::is_power_of_two),
 ];
 
+/// What becomes of a restart with bit 6.
+const SKIPS: [&str; 5] = [
+    "skipped none",
+    "skipped some",
+    "count 0: at once",
+    "no unit: V",
+    "bits 7 and 6: refused",
+];
+
 #[derive(Clone, Default)]
 pub struct Coverage {
     runs: u64,
@@ -63,6 +72,7 @@ pub struct Coverage {
     ways: [u64; WAYS.len()],
     /// Accepted intervals: by kind, then count, then unit.
     intervals: [[[u64; UNITS.len()]; COUNTS.len()]; TIMED.len()],
+    skips: [u64; SKIPS.len()],
     changed_by_refusal: u64,
 }
 
@@ -102,6 +112,7 @@ impl Coverage {
             .position(|(kind, _)| *kind == record[0])
             .expect("a carried kind");
         self.numbers[answer.number as usize] += 1;
+        self.watch_skip(&answer, record);
         if answer.number != 0 {
             self.refused[kind] += 1;
             self.changed_by_refusal += u64::from(*table != before);
@@ -117,6 +128,23 @@ impl Coverage {
                     self.ways[way] += 1;
                 }
             }
+        }
+    }
+
+    /// Notes a restart with bit 6.
+    fn watch_skip(&mut self, answer: &Answer, record: &[u8]) {
+        let [0x01, parameter, count] = *record else {
+            return;
+        };
+        if parameter & 0x40 == 0 {
+            return;
+        }
+        match answer.number {
+            6 => self.skips[4] += 1,
+            0 if answer.v => self.skips[3] += 1,
+            0 if count == 0 => self.skips[2] += 1,
+            0 => self.skips[usize::from(answer.skipped > 0)] += 1,
+            _ => {}
         }
     }
 
@@ -145,6 +173,7 @@ impl Coverage {
         sum(&mut self.refused, &other.refused);
         sum(&mut self.numbers, &other.numbers);
         sum(&mut self.ways, &other.ways);
+        sum(&mut self.skips, &other.skips);
         let both = self.intervals.iter_mut().zip(&other.intervals);
         both.flat_map(|(to, from)| to.iter_mut().zip(from))
             .for_each(|(to, from)| sum(to, from));
@@ -182,6 +211,11 @@ impl Coverage {
         for (way, met) in WAYS.iter().zip(self.ways) {
             println!("{way:<27} {met:>10}");
             note(&mut missed, met, || format!("way of waking '{way}'"));
+        }
+        println!("restart with bit 6                 met");
+        for (what, met) in SKIPS.iter().zip(self.skips) {
+            println!("{what:<27} {met:>10}");
+            note(&mut missed, met, || format!("restart with bit 6, {what}"));
         }
         self.print_intervals(&mut missed);
         missed.iter().for_each(|what| println!("NEVER MET: {what}"));

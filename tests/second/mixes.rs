@@ -1,13 +1,15 @@
-//! What the two speed runs share: three long inputs, and the median.
+//! What the two speed runs share: long inputs, and the median.
 
 use crate::bench::LONGEST_INPUT;
 
 /// The mixes, by name.
-pub fn mixes() -> [(&'static str, Vec<u8>); 3] {
+pub fn mixes() -> [(&'static str, Vec<u8>); 5] {
     [
         ("ticks only", ticks()),
         ("calls only", calls()),
         ("wake-ups of many", wake_ups()),
+        ("restarts", restarts(0x00)),
+        ("restarts that skip", restarts(0x40)),
     ]
 }
 
@@ -72,4 +74,10 @@ fn wake_ups() -> Vec<u8> {
         &[],
         &[&waits[..], &[0x09, 1, 0, 0x09, 0, 0], &pauses, &[0x80]].concat(),
     )
+}
+
+/// Every task restarts a granule after its last start, and a tick wakes them all.
+fn restarts(parameter: u8) -> Vec<u8> {
+    let round = [&[0x01, parameter, 10].repeat(16)[..], &[0x80]].concat();
+    repeated(&[], &round)
 }

@@ -56,10 +56,11 @@ pub fn run(seed: u64, index: u64) -> Vec<u8> {
 }
 
 /// The ways a deep run goes on; each run draws its own weights for them.
-const AIMS: [fn(&mut Run, &mut Rng); 18] = [
+const AIMS: [fn(&mut Run, &mut Rng); 19] = [
     Run::tick,
     Run::terminate,
     Run::catch_up,
+    Run::skip,
     Run::restart,
     Run::pause,
     Run::cancel,
@@ -76,7 +77,7 @@ const AIMS: [fn(&mut Run, &mut Rng); 18] = [
     Run::fill_pool,
     Run::go_idle,
 ];
-const RARE: usize = 16;
+const RARE: usize = 17;
 
 /// A run being made, with the executive beside it to aim by.
 struct Run {
@@ -223,10 +224,22 @@ impl Run {
     /// Ends the run with an interval from its last scheduled start, often several times.
     fn catch_up(&mut self, rng: &mut Rng) {
         let [unit, count] = self.interval(rng);
-        let unused = if rng.one_in(4) { rng.byte() & 0x78 } else { 0 };
+        let unused = if rng.one_in(4) { rng.byte() & 0x38 } else { 0 };
         for _ in 0..1 + rng.below(3) {
             self.add(&[0x01, unit | unused, count]);
         }
+    }
+
+    /// Lets some ticks pass and ends the run by a restart that skips the starts it missed; now and then
+    /// with the base bit as well, which is refused.
+    fn skip(&mut self, rng: &mut Rng) {
+        let [unit, count] = self.interval(rng);
+        let unused = rng.byte() & 0x38;
+        let base = if rng.one_in(8) { 0x80 } else { 0 };
+        for _ in 0..rng.below(12) {
+            self.add(&[0x80]);
+        }
+        self.add(&[0x01, 0x40 | base | unused | unit, count]);
     }
 
     fn restart(&mut self, rng: &mut Rng) {

@@ -9,7 +9,7 @@ use crate::mixes::{median, mixes};
 /// Processes timed together as one sample.
 const TOGETHER: u32 = 10;
 
-/// Prints times, steps per second and ratios for the three mixes; false where outputs differ.
+/// Prints times, steps per second and ratios for each mix; false where outputs differ.
 pub fn speed(path: &str, rounds: usize) -> bool {
     let programs = [
         Program::new(path, &[]),

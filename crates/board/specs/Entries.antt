@@ -41,15 +41,15 @@ freshNumber config o = pick (eqb (length o) imageLength) (freshOf config .number
 unfoldable pub freshImage : List ℕ → List ℕ → List ℕ
 freshImage config o = pick (eqb (freshNumber config o) 0) (imageOf (freshOf config .table)) o
 
--- ---- an answer's bytes: number, Z, V, C, active task, 0, argument
+-- ---- an answer's bytes: number, Z, V, C, active task, 0, argument, grid times passed over
 abbrev pub answerWidths : List ℕ
-answerWidths = 1 ∷ 1 ∷ 1 ∷ 1 ∷ 1 ∷ 1 ∷ 2 ∷ []
+answerWidths = 1 ∷ 1 ∷ 1 ∷ 1 ∷ 1 ∷ 1 ∷ 2 ∷ 8 ∷ []
 
 abbrev pub answerLength : ℕ
-answerLength = 8
+answerLength = 16
 
 abbrev pub answerBytes : Answer → List ℕ
-answerBytes a = lay answerWidths (a .number ∷ one (a .z) ∷ one (a .v) ∷ one (a .c) ∷ a .active .0 ∷ 0 ∷ a .argument ∷ [])
+answerBytes a = lay answerWidths (a .number ∷ one (a .z) ∷ one (a .v) ∷ one (a .c) ∷ a .active .0 ∷ 0 ∷ a .argument ∷ a .skipped ∷ [])
 
 -- the executive's own answer (bytes that are no image are no well-formed table), and the image of its own table where the step is accepted; a refusal keeps every byte
 unfoldable pub answerTo : List ℕ → List ℕ → Answer

@@ -18,7 +18,7 @@ fn bit(mark: bool) -> u8
     0
 }
 
-// Writes an answer over 8 bytes: number, Z, V, C, the active task, 0, the argument.
+// Writes an answer over 16 bytes: number, Z, V, C, the active task, 0, the argument, the grid times passed over.
 pub(crate) fn put_answer(out: &mut [u8], answer: Answer)
     requires { ⌜ answerLength ≤ length (now out) ⌝ }
     ensures { λ _. ⌜ now (out .exit) ≡ written (now (out .entry)) 0 (answerBytes answer) ⌝ }
@@ -27,4 +27,5 @@ pub(crate) fn put_answer(out: &mut [u8], answer: Answer)
     storing::put_both(out, 2, bit(answer.v), bit(answer.c));
     storing::put_both(out, 4, answer.active.0, 0);
     numbers::put(out, 6, 2, answer.argument as u64);
+    numbers::put(out, 8, 8, answer.skipped);
 }

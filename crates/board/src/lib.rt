@@ -47,7 +47,7 @@ pub extern "C" fn quermanic_check(image: &[u8]) -> u8
 }
 
 // Takes a step: the answer's number, and the answer at the start of its buffer. Accepted (0), the image is rewritten; refused, none of
-// its bytes is changed. Where the answer's buffer is shorter than 8 bytes: 20, and no byte of any buffer is changed.
+// its bytes is changed. Where the answer's buffer is shorter than 16 bytes: 20, and no byte of any buffer is changed.
 #[no_mangle]
 pub extern "C" fn quermanic_step(image: &mut [u8], call: &[u8], answer: &mut [u8]) -> u8
     ensures { λ r. ⌜ r ≡ stepNumber (now (image .entry)) (now (call .entry)) (now (answer .entry)) ⌝ }
@@ -55,7 +55,7 @@ pub extern "C" fn quermanic_step(image: &mut [u8], call: &[u8], answer: &mut [u8
     ensures { λ _. ⌜ now (answer .exit) ≡ stepAnswer (now (image .entry)) (now (call .entry)) (now (answer .entry)) ⌝ }
     ensures { λ r. ⌜ (r ≡ 0 → Holds (now (image .exit)) (stepOf (loadOf (now (image .entry))) (now (call .entry)) .table)) ⌝ }
 {
-    if answer.len() < 8 {
+    if answer.len() < 16 {
         return 20;
     }
     let table = loading::load(image);

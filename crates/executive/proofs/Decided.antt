@@ -82,7 +82,7 @@ first-decides : (rs : List Refusal) → Never 0 rs → Decides rs (firstOf rs)
 first-decides rs n = record { accepted = (none-given rs n, none-first rs); refused = first-at rs; some = some-first rs }
 
 -- ---- the answer's number
-number-is : (t : Table) (n : ℕ) (c : Call) → outcomeOf t n c .answer .number ≡ n
+pub number-is : (t : Table) (n : ℕ) (c : Call) → outcomeOf t n c .answer .number ≡ n
 unfolding accepted refused
 number-is t n c = go (eqb n 0) refl (eqb n 1) refl
   where

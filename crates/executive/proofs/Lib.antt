@@ -5,6 +5,7 @@ pub mod Without
 pub mod Pad
 pub mod Fits
 pub mod Interval
+pub mod Division
 pub mod Flight
 pub mod Next
 pub mod Ends
@@ -50,3 +51,4 @@ pub mod Standing
 pub mod Clear
 pub mod Answered
 pub mod Others
+pub mod Skipping

@@ -280,7 +280,7 @@ module _ (t : Table) (w : Formed t) (h : 0 < t .ready) where
         (release (t .tasks) rs (c .0) e₁ (runs t w h .is-ready) refl refl (ok-up (w .links)))
         (λ k. put-all Else (t .tasks) (c .0) e₁ (runs t w h .names) (λ y. absurd (eqb-no (c .0) (c .0) y refl)) k (λ _ _. w .own k))
 
-    still : taskAt ts₅ (c .0) ≡ e₁
+    pub still : taskAt ts₅ (c .0) ≡ e₁
     still = wake-other ts₄ (endWaiter t c) (c .0) (w .links .apart (c .0) (runs t w h .names .0)) ∙ at-same (t .tasks) (c .0) e₁ (runs t w h .names)
 
     there : Names (c .0) ts₅

@@ -17,3 +17,4 @@ pub mod QueueLaw
 pub mod Worked
 pub mod Cards
 pub mod FreshLaw
+pub mod Skipping

@@ -89,13 +89,13 @@ isTick call.End = false
 unfoldable pub nobodyActive : Table → Call → Bool
 nobodyActive t c = not (isTick c) and eqb (t .ready) 0
 
--- ---- 6: task not 1 to the task count; flag over 31; unit over 5 in 02 or 0B; operation over 2; mode over 1; mask 0; in 04 any of bits 6..4; in 05 both bits 6 and 5
+-- ---- 6: task not 1 to the task count; flag over 31; unit over 5 in 02 or 0B; operation over 2; mode over 1; mask 0; in 01 both bits 7 and 6 (02); in 04 any of bits 6..4; in 05 both bits 6 and 5
 abbrev pub noSuchTask : Table → TaskNo → Bool
 noSuchTask t k = eqb (k .0) 0 or ltb (t .rest .count) (k .0)
 
 unfoldable pub badBody : Table → Call → Bool
 badBody t call.Terminate = false
-badBody t (call.Restart p n) = false
+badBody t (call.Restart p n) = eqb (p / 64 % 4) 3
 badBody t (call.Pause u n) = ltb lastUnit u
 badBody t (call.CancelPause k) = noSuchTask t k
 badBody t (call.Start o k) = noSuchTask t k or not (eqb (o / 16 % 8) 0)

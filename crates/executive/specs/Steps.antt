@@ -13,14 +13,15 @@ use Rattle.executive.specs.declared.Outcome.{Outcome}
 use Rattle.executive.specs.Numbers.{lastUnit}
 use Rattle.executive.specs.Queue.{pick}
 use Rattle.executive.specs.Table.{nobody, taskAt, carry}
+use Rattle.executive.specs.Time.{skippedOf}
 use Rattle.executive.specs.Rests.{isSet}
 use Rattle.executive.specs.Plans.{caller, stateAt, isDormant, isPaused, met, modeOf}
 use Rattle.executive.specs.Check.{_and_}
 use Rattle.executive.specs.Refusals.{_or_, isCall, planOf, callIn, callRefusals, refusals, firstOf}
 
--- ---- Z, V and C of an accepted call; those not mentioned are 0
+-- ---- Z, V and C of an accepted call, and how many grid times it passes over; those not mentioned are 0
 abbrev pub marks : Bool → Bool → Bool → Marks
-marks z v c = record { z = z; v = v; c = c }
+marks z v c = record { z = z; v = v; c = c; skipped = 0 }
 
 -- 09: C is the flag's old value; Z if set or reset changes nothing; test has Z 0
 abbrev pub flagMarks : ℕ → Bool → Marks
@@ -28,8 +29,13 @@ flagMarks operation old = marks (pick (eqb operation 0) (not old) (pick (eqb ope
 
 unfoldable pub marksOf : Table → Call → Marks
 marksOf t call.Terminate = marks false false false
--- 01: V for units 6 and 7
-marksOf t (call.Restart p n) = marks false (ltb lastUnit (p % 8)) false
+-- 01: V for units 6 and 7; the grid times that a restart with bit 6 passes over (02)
+marksOf t (call.Restart p n) = record {
+  z = false;
+  v = ltb lastUnit (p % 8);
+  c = false;
+  skipped = skippedOf (taskAt (t .tasks) (caller t .0) .start) (t .rest .clock) p n;
+}
 -- 02: count 0 has Z (H)
 marksOf t (call.Pause u n) = marks (eqb n 0) false false
 -- 03: Z where the task is not paused
@@ -49,7 +55,15 @@ marksOf t call.End = marks false false false
 
 -- ---- the answer: the active task of the table and its run's argument, both 0 when idle
 abbrev pub answerOf : ℕ → Marks → Table → Answer
-answerOf n m t = record { number = n; z = m .z; v = m .v; c = m .c; active = caller t; argument = taskAt (t .tasks) (caller t .0) .argument }
+answerOf n m t = record {
+  number = n;
+  z = m .z;
+  v = m .v;
+  c = m .c;
+  active = caller t;
+  argument = taskAt (t .tasks) (caller t .0) .argument;
+  skipped = m .skipped;
+}
 
 -- an accepted call executes its plan
 unfoldable pub accepted : Table → Call → Outcome
@@ -61,7 +75,7 @@ hasV n = eqb n 4 or eqb n 6 or eqb n 7
 
 -- the answer where there is no well-formed table
 abbrev pub noTable : Answer
-noTable = record { number = 1; z = false; v = false; c = false; active = nobody; argument = 0 }
+noTable = record { number = 1; z = false; v = false; c = false; active = nobody; argument = 0; skipped = 0 }
 
 unfoldable pub refused : Table → ℕ → Outcome
 refused t n =

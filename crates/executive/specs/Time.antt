@@ -1,7 +1,8 @@
 -- Intervals, and the time that a restart aims at (01, "Intervals" and kind 01).
-use Prim.Native.Nat.{ℕ, _+_, _*_, _%_}
+use Prim.Native.Nat.{ℕ, _+_, _-_, _*_, _/_, _%_}
+use mathlib.Core.Bool.{Bool, false}
 use mathlib.Core.List.{List, [], _∷_}
-use lib.Dec.{ltb}
+use lib.Dec.{eqb, ltb}
 use lib.ListN.{getD}
 use Rattle.executive.specs.declared.Millis.{Millis}
 use Rattle.executive.specs.Numbers.{lastUnit}
@@ -14,6 +15,26 @@ units = 1 ∷ 10 ∷ 1000 ∷ 60000 ∷ 3600000 ∷ 86400000 ∷ []
 unfoldable pub interval : ℕ → ℕ → Millis
 interval unit n = record { 0 = n * getD units unit 0 }
 
--- kind 01: bits 2..0 of the parameter are the unit, bit 7 the base. Last scheduled start plus interval (bit 7 clear) or now plus interval (set); units 6 and 7: now
+-- the grid times of a restart: last scheduled start plus a whole number of intervals, at least one. So many of them are at or before now
+unfoldable pub missed : Millis → Millis → Millis → ℕ
+missed start now every = (now .0 - start .0) / every .0
+
+-- the first grid time after now
+unfoldable pub nextOnGrid : Millis → Millis → Millis → Millis
+nextOnGrid start now every = record { 0 = start .0 + (missed start now every + 1) * every .0 }
+
+-- kind 01 skips what was missed: bit 6 of the parameter set, bit 7 clear, and a count (02)
+abbrev pub skipsMissed : ℕ → ℕ → Bool
+skipsMissed p n = pick (eqb (p / 64 % 4) 1) (ltb 0 n) false
+
+-- kind 01: bits 2..0 of the parameter are the unit, bit 7 the base. Units 6 and 7: now. With bit 6 the first grid time after now;
+-- else last scheduled start plus interval (bit 7 clear) or now plus interval (set)
 unfoldable pub aimAt : Millis → Millis → ℕ → ℕ → Millis
-aimAt start now p n = pick (ltb lastUnit (p % 8)) now (record { 0 = pick (ltb p 128) (start .0) (now .0) + interval (p % 8) n .0 })
+aimAt start now p n =
+    pick (ltb lastUnit (p % 8)) now
+    (pick (skipsMissed p n) (nextOnGrid start now (interval (p % 8) n))
+    (record { 0 = pick (ltb p 128) (start .0) (now .0) + interval (p % 8) n .0 }))
+
+-- how many grid times are passed over by that
+unfoldable pub skippedOf : Millis → Millis → ℕ → ℕ → ℕ
+skippedOf start now p n = pick (ltb lastUnit (p % 8)) 0 (pick (skipsMissed p n) (missed start now (interval (p % 8) n)) 0)

@@ -14,6 +14,7 @@ use records::TaskNo;
 ghost use mathlib.Core.Path.{_≡_};
 ghost use mathlib.Core.Bool.{false};
 ghost use Prim.Native.Nat.{_<_};
+ghost use Rattle.executive.specs.Table.{Standing};
 ghost use Rattle.executive.specs.Refusals.{badBody};
 ghost use Rattle.executive.specs.Steps.{noTable, marks, flagMarks, marksOf, answerOf, hasV, refused};
 
@@ -28,13 +29,19 @@ pub fn no_table() -> Answer
         c: false,
         active: TaskNo(0),
         argument: 0,
+        skipped: 0,
     }
 }
 
 fn marked(z: bool, v: bool, c: bool) -> Marks
     ensures { λ r. ⌜ r ≡ marks z v c ⌝ }
 {
-    Marks { z, v, c }
+    Marks {
+        z,
+        v,
+        c,
+        skipped: 0,
+    }
 }
 
 // Z alone, where it is true.
@@ -71,11 +78,23 @@ fn has_v(number: u8) -> bool
 }
 
 impl Table {
-    // Kind 01: V where there is no such unit.
+    // Kind 01: V where there is no such unit, and the grid times that are passed over.
     fn restart_marks(self, parameter: u8, count: u8) -> Marks
+        requires { ⌜ Standing self ⌝ }
         ensures { λ r. ⌜ r ≡ marksOf self (Call.Restart parameter count) ⌝ }
     {
-        marked(false, clock::LAST_UNIT < parameter % 8, false)
+        let active = self.active();
+        let tasks = self.tasks;
+        let e = places::task_at(tasks, active);
+        let start = e.start;
+        let now = self.rest.clock;
+        let skipped = clock::skipped_of(start, now, parameter, count);
+        Marks {
+            z: false,
+            v: clock::LAST_UNIT < parameter % 8,
+            c: false,
+            skipped,
+        }
     }
 
     // Kind 03: Z where the task is not paused.
@@ -119,9 +138,9 @@ impl Table {
         marked(false, false, old)
     }
 
-    // Z, V and C of a call that is accepted.
+    // The marks of a call that is accepted.
     pub(crate) fn marks_of(self, call: Call) -> Marks
-        requires { ⌜ badBody self call ≡ false ⌝ }
+        requires { ⌜ Standing self × (badBody self call ≡ false) ⌝ }
         ensures { λ r. ⌜ r ≡ marksOf self call ⌝ }
     {
         match call {
@@ -159,6 +178,7 @@ impl Table {
             c: m.c,
             active,
             argument: e.argument,
+            skipped: m.skipped,
         }
     }
 

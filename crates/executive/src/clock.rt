@@ -2,9 +2,9 @@
 use crate::Millis;
 use crate::Rest;
 ghost use mathlib.Core.Path.{_≡_};
-ghost use Prim.Native.Nat.{_<_, _≤_, _+_, _*_, _^_};
+ghost use Prim.Native.Nat.{_<_, _≤_, _+_, _*_, _/_, _%_, _^_};
 ghost use Rattle.executive.specs.Numbers.{lastUnit, longest};
-ghost use Rattle.executive.specs.Time.{units, interval, aimAt};
+ghost use Rattle.executive.specs.Time.{units, interval, nextOnGrid, skipsMissed, aimAt, skippedOf};
 ghost use lib.ListN.{drop, getD};
 ghost use Rattle.executive.specs.Places.{nextOf};
 ghost use Rattle.executive.specs.Rests.{isDue, advanced};
@@ -65,9 +65,75 @@ pub(crate) fn millis_of(unit: u8, count: u8) -> Millis
     Millis(added_up(one, count))
 }
 
+// A length of time in whole intervals, and what is left of it.
+struct Parts {
+    times: u64,
+    rest: u64,
+}
+
+// Long division by shifts and subtractions: the length's bits come down one by one, from the highest that it can have, and the
+// interval is taken off where it fits. Always 41 turns.
+fn split(length: Millis, every: Millis) -> Parts
+    requires { ⌜ (0 < every .0) × (length .0 ≤ 2 ^ 40) × (every .0 ≤ longest) ⌝ }
+    ensures { λ r. ⌜ (r .times ≡ length .0 / every .0) × (r .rest ≡ length .0 % every .0) ⌝ }
+{
+    let mut times: u64 = 0;
+    let mut rest: u64 = 0;
+    let mut i: u32 = 41;
+    while i != 0 {
+        i = i - 1;
+        let bit = (length.0 >> i) & 1;
+        rest = (rest << 1) + bit;
+        times = times << 1;
+        if every.0 <= rest {
+            rest = rest - every.0;
+            times = times + 1;
+        }
+    }
+    Parts { times, rest }
+}
+
+// Whether a restart skips what was missed: bit 6 of its parameter, bit 7 clear, and a count.
+fn skips_missed(param: u8, count: u8) -> bool
+    ensures { λ r. ⌜ r ≡ skipsMissed param count ⌝ }
+{
+    if param / 64 % 4 == 1 {
+        return 0 < count;
+    }
+    false
+}
+
+// The first time on a restart's grid that is after now.
+fn next_on_grid(start: Millis, now: Millis, every: Millis) -> Millis
+    requires { ⌜ (start .0 ≤ now .0) × (now .0 ≤ 2 ^ 40) × (0 < every .0) × (every .0 ≤ longest) ⌝ }
+    ensures { λ r. ⌜ r ≡ nextOnGrid start now every ⌝ }
+{
+    let length = Millis(now.0 - start.0);
+    let parts = split(length, every);
+    Millis(now.0 + (every.0 - parts.rest))
+}
+
+// How many grid times a restart passes over.
+pub(crate) fn skipped_of(start: Millis, now: Millis, param: u8, count: u8) -> u64
+    requires { ⌜ (start .0 ≤ now .0) × (now .0 ≤ 2 ^ 40) ⌝ }
+    ensures { λ r. ⌜ r ≡ skippedOf start now param count ⌝ }
+{
+    let unit = param % 8;
+    if LAST_UNIT < unit {
+        return 0;
+    }
+    if skips_missed(param, count) {
+        let every = millis_of(unit, count);
+        let length = Millis(now.0 - start.0);
+        let parts = split(length, every);
+        return parts.times;
+    }
+    0
+}
+
 // The time that a restart aims at.
 pub(crate) fn aim_at(start: Millis, now: Millis, param: u8, count: u8) -> Millis
-    requires { ⌜ (start .0 ≤ 2 ^ 40) × (now .0 ≤ 2 ^ 40) ⌝ }
+    requires { ⌜ (start .0 ≤ now .0) × (now .0 ≤ 2 ^ 40) ⌝ }
     ensures { λ r. ⌜ r ≡ aimAt start now param count ⌝ }
 {
     let unit = param % 8;
@@ -75,6 +141,9 @@ pub(crate) fn aim_at(start: Millis, now: Millis, param: u8, count: u8) -> Millis
         return now;
     }
     let wait = millis_of(unit, count);
+    if skips_missed(param, count) {
+        return next_on_grid(start, now, wait);
+    }
     if param < 128 {
         return Millis(start.0 + wait.0);
     }

@@ -3,6 +3,7 @@ use records::TaskNo;
 ghost use Rattle.executive.specs.Demands.{Demands};
 ghost use Rattle.executive.specs.QueueLaw.{QueueLaw};
 ghost use Rattle.executive.specs.Worked.{Worked};
+ghost use Rattle.executive.specs.Skipping.{Skipping};
 
 pub mod answers;
 pub mod calls;
@@ -90,14 +91,15 @@ pub enum Wait {
     ForEnd,
 }
 
-// What an accepted call says of itself (01, Z, V and C).
+// What an accepted call says of itself: Z, V and C (01), and how many grid times it passed over (02).
 pub struct Marks {
     pub z: bool,
     pub v: bool,
     pub c: bool,
+    pub skipped: u64,
 }
 
-// What a step answers: its number, Z, V and C, the active task (0 when idle) and its run's argument.
+// What a step answers: its number, Z, V and C, the active task (0 when idle) and its run's argument; how many grid times a restart passed over.
 pub struct Answer {
     pub number: u8,
     pub z: bool,
@@ -105,6 +107,7 @@ pub struct Answer {
     pub c: bool,
     pub active: TaskNo,
     pub argument: u16,
+    pub skipped: u64,
 }
 
 // What a step hands back: its answer, and the table's state.
@@ -119,7 +122,7 @@ pub struct Fresh {
     pub table: Table,
 }
 
-// The founder's demands, the queue's law and one history worked out, of every step: nothing to run, a contract that keeps the theorems in place.
+// The founder's demands, the queue's law, one history worked out and the restart that skips, of every step: nothing to run, a contract that keeps the theorems in place.
 fn promised()
-    ensures { λ r. ⌜ Demands × QueueLaw × Worked ⌝ }
+    ensures { λ r. ⌜ Demands × QueueLaw × Worked × Skipping ⌝ }
 {}

@@ -124,7 +124,7 @@ impl Table {
             Call::Wait { mode, mask } => bad_wait(mode, mask),
             Call::Alarm { unit, flag, .. } => bad_alarm(unit, flag),
             Call::Terminate => false,
-            Call::Restart { .. } => false,
+            Call::Restart { parameter, .. } => parameter / 64 % 4 == 3,
             Call::Tick => false,
             Call::Granule { .. } => false,
             Call::Task { .. } => false,

@@ -1,4 +1,4 @@
--- `answers::put_answer` meets its contract: its four writes make one.
+-- `answers::put_answer` meets its contract: its five writes make one.
 use denote.Ref.{now}
 use Rattle.board.proofs.Pieces.{wrote-answer}
 use borrow.Author.Needs.{needs}
@@ -7,7 +7,8 @@ use Rattle.board.proofs.answers.put_answer.Tie as tie
 
 returns : tie.Need-returns
 returns c =
-    let m = c .before .before .before .before .before .before .before .before .before .before .before in
+    let l = c .before .before .before .before .before .before in
+    let m = l .before .before .before .before .before .before .before .before .before in
     let n = m .before .before .before .before .before .before in
     let start = n .before .before .before .before in
     wrote-answer (now (start .args .out)) (start .args .answer) _ _ _
@@ -16,8 +17,9 @@ returns c =
     (m .before .bit3 .ensures)
     (n .put-both .ensures)
     (m .put-both2 .ensures)
-    (c .before .before .before .before .before .before .before .put-both3 .ensures)
-    (c .before .before .put .ensures)
+    (l .before .before .before .before .before .put-both3 .ensures)
+    (l .put .ensures)
+    (c .before .before .put2 .ensures)
     (start .pre)
 
 pub put-answer-spec : {M : Type 1} → statement M
@@ -31,6 +33,7 @@ put-answer-spec =
     (λ c κs. search needs)
     (λ c κs. search needs)
     (λ c. search needs)
+    (λ c κs. search needs)
     (λ c κs. search needs)
     (λ c. search needs)
     returns)

@@ -37,23 +37,23 @@ returns-8 c = simp (c .enum-told .given .1)
 
 returns-9 : tie.Need-returns-9
 unfolding badBody
-returns-9 c = simp (c .enum-told2 .given .1)
+returns-9 c = simp (c .before .call8 .given .1)
 
 returns-10 : tie.Need-returns-10
 unfolding badBody
-returns-10 c = simp (c .enum-told3 .given .1)
+returns-10 c = simp (c .enum-told2 .given .1)
 
 returns-11 : tie.Need-returns-11
 unfolding badBody
-returns-11 c = simp (c .enum-told4 .given .1)
+returns-11 c = simp (c .enum-told3 .given .1)
 
 returns-12 : tie.Need-returns-12
 unfolding badBody
-returns-12 c = simp (c .enum-told5 .given .1)
+returns-12 c = simp (c .enum-told4 .given .1)
 
 returns-13 : tie.Need-returns-13
 unfolding badBody
-returns-13 c = simp (c .enum-told6 .given .1)
+returns-13 c = simp (c .enum-told5 .given .1)
 
 pub bad-body-spec : {M : Type 1} → statement M
 bad-body-spec =

@@ -5,10 +5,10 @@ use Rattle.executive.proofs.Table.marks_of.Statement.{statement}
 use Rattle.executive.proofs.Table.marks_of.Tie as tie
 
 is-set-requires : tie.Need-is-set-requires
-is-set-requires c κs = let s = c .before .before .before in flag-low (s .args .self) _ _ (rw (c .before .call6 .given .1) at (s .pre))
+is-set-requires c κs = let s = c .before .before .before in flag-low (s .args .self) _ _ (rw (c .before .call6 .given .1) at (s .pre .1))
 
 alarm-marks-requires : tie.Need-alarm-marks-requires
-alarm-marks-requires c κs = let s = c .before .before .before in alarm-low (s .args .self) _ _ _ (rw (c .before .call8 .given .1) at (s .pre))
+alarm-marks-requires c κs = let s = c .before .before .before in alarm-low (s .args .self) _ _ _ (rw (c .before .call8 .given .1) at (s .pre .1))
 
 returns : tie.Need-returns
 unfolding marksOf

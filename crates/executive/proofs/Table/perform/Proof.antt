@@ -3,6 +3,7 @@ use mathlib.Core.Bool.{true, false}
 use Rattle.executive.specs.Refusals.{planOf}
 use Rattle.executive.specs.Table.{carry}
 use Rattle.executive.specs.Steps.{accepted}
+use Rattle.executive.proofs.Standing.{standing-of}
 use Rattle.executive.proofs.Clear.{clear-of}
 use Rattle.executive.proofs.Answered.{refused-early, refused-late, not-refused}
 use borrow.Author.Needs.{needs}
@@ -24,7 +25,9 @@ returns-2 c =
     c .refuse2 .ensures ∙ refused-late (s .args .self) (s .args .call) (sym (c .before .before .before .before .refusal .ensures) ∙ c .before .before .before .if1 .left) f
 
 marks-of-requires : tie.Need-marks-of-requires
-marks-of-requires c κs = clear-of (c .before .before .before .before .before .args .self) (c .before .before .before .before .before .args .call) (sym (c .before .before .before .before .refusal .ensures) ∙ c .before .before .before .if1 .left) .body
+marks-of-requires c κs =
+    let s = c .before .before .before .before .before in
+    (standing-of (s .args .self) (s .pre), clear-of (s .args .self) (s .args .call) (sym (c .before .before .before .before .refusal .ensures) ∙ c .before .before .before .if1 .left) .body)
 
 returns-3 : tie.Need-returns-3
 unfolding accepted

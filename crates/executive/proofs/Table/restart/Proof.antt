@@ -1,4 +1,3 @@
-use native.Mathlib.Nat.{le-trans}
 use Rattle.executive.proofs.Fits.{departed-fit}
 use Rattle.executive.proofs.Flight.{begin-flying, admits-flying}
 use Rattle.executive.proofs.Ends.{restarted-now, restarted-later}
@@ -15,7 +14,7 @@ task-at-requires c κs = search needs
 aim-at-requires : tie.Need-aim-at-requires
 aim-at-requires c κs =
     let s = c .before .before .before .before .before .before .before .before in
-    (rw (c .before .before .before .before .task-at .ensures) (le-trans (s .pre .0 .started _) (s .pre .0 .clocked)), s .pre .0 .clocked)
+    (rw (c .before .before .before .before .task-at .ensures) (s .pre .0 .started _), s .pre .0 .clocked)
 
 due-requires : tie.Need-due-requires
 due-requires c κs = search needs
