@@ -69,8 +69,8 @@ static int refused(uint8_t number, size_t image_length, const uint8_t *record, s
 
 static void try_refusals(void) {
     static const uint8_t no_table[QUERMANIC_ANSWER_LENGTH] = {1, 0, 0, 0, 0};
-    static const uint8_t no_kind[QUERMANIC_ANSWER_LENGTH] = {4, 0, 1, 0, 1};
-    static const uint8_t no_record[QUERMANIC_ANSWER_LENGTH] = {3, 0, 0, 0, 1};
+    static const uint8_t no_kind[QUERMANIC_ANSWER_LENGTH] = {4, 0, 1, 0, 2, 0, 0, 4};
+    static const uint8_t no_record[QUERMANIC_ANSWER_LENGTH] = {3, 0, 0, 0, 2, 0, 0, 4};
     uint8_t unwritten[QUERMANIC_ANSWER_LENGTH];
     const size_t whole = QUERMANIC_IMAGE_LENGTH;
     const size_t room = QUERMANIC_ANSWER_LENGTH;
