@@ -1,5 +1,5 @@
 -- Demand 2: the head of a well-formed table's queue is the first of the ready tasks with highest priority, and there is none exactly if no task is ready.
-use mathlib.Core.Path.{_≡_, refl, sym, _∙_}
+use mathlib.Core.Path.{_≡_, refl, sym, ap, _∙_}
 use mathlib.Core.Logic.{_↔_, _≢_}
 use mathlib.Core.Bool.{Bool, true, false}
 use mathlib.Core.List.{List, [], _∷_}
@@ -9,12 +9,14 @@ use borrow.Author.Tests.{eqb-true, ne-eqb}
 use lib.Dec.{eqb}
 use lib.ListN.{length}
 use Rattle.records.specs.declared.TaskNo.{TaskNo}
+use Rattle.executive.specs.declared.State.{State}
+use Rattle.executive.specs.declared.State.the-variants.{Dormant, Ready, Paused, Due, Flags, AwaitStart, AwaitEnd}
 use Rattle.executive.specs.declared.Task.{Task}
 use Rattle.executive.specs.declared.Table.{Table}
 use Rattle.executive.specs.Queue.{pick, one, count, ahead, prioIn, activeOf}
 use Rattle.executive.specs.Table.{line, taskAt, itemOf, items, headOf}
 use Rattle.executive.specs.Plans.{caller}
-use Rattle.executive.specs.WellFormed.{is, Line}
+use Rattle.executive.specs.WellFormed.{kindOf, is, Line}
 use Rattle.executive.specs.Demands.{Dispatched}
 use Rattle.executive.proofs.Law.{head-highest, head-first}
 use Rattle.executive.proofs.Fits.{line-length}
@@ -31,6 +33,19 @@ prio-is ts (j ∷ r) k h = go (eqb k (j .0)) refl h (prio-is ts r k)
         → pick b (taskAt ts (j .0) .priority) (prioIn k (items ts r)) ≡ taskAt ts k .priority
     go true e h ih = rw (eqb-true k (j .0) e)
     go false e h ih = ih (omega arith)
+
+-- a state is ready by its name exactly if it is by its kind
+pub named : (s : State) → is 1 s ≡ 1 → s ≡ Ready
+named Dormant e = absurd (omega arith)
+named Ready e = refl
+named (Paused at) e = absurd (omega arith)
+named (Due at) e = absurd (omega arith)
+named (Flags m mask) e = absurd (omega arith)
+named AwaitStart e = absurd (omega arith)
+named AwaitEnd e = absurd (omega arith)
+
+pub of-kind : (s : State) → s ≡ Ready → is 1 s ≡ 1
+of-kind s e = ap (is 1) e
 
 -- what is said of a queue's numbers r, with the tasks ts
 module _ (ts : List Task) where
@@ -65,13 +80,24 @@ module _ (ts : List Task) where
         empty = (λ e. absurd (omega (arith, h .names .0)), λ e. absurd (omega arith));
       }
 
+unready : (s : State) → s ≢ Ready → is 1 s ≡ 0
+unready s n = go (eqb 1 (kindOf s)) refl
+  where
+    go : (b : Bool) → eqb 1 (kindOf s) ≡ b → one b ≡ 0
+    go true e = absurd (n (named s (ap one e)))
+    go false e = refl
+
 pub dispatches : (t : Table) → Formed t → Dispatched t (caller t .0)
 dispatches t w =
     let p : Picks (t .tasks) (line t) (caller t .0) = picks (t .tasks) (line t) (w .queue) in
     let n : length (line t) ≡ t .ready = line-length t (w .fit) in
     record {
       head = p .head;
-      chosen = λ h. record { ready = p .ready h; highest = p .highest; first = λ j e _ d. p .first j e d };
-      idle = p .idle;
+      chosen = λ h. record {
+        ready = named _ (p .ready h);
+        highest = λ j e. p .highest j (of-kind _ e);
+        first = λ j e _ d. p .first j (of-kind _ e) d;
+      };
+      idle = (λ e j r. absurd (omega (arith, p .idle .0 e j, of-kind _ r)), λ f. p .idle .1 (λ j. unready (taskAt (t .tasks) j .state) (f j)));
       empty = (λ e. sym n ∙ p .empty .0 e, λ e. p .empty .1 (n ∙ e));
     }

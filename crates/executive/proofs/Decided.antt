@@ -1,7 +1,7 @@
 -- Demand 1: the answer's number is that of the first refusal whose condition holds, and a refusal changes nothing.
 use mathlib.Core.Path.{_≡_, refl, sym, ap, _∙_}
 use mathlib.Core.Logic.{_↔_, _≢_}
-use mathlib.Core.Bool.{Bool, true, false}
+use mathlib.Core.Bool.{Bool, true, false, not}
 use mathlib.Core.List.{List, [], _∷_, map, tail}
 use Prim.Native.Nat.{ℕ, zero, suc, _<_}
 use native.Mathlib.Omega.{arith}
@@ -18,6 +18,8 @@ use Rattle.executive.specs.Check.{isWellFormed}
 use Rattle.executive.specs.Refusals.{Refusal, when, callIn, refusals, firstOf}
 use Rattle.executive.specs.Steps.{noTable, marks, answerOf, hasV, accepted, refused, outcomeOf, stepOf}
 use Rattle.executive.specs.Demands.{FirstAt, Decides}
+use Rattle.executive.proofs.Law.{clash}
+use Rattle.executive.proofs.Clear.{first-none}
 use Rattle.executive.proofs.Checked.{well-formed-iff}
 use Rattle.executive.proofs.Performed.{refused-table}
 
@@ -102,6 +104,19 @@ numbers t s =
 pub decided : (t : Table) (s : List ℕ) → Decides (refusals t s) (stepOf t s .answer .number)
 unfolding stepOf
 decided t s = rw (number-is t (firstOf (refusals t s)) (callIn s)) (first-decides (refusals t s) (numbers t s))
+
+-- accepted: no condition holds, and the table is well formed
+pub allowed : (t : Table) (s : List ℕ) → stepOf t s .answer .number ≡ 0 → firstOf (refusals t s) ≡ 0
+unfolding stepOf
+allowed t s e = sym (number-is t (firstOf (refusals t s)) (callIn s)) ∙ e
+
+pub allowed-formed : (t : Table) (s : List ℕ) → stepOf t s .answer .number ≡ 0 → WellFormed t
+unfolding refusals
+allowed-formed t s e = well-formed-iff t .0 (holds-so (isWellFormed t) (first-none 1 (not (isWellFormed t)) _ (omega arith) (allowed t s e) .0))
+  where
+    holds-so : (b : Bool) → not b ≡ false → b ≡ true
+    holds-so true f = refl
+    holds-so false f = clash (sym f)
 
 pub order : (t : Table) (s : List ℕ) → map (λ (r : Refusal). r .number) (refusals t s) ≡ 1 ∷ 3 ∷ 4 ∷ 3 ∷ 5 ∷ 6 ∷ 7 ∷ 9 ∷ 8 ∷ 10 ∷ 11 ∷ []
 unfolding refusals

@@ -42,6 +42,7 @@ pub mod Shape
 pub mod Spelled
 pub mod Begun
 pub mod Performed
+pub mod Untouched
 pub mod Decided
 pub mod Chosen
 pub mod Theorems

@@ -119,7 +119,7 @@ call-in-range s b = go (readOf s) (read-in-range s b)
     go (got.Refused n) r = tt
 
 -- nothing refuses an accepted record's call
-call-allowed : (t : Table) (s : List ℕ) → firstOf (refusals t s) ≡ 0 → firstOf (callRefusals t (callIn s)) ≡ 0
+pub call-allowed : (t : Table) (s : List ℕ) → firstOf (refusals t s) ≡ 0 → firstOf (callRefusals t (callIn s)) ≡ 0
 unfolding refusals
 call-allowed t s e =
     let a = first-none 1 _ _ (omega arith) e in

@@ -5,11 +5,13 @@ use mathlib.Core.Bool.{Bool, true, false}
 use mathlib.Core.List.{List, [], _∷_, _++_}
 use Prim.Native.Nat.{ℕ, zero, suc, _+_, _≤_, _<_}
 use native.Mathlib.Omega.{arith}
-use borrow.Author.Tests.{le-leb, lt-ltb}
+use borrow.Author.Tests.{le-leb, lt-ltb, eq-eqb}
 use lib.Dec.{eqb}
 use lib.ListN.{length, getD}
 use Rattle.records.specs.declared.TaskNo.{TaskNo}
 use Rattle.records.specs.Numbers.{Bytes}
+use Rattle.records.specs.Kinds.{kindOf}
+use Rattle.records.specs.Reading.{readAs, readOf}
 use Rattle.executive.specs.declared.State.the-variants.{Ready}
 use Rattle.executive.specs.declared.Task.{Task}
 use Rattle.executive.specs.declared.Request.{Request}
@@ -21,8 +23,9 @@ use Rattle.executive.specs.Time.{aimAt}
 use Rattle.executive.specs.Rests.{placeOf}
 use Rattle.executive.specs.Plans.{caller, endWaiter, waking, endPlan, restartPlan}
 use Rattle.executive.specs.WellFormed.{WellFormed}
+use Rattle.executive.specs.Refusals.{planOf, callIn, refusals, firstOf, earlyOf}
 use Rattle.executive.specs.Steps.{stepOf}
-use Rattle.executive.specs.Demands.{planIn, after, history, AllBytes, IsReady, Dispatched, NotYet, Overtaking, departedOf, enteredOf, Restarts, Demands}
+use Rattle.executive.specs.Demands.{planIn, after, history, AllBytes, IsReady, Dispatched, NotYet, Overtaking, departedOf, enteredOf, Restarts, RestartsBy, Demands}
 use Rattle.executive.proofs.Law.{eqb-self, not-zero, first, first-only}
 use Rattle.executive.proofs.Overtake.{Still, played, overtaken, play-count}
 use Rattle.executive.proofs.Moved.{apply-view}
@@ -31,10 +34,12 @@ use Rattle.executive.proofs.QueueKept.{is-le}
 use Rattle.executive.proofs.LinksKept.{ok-up}
 use Rattle.executive.proofs.Links.{take, place-target}
 use Rattle.executive.proofs.Plans.{runs}
-use Rattle.executive.proofs.Performed.{step-is, step-kept}
-use Rattle.executive.proofs.Decided.{decided, unformed, order, refusal-keeps, answers-active}
+use Rattle.executive.proofs.Clear.{early, end-owed, restart-owed}
+use Rattle.executive.proofs.Performed.{call-allowed, step-is, step-kept}
+use Rattle.executive.proofs.Decided.{decided, unformed, order, allowed, allowed-formed, refusal-keeps, answers-active}
 use Rattle.executive.proofs.Checked.{well-formed-iff, checked-once}
-use Rattle.executive.proofs.Chosen.{prio-is, dispatches}
+use Rattle.executive.proofs.Chosen.{prio-is, named, of-kind, dispatches}
+use Rattle.executive.proofs.Untouched.{head-is-active, step-others}
 
 -- ---- demand 1, over any records
 pub kept : (t : Table) (ss : List (List ℕ)) → WellFormed t → AllBytes ss → WellFormed (after t ss)
@@ -89,7 +94,7 @@ told t k (s ∷ ss) w b h n =
 
 pub overtaking : (t : Table) (k : ℕ) (ss : List (List ℕ)) → WellFormed t → AllBytes ss → IsReady t k → NotYet k t ss → Overtaking t k ss
 overtaking t k ss w b y n =
-    let h : 0 < count k (view t) = omega (arith, w .queue .exactly .exact k, y) in
+    let h : 0 < count k (view t) = omega (arith, w .queue .exactly .exact k, of-kind _ y) in
     let v : WellFormed (after t ss) = kept t ss w b in
     let d : Told t k ss = told t k ss w b h n in
     let s : Still k (view t) (plays (history t ss) (view t)) (entriesAbove (prioIn k (view t)) (history t ss)) (departures (history t ss)) =
@@ -98,7 +103,7 @@ overtaking t k ss w b y n =
     let p : prioIn k (view t) ≡ taskAt (t .tasks) k .priority = prio-is (t .tasks) (line t) k h in
     let p′ : prioIn k (view (after t ss)) ≡ prioIn k (view t) = rw (d .queue) (s .prio) in
     record {
-      still-ready = omega (arith, v .queue .exactly .exact k, is-le 1 (taskAt (after t ss .tasks) k .state));
+      still-ready = named _ (omega (arith, v .queue .exactly .exact k, is-le 1 (taskAt (after t ss .tasks) k .state)));
       same-priority = sym (prio-is (after t ss .tasks) (line (after t ss)) k there) ∙ p′ ∙ p;
       number = rw (d .queue, ← p) (s .number);
       active-at-nought = (first (view (after t ss)) k there, first-only (view (after t ss)) k there);
@@ -118,6 +123,28 @@ accounted t k (s ∷ ss) w b h =
       ap (count k) e,
       accounted (stepOf t s .table) k ss (step-kept t s w (b .0)) (b .1) h,
     )
+
+-- the queue after is the moves played on the queue before, and they are legal
+record Played (t : Table) (ss : List (List ℕ)) : Type 0 where
+  pub queue : view (after t ss) ≡ plays (history t ss) (view t)
+  pub legal : Legal (history t ss) (view t)
+
+moved : (t : Table) (ss : List (List ℕ)) → WellFormed t → AllBytes ss → Played t ss
+unfolding after history plays
+moved t [] w b = record { queue = refl; legal = tt }
+moved t (s ∷ ss) w b =
+    let x = step-moves t s w (b .0) in
+    let r : Played (stepOf t s .table) ss = moved (stepOf t s .table) ss (step-kept t s w (b .0)) (b .1) in
+    record { queue = r .queue ∙ ap (plays (history (stepOf t s .table) ss)) (x .0); legal = (x .1, rw (x .0) at (r .legal)) }
+
+-- a task that neither departed nor entered has its entry as it was
+pub others : (t : Table) (k : ℕ) (ss : List (List ℕ)) → WellFormed t → AllBytes ss
+    → departedOf k t ss ≡ 0 → enteredOf k (history t ss) ≡ 0 → taskAt (after t ss .tasks) k ≡ taskAt (t .tasks) k
+unfolding after history departedOf enteredOf
+others t k [] w b d e = refl
+others t k (s ∷ ss) w b d e =
+    others (stepOf t s .table) k ss (step-kept t s w (b .0)) (b .1) (omega (arith, d)) (omega (arith, e))
+    ∙ step-others t s k w (b .0) (omega (arith, d)) (omega (arith, e))
 
 -- ---- a restart in one step is one departure and one entry: c enters once, and the waiters e and s are others
 again : (c e s : TaskNo) (f : Task → Task) (ts : List Task) → eqb (c .0) (e .0) ≡ false → eqb (c .0) (s .0) ≡ false
@@ -156,6 +183,37 @@ module _ (t : Table) (w : WellFormed t) (h : 0 < t .ready) where
       let o = take (t .tasks) rs (c .0) 0 i l (place-target (c .0) rs l) (ok-up (formed w .links)) in
       rw (lt-ltb i (length rs) l) (record { departs = refl; enters = again c (endWaiter t c) (getD rs i noRequest .«start_waiter») (begun (getD rs i noRequest) (t .rest .clock)) _ waiter-other (o .2) })
 
+-- ---- the same in the history of an accepted record: its plan is its call's
+module _ (t : Table) (s : List ℕ) (e : stepOf t s .answer .number ≡ 0) where
+  nothing-early : earlyOf t (callIn s) ≡ 0
+  nothing-early = early t (callIn s) (call-allowed t s (allowed t s e))
+
+  planned-so : planIn t s ≡ planOf t (callIn s)
+  unfolding planIn
+  planned-so = rw (eq-eqb (firstOf (refusals t s)) 0 (allowed t s e)) refl
+
+  restarted : Restarts (planOf t (callIn s)) t → RestartsBy s t
+  unfolding departedOf enteredOf history
+  restarted r = record {
+    departs = rw (planned-so, r .departs, head-is-active (t .tasks) (line t)) (omega (arith, ap one (eqb-self (caller t .0))));
+    enters = rw planned-so (omega (arith, r .enters));
+  }
+
+pub restarts-by : (t : Table) (p n : ℕ) → stepOf t (0x01 ∷ p ∷ n ∷ []) .answer .number ≡ 0
+    → aimAt (taskAt (t .tasks) (caller t .0) .start) (t .rest .clock) p n .0 ≤ t .rest .clock .0 → RestartsBy (0x01 ∷ p ∷ n ∷ []) t
+unfolding planOf readOf readAs kindOf
+restarts-by t p n e l =
+    let s : List ℕ = 0x01 ∷ p ∷ n ∷ [] in
+    let w : WellFormed t = allowed-formed t s e in
+    restarted t s e (restarts t w (restart-owed t w p n (nothing-early t s e) .1) p n l)
+
+pub begins-again-by : (t : Table) → stepOf t (0x00 ∷ []) .answer .number ≡ 0
+    → placeOf (caller t .0) (requests (t .rest)) < length (requests (t .rest)) → RestartsBy (0x00 ∷ []) t
+unfolding planOf readOf readAs kindOf
+begins-again-by t e l =
+    let w : WellFormed t = allowed-formed t (0x00 ∷ []) e in
+    restarted t (0x00 ∷ []) e (begins-again t w (end-owed t w (nothing-early t (0x00 ∷ []) e) .1) l)
+
 -- ---- all of them
 pub demands : Demands
 demands = record {
@@ -168,8 +226,13 @@ demands = record {
   dispatched = dispatched;
   overtaking = overtaking;
   accounted = accounted;
+  played = λ t ss w b. moved t ss w b .queue;
+  legal = λ t ss w b. moved t ss w b .legal;
+  others = others;
   restarts = λ t p n w h. restarts t w h p n;
   begins-again = begins-again;
+  restarts-by = restarts-by;
+  begins-again-by = begins-again-by;
   step-determined = λ t s x y p q. p ∙ sym q;
   check-determined = checked-once;
   fresh-determined = λ s x y p q. p ∙ sym q;

@@ -9,15 +9,16 @@ use lib.Dec.{eqb}
 use lib.ListN.{length, getD}
 use Rattle.records.specs.declared.Call.{Call}
 use Rattle.records.specs.Numbers.{Bytes}
+use Rattle.executive.specs.declared.State.the-variants.{Ready}
 use Rattle.executive.specs.declared.Table.{Table}
 use Rattle.executive.specs.declared.Outcome.{Outcome}
 use Rattle.executive.specs.declared.Fresh.{Fresh}
-use Rattle.executive.specs.Queue.{Moves, pick, one, count, ahead, activeOf, departures, entriesAbove}
+use Rattle.executive.specs.Queue.{Moves, pick, one, count, ahead, activeOf, plays, Legal, departures, entriesAbove}
 use Rattle.executive.specs.Table.{requests, taskAt, view, Plan, apply, movesOf}
 use Rattle.executive.specs.Time.{aimAt}
 use Rattle.executive.specs.Rests.{placeOf}
 use Rattle.executive.specs.Plans.{caller, nothing, endPlan, restartPlan}
-use Rattle.executive.specs.WellFormed.{is, WellFormed}
+use Rattle.executive.specs.WellFormed.{WellFormed}
 use Rattle.executive.specs.Check.{Checked}
 use Rattle.executive.specs.Refusals.{Refusal, when, planOf, callIn, callRefusals, refusals, firstOf}
 use Rattle.executive.specs.Steps.{stepOf}
@@ -62,7 +63,7 @@ pub record Decides (rs : List Refusal) (n : ℕ) : Type 0 where
 
 -- task k is ready, by its entry's state
 abbrev pub IsReady : Table → ℕ → Type 0
-IsReady t k = is 1 (taskAt (t .tasks) k .state) ≡ 1
+IsReady t k = taskAt (t .tasks) k .state ≡ Ready
 
 -- ---- demand 2: task k is the first of the ready tasks with highest priority
 pub record Chosen (t : Table) (k : ℕ) : Type 0 where
@@ -74,7 +75,7 @@ pub record Chosen (t : Table) (k : ℕ) : Type 0 where
 pub record Dispatched (t : Table) (k : ℕ) : Type 0 where
   pub head : activeOf (view t) ≡ k
   pub chosen : 0 < k → Chosen t k
-  pub idle : (k ≡ 0) ↔ ((j : ℕ) → is 1 (taskAt (t .tasks) j .state) ≡ 0)
+  pub idle : (k ≡ 0) ↔ ((j : ℕ) → taskAt (t .tasks) j .state ≢ Ready)
   pub empty : (k ≡ 0) ↔ (t .ready ≡ 0)
 
 -- ---- demand 3
@@ -100,10 +101,14 @@ unfoldable pub enteredOf : ℕ → List Moves → ℕ
 enteredOf k [] = 0
 enteredOf k (m ∷ ms) = count k (m .ins) + enteredOf k ms
 
--- a task that restarts in one step counts as one departure and one entry
+-- a task that restarts in one step counts as one departure and one entry: by the step's plan, and in the history of the record s
 pub record Restarts (p : Plan) (t : Table) : Type 0 where
   pub departs : movesOf p t .out ≡ true
   pub enters : count (caller t .0) (movesOf p t .ins) ≡ 1
+
+pub record RestartsBy (s : List ℕ) (t : Table) : Type 0 where
+  pub departs : departedOf (caller t .0) t (s ∷ []) ≡ 1
+  pub enters : enteredOf (caller t .0) (history t (s ∷ [])) ≡ 1
 
 -- ---- all of it: t is any table, s any record, ss any records
 pub record Demands : Type 0 where
@@ -124,10 +129,20 @@ pub record Demands : Type 0 where
   -- the departures and entries counted are all that changes the queue: in the queue after and departed is in the queue before and entered, for each task
   pub accounted : (t : Table) (k : ℕ) (ss : List (List ℕ)) → WellFormed t → AllBytes ss → 0 < k
       → count k (view (after t ss)) + departedOf k t ss ≡ count k (view t) + enteredOf k (history t ss)
-  -- 01 where the time aimed at has come, and 00 where a request for the caller is queued
+  -- no entry or departure is invented: the queue after is the moves played on the queue before, and each that enters was not in it
+  pub played : (t : Table) (ss : List (List ℕ)) → WellFormed t → AllBytes ss → view (after t ss) ≡ plays (history t ss) (view t)
+  pub legal : (t : Table) (ss : List (List ℕ)) → WellFormed t → AllBytes ss → Legal (history t ss) (view t)
+  -- only that task's entry is rewritten: a task that neither departed nor entered has its entry as it was
+  pub others : (t : Table) (k : ℕ) (ss : List (List ℕ)) → WellFormed t → AllBytes ss
+      → departedOf k t ss ≡ 0 → enteredOf k (history t ss) ≡ 0 → taskAt (after t ss .tasks) k ≡ taskAt (t .tasks) k
+  -- 01 where the time aimed at has come, and 00 where a request for the caller is queued: the plan, and the history of an accepted record
   pub restarts : (t : Table) (p n : ℕ) → WellFormed t → 0 < t .ready
       → aimAt (taskAt (t .tasks) (caller t .0) .start) (t .rest .clock) p n .0 ≤ t .rest .clock .0 → Restarts (restartPlan t p n) t
   pub begins-again : (t : Table) → WellFormed t → 0 < t .ready → placeOf (caller t .0) (requests (t .rest)) < length (requests (t .rest)) → Restarts (endPlan t) t
+  pub restarts-by : (t : Table) (p n : ℕ) → stepOf t (0x01 ∷ p ∷ n ∷ []) .answer .number ≡ 0
+      → aimAt (taskAt (t .tasks) (caller t .0) .start) (t .rest .clock) p n .0 ≤ t .rest .clock .0 → RestartsBy (0x01 ∷ p ∷ n ∷ []) t
+  pub begins-again-by : (t : Table) → stepOf t (0x00 ∷ []) .answer .number ≡ 0
+      → placeOf (caller t .0) (requests (t .rest)) < length (requests (t .rest)) → RestartsBy (0x00 ∷ []) t
   -- any two outcomes that a public entry's contract allows are equal
   pub step-determined : (t : Table) (s : List ℕ) (x y : Outcome) → x ≡ stepOf t s → y ≡ stepOf t s → x ≡ y
   pub check-determined : (t : Table) (x y : ℕ) → Checked t x → Checked t y → x ≡ y
