@@ -4,3 +4,4 @@ pub mod Digits
 pub mod Told
 pub mod Turns
 pub mod Whole
+pub mod Assured

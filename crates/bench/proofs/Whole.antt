@@ -18,7 +18,7 @@ use Rattle.bench.specs.declared.Run.{Run}
 use Rattle.bench.specs.declared.Filled.{Filled}
 use Rattle.bench.specs.Lines.{headerOf, lineOf, stopOf}
 use Rattle.bench.specs.Listing.{mostBytes, wholeOf, lastOf, stepsOf, madeOf, listingOf}
-use Rattle.bench.specs.Pieces.{isMore, after, leftIn, toldAs, toldOf, afterAs, afterOf, goesOn, pieceIn, pieceOf, startOf, Fills, pouredBy, Roomy, Promise}
+use Rattle.bench.specs.Pieces.{isMore, after, leftIn, SoundAs, Sound, linesAs, lines, toldAs, toldOf, afterAs, afterOf, goesOn, pieceIn, pieceOf, startOf, Fills, pouredBy, Roomy, Promise}
 use Rattle.bench.proofs.Digits.{decide}
 use Rattle.bench.proofs.Told.{whole-fits}
 use Rattle.bench.proofs.Turns.{goes-more}
@@ -58,26 +58,6 @@ leftAs next.Nothing s r = []
 
 abbrev pub left : List ℕ → Run → List ℕ
 left s r = leftAs (r .next) s r
-
--- the number of a step has room to count those that are left
-abbrev pub SoundAs : Next → List ℕ → Run → Type 0
-SoundAs next.Header s r = r .number + length (leftIn s r) < 4294967296
-SoundAs next.Step s r = r .number + length (leftIn s r) < 4294967296
-SoundAs (next.Stop n) s r = Unit {0}
-SoundAs next.Nothing s r = Unit {0}
-
-abbrev pub Sound : List ℕ → Run → Type 0
-Sound s r = SoundAs (r .next) s r
-
--- no more lines are left than this
-abbrev pub linesAs : Next → List ℕ → Run → ℕ
-linesAs next.Header s r = length (leftIn s r) + 2
-linesAs next.Step s r = length (leftIn s r) + 1
-linesAs (next.Stop n) s r = 1
-linesAs next.Nothing s r = 0
-
-abbrev pub lines : List ℕ → Run → ℕ
-lines s r = linesAs (r .next) s r
 
 no-more : (n : Next) (s : List ℕ) (r : Run) → isMore n ≡ false → leftAs n s r ≡ []
 no-more next.Header s r e = absurd (let z : _≡_ {A = ℕ} 0 1 = cc in omega arith)
@@ -186,7 +166,7 @@ poured-fewer (n ∷ ns) s r h g =
     (λ e. omega (arith, i, t .fewer, none-lines (r .next) s r e))
 
 -- ---- the start
-pub start-sound : (s : List ℕ) → Sound s (startOf s)
+start-sound : (s : List ℕ) → Sound s (startOf s)
 unfolding startOf
 start-sound s =
     decide (ltb mostBytes (length s))
@@ -214,27 +194,28 @@ start-lines s =
     (λ f. rw f (omega arith))))
 
 -- ---- for a program that fills until there is no more
-pub start-more : (s : List ℕ) → isMore (startOf s .next) ≡ true
+start-more : (s : List ℕ) → isMore (startOf s .next) ≡ true
 unfolding startOf
 start-more s =
     decide (ltb mostBytes (length s)) (λ e. rw e) (λ e. rw e (decide (eqb (madeOf s .number) 0) (λ f. rw f) (λ f. rw f)))
 
-module _ {s : List ℕ} {r : Run} {a b : List ℕ} {f : Filled} (p : Fills s r a b f) where
-  pub filled-in : f .used ≤ length b
+module _ (s : List ℕ) (r : Run) (a b : List ℕ) (f : Filled) (p : Fills s r a b f) where
+  filled-in : f .used ≤ length b
   filled-in =
       let t = pieceOf (length a) s r .text in
       omega (arith, p .used, ap length (p .out), length-append t (drop (length t) a))
 
   module _ (h : Sound s r) where
-    pub filled-sound : Sound s (f .run)
+    filled-sound : Sound s (f .run)
     filled-sound = rw (p .run) (piece-of (length a) s r h .sound)
 
-    pub filled-fewer : 64 ≤ length a → isMore (r .next) ≡ true → lines s (f .run) < lines s r
+    filled-fewer : 64 ≤ length a → isMore (r .next) ≡ true → lines s (f .run) < lines s r
     filled-fewer g e = rw (p .run) (piece-fewer (length a) s r h g e)
 
-  pub filled-more : f .more ≡ true → isMore (f .run .next) ≡ true
+  filled-more : f .more ≡ true → isMore (f .run .next) ≡ true
   filled-more e = rw (p .run) (sym (p .more) ∙ e)
 
+-- ---- all of it
 pub promise : Promise
 promise = record {
   turns = steps-enough;
@@ -245,6 +226,13 @@ promise = record {
   ends = λ s ns g h.
       let p = pouredBy ns s (startOf s) in
       no-lines (p .run .next) s (p .run) (omega (arith, poured-fewer ns s (startOf s) (start-sound s) g, start-lines s));
+  start-sound = start-sound;
+  start-more = start-more;
+  within = filled-in;
+  sound = filled-sound;
+  fewer = filled-fewer;
+  more = filled-more;
+  start-determined = λ s x y p q. p ∙ sym q;
   settled = λ s r a b c f g p q. (
     p .out ∙ sym (q .out),
     λ i. record { used = (p .used ∙ sym (q .used)) i; more = (p .more ∙ sym (q .more)) i; run = (p .run ∙ sym (q .run)) i },

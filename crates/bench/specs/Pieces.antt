@@ -1,5 +1,5 @@
 -- The listing piece by piece: where it stands, the line told there, and the whole lines that go into a buffer.
-use Prim.Native.Nat.{ℕ, zero, suc, _+_, _-_, _≤_}
+use Prim.Native.Nat.{ℕ, zero, suc, _+_, _-_, _≤_, _<_}
 use mathlib.Core.Path.{_≡_}
 use mathlib.Core.Bool.{Bool, true, false, cond}
 use mathlib.Core.List.{List, [], _∷_, _++_}
@@ -99,7 +99,10 @@ pieceIn (suc turns) room s r =
 unfoldable pub pieceOf : ℕ → List ℕ → Run → Piece
 pieceOf room s r = pieceIn room room s r
 
--- ---- what filling a buffer answers: the buffer a is become b
+-- ---- the contracts: the listing of s stands at r at its start; what filling a buffer answers: the buffer a is become b
+abbrev pub Starts : List ℕ → Run → Type 0
+Starts s r = r ≡ startOf s
+
 pub record Fills (s : List ℕ) (r : Run) (a b : List ℕ) (f : Filled) : Type 0 where
   pub used : f .used ≡ length (pieceOf (length a) s r .text)
   pub more : f .more ≡ isMore (pieceOf (length a) s r .run .next)
@@ -111,6 +114,27 @@ pub record FillsFrom (n : ℕ) (s : List ℕ) (r : Run) (a b : List ℕ) (f : Fi
   pub more : f .more ≡ isMore (pieceOf (length a - n) s r .run .next)
   pub run : f .run ≡ pieceOf (length a - n) s r .run
   pub adds : Adds a n b (f .used) (pieceOf (length a - n) s r .text)
+
+-- ---- where a listing can stand, and how much is left of it
+-- the number of a step has room to count those that are left
+abbrev pub SoundAs : Next → List ℕ → Run → Type 0
+SoundAs next.Header s r = r .number + length (leftIn s r) < 4294967296
+SoundAs next.Step s r = r .number + length (leftIn s r) < 4294967296
+SoundAs (next.Stop n) s r = Unit {0}
+SoundAs next.Nothing s r = Unit {0}
+
+abbrev pub Sound : List ℕ → Run → Type 0
+Sound s r = SoundAs (r .next) s r
+
+-- no more lines are left than this
+abbrev pub linesAs : Next → List ℕ → Run → ℕ
+linesAs next.Header s r = length (leftIn s r) + 2
+linesAs next.Step s r = length (leftIn s r) + 1
+linesAs (next.Stop n) s r = 1
+linesAs next.Nothing s r = 0
+
+abbrev pub lines : List ℕ → Run → ℕ
+lines s r = linesAs (r .next) s r
 
 -- ---- the promise: from the start on, in buffers of any sizes, one after the other
 abbrev pub pouredBy : List ℕ → List ℕ → Run → Piece
@@ -129,5 +153,15 @@ pub record Promise : Type 0 where
   pub whole : (s ns : List ℕ) → isMore (pouredBy ns s (startOf s) .run .next) ≡ false → pouredBy ns s (startOf s) .text ≡ listingOf s
   -- and that comes to be: a buffer with room for a line takes one or more, and there are not more lines than this
   pub ends : (s ns : List ℕ) → Roomy ns → length s + 2 ≤ length ns → isMore (pouredBy ns s (startOf s) .run .next) ≡ false
-  -- what filling a buffer answers is settled: two answers to the same question are one
+  -- for whoever fills until there is no more: where it starts there is more to tell and room to count it; a piece is within its buffer, leaves room
+  -- to count, says whether there is more, and in a buffer with room for a line leaves fewer lines
+  pub start-sound : (s : List ℕ) → Sound s (startOf s)
+  pub start-more : (s : List ℕ) → isMore (startOf s .next) ≡ true
+  pub within : (s : List ℕ) (r : Run) (a b : List ℕ) (f : Filled) → Fills s r a b f → f .used ≤ length b
+  pub sound : (s : List ℕ) (r : Run) (a b : List ℕ) (f : Filled) → Fills s r a b f → Sound s r → Sound s (f .run)
+  pub fewer : (s : List ℕ) (r : Run) (a b : List ℕ) (f : Filled) → Fills s r a b f → Sound s r → lineRoom ≤ length a
+      → isMore (r .next) ≡ true → lines s (f .run) < lines s r
+  pub more : (s : List ℕ) (r : Run) (a b : List ℕ) (f : Filled) → Fills s r a b f → f .more ≡ true → isMore (f .run .next) ≡ true
+  -- any two outcomes that a public function's contract allows are equal: the answer, and every byte of the buffer
+  pub start-determined : (s : List ℕ) (x y : Run) → Starts s x → Starts s y → x ≡ y
   pub settled : (s : List ℕ) (r : Run) (a b c : List ℕ) (f g : Filled) → Fills s r a b f → Fills s r a c g → (b ≡ c) × (f ≡ g)

@@ -14,7 +14,7 @@ ghost use Rattle.bench.specs.declared.Next.the-variants.{Step};
 ghost use Rattle.executive.specs.Table.{headOf};
 ghost use Rattle.bench.specs.Glyphs.{Adds};
 ghost use Rattle.bench.specs.Lines.{headerOf};
-ghost use Rattle.bench.specs.Pieces.{firstOf, startOf, isMore, after, withNext, Fills, FillsFrom, Promise};
+ghost use Rattle.bench.specs.Pieces.{firstOf, Starts, isMore, after, withNext, Fills, FillsFrom, Promise};
 
 // What is told first, of an input of that length whose configuration gave that number.
 fn first(length: usize, number: u8) -> Next
@@ -31,7 +31,7 @@ fn first(length: usize, number: u8) -> Next
 
 // The start of an input's listing: the configuration is read.
 pub fn start(input: &[u8]) -> Run
-    ensures { λ r. ⌜ r ≡ startOf (now (input .entry)) ⌝ }
+    ensures { λ r. ⌜ Starts (now (input .entry)) r ⌝ }
 {
     let at = configuration::length_in(input);
     let made = configuration::fresh(&input[..at]);

@@ -12,15 +12,14 @@ use Rattle.executive.specs.declared.Fresh.{Fresh}
 use Rattle.executive.specs.declared.Outcome.{Outcome}
 use Rattle.executive.specs.Queue.{pick}
 use Rattle.executive.specs.Check.{isWellFormed, Checked}
-use Rattle.executive.proofs.Checked.{well-formed-iff}
+use Rattle.executive.proofs.Assured.{decided}
 use Rattle.executive.specs.Steps.{noTable, stepOf}
 use Rattle.executive.specs.Fresh.{freshOf}
 use Rattle.board.specs.Blocks.{written}
 use Rattle.board.specs.Image.{imageLength, imageOf, loadOf, isImageOf, isImage, FitsTable}
-use Rattle.board.specs.Promises.{Promises}
 use Rattle.board.specs.Entries.{checkNumber, CheckedImage, Holds, freshNumber, freshImage, answerLength, answerBytes, answerTo, imageAfter, stepNumber, stepImage, stepAnswer}
 use Rattle.board.proofs.Alike.{decide, never}
-use Rattle.board.proofs.Trips.{load-store, image-parts, stored, load-fits}
+use Rattle.board.proofs.Trips.{load-store, stored}
 
 -- ---- a stored table
 pub holds : (t : Table) (u : Table) {s : List ℕ} → FitsTable t → t ≡ u → s ≡ imageOf t → Holds s u
@@ -54,8 +53,8 @@ module _ (s : List ℕ) (t : Table) (et : t ≡ loadOf s) where
   table-number : (n : ℕ) → Checked (loadOf s) n → n ≡ pick (isWellFormed (loadOf s)) 0 1
   table-number n k =
       decide (isWellFormed (loadOf s))
-      (λ e. rw e (k .right .1 (well-formed-iff (loadOf s) .0 e)))
-      (λ e. rw e (k .wrong .1 (λ w. never (sym e ∙ well-formed-iff (loadOf s) .1 w))))
+      (λ e. rw e (k .right .1 (decided .iff (loadOf s) .0 e)))
+      (λ e. rw e (k .wrong .1 (λ w. never (sym e ∙ decided .iff (loadOf s) .1 w))))
 
   pub check-image : (n : ℕ) → isImage s ≡ true → Checked t n → CheckedImage s n
   unfolding checkNumber
@@ -92,8 +91,8 @@ module _ (s k o : List ℕ) where
           let z = eq-eqb (x .answer .number) 0 n in
           (rw (e, i, ← ex) (sym n), (rw (e, i, ← ex, z) ev, rw (e, i, ← ex) eu))
 
--- ---- what is promised
-not-made : (g o : List ℕ) → (freshNumber g o ≡ 0 → ⊥) → freshImage g o ≡ o
+-- ---- what is promised of refusals
+pub not-made : (g o : List ℕ) → (freshNumber g o ≡ 0 → ⊥) → freshImage g o ≡ o
 unfolding freshImage
 not-made g o h = rw (ne-eqb (freshNumber g o) 0 h)
 
@@ -102,24 +101,12 @@ unfolding imageAfter
 kept s k h = rw (ne-eqb (answerTo s k .number) 0 h)
 
 module _ (s k o : List ℕ) where
-  short : length o < answerLength → (stepImage s k o ≡ s) × (stepAnswer s k o ≡ o)
+  pub short : length o < answerLength → (stepImage s k o ≡ s) × (stepAnswer s k o ≡ o)
   short h = let e = step-short s k o h in (sym (e .1 .0), sym (e .1 .1))
 
-  refused : (stepNumber s k o ≡ 0 → ⊥) → stepImage s k o ≡ s
+  pub refused : (stepNumber s k o ≡ 0 → ⊥) → stepImage s k o ≡ s
   unfolding stepNumber stepImage
   refused h =
       decide (ltb (length o) answerLength)
       (λ e. rw e)
       (λ e. rw e (kept s k (λ z. h (rw e z))))
-
-pub promises : Promises
-promises = record {
-  load-store = load-store;
-  store-load = λ s e. image-parts s e .1;
-  stored = stored;
-  sized = λ s e. image-parts s e .0;
-  load-fits = load-fits;
-  refused = refused;
-  short = short;
-  not-made = not-made;
-}

@@ -7,7 +7,6 @@ use native.Mathlib.Nat.{pow-suc, pow-le-pow-right, not-suc-le-zero}
 use native.Mathlib.Numerals.{add-one}
 use lib.ListN.{length, getD, length-append}
 use Rattle.records.specs.Numbers.{numberFrom, numberOf, oneAnd, bytesIn, part}
-use Rattle.records.proofs.Numbers.{number-back}
 
 -- ---- reading: n is what was read so far
 pub from-none : (bs : List ℕ) → numberFrom 0 bs ≡ numberOf bs
@@ -48,11 +47,6 @@ bytes-last (suc w) x h = refl
 
 pub fits-last : (w x : ℕ) → x < 256 ^ suc w → x / 256 < 256 ^ w
 fits-last w x h = let z : 256 ^ suc w ≡ 256 ^ w * 256 = pow-suc 256 w in omega arith
-
--- a number that fits its bytes is that of its bytes
-pub bytes-number : (w x : ℕ) → x < 256 ^ w → numberOf (bytesIn w x) ≡ x
-bytes-number zero x h = omega arith
-bytes-number (suc w) x h = number-back w x
 
 pub fits-less : (i n : ℕ) → 0 < i → n < 256 ^ i → n / 256 < 256 ^ (i - 1)
 fits-less zero n p h = absurd (not-suc-le-zero p)

@@ -5,9 +5,10 @@ use mathlib.Core.List.{List, [], _∷_, _++_, append-assoc}
 use native.Mathlib.Omega.{arith}
 use lib.ListN.{length, length-append}
 use lib.Seq.{getD-append-seam}
+use Rattle.records.proofs.Assured.{promises}
 use Rattle.records.specs.Numbers.{numberOf, bytesIn, part, lay, cut, Fits}
 use Rattle.board.specs.Blocks.{row, blocks, Each, written}
-use Rattle.board.proofs.Digits.{length-bytes, bytes-number}
+use Rattle.board.proofs.Digits.{length-bytes}
 use Rattle.board.proofs.Spans.{and-then, written-whole}
 
 -- ---- five writes, each right behind the one before, that fill a buffer
@@ -51,7 +52,7 @@ cut-lay (w ∷ ws) (x ∷ xs) p q h =
     let f : s ≡ (p ++ b) ++ (lay ws xs ++ q) = e ∙ sym (append-assoc p b (lay ws xs ++ q)) in
     let g : part w (length p) s ≡ b =
     ap (part w (length p)) e ∙ ap (λ n. part n (length p) (p ++ (b ++ (lay ws xs ++ q)))) (sym l) ∙ part-middle p b (lay ws xs ++ q) in
-    ap (λ y. y ∷ cut ws (length p + w) s) (ap numberOf g ∙ bytes-number w x (h .0))
+    ap (λ y. y ∷ cut ws (length p + w) s) (ap numberOf g ∙ promises .number-back w x (h .0))
     ∙ ap (λ n. x ∷ cut ws n s) m
     ∙ ap (λ t. x ∷ cut ws (length (p ++ b)) t) f
     ∙ ap (λ t. x ∷ t) (cut-lay ws xs (p ++ b) q (h .1))

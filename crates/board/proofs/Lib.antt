@@ -6,4 +6,6 @@ pub mod Alike
 pub mod Images
 pub mod Trips
 pub mod Answered
+pub mod Histories
+pub mod Assured
 pub mod Owned

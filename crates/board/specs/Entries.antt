@@ -1,5 +1,5 @@
 -- What the entry points answer and leave in their buffers, for every input.
-use Prim.Native.Nat.{ℕ}
+use Prim.Native.Nat.{ℕ, _≤_}
 use mathlib.Core.Path.{_≡_}
 use mathlib.Core.Bool.{true}
 use mathlib.Core.List.{List, [], _∷_}
@@ -14,6 +14,7 @@ use Rattle.executive.specs.WellFormed.{WellFormed}
 use Rattle.executive.specs.Check.{isWellFormed}
 use Rattle.executive.specs.Steps.{noTable, stepOf}
 use Rattle.executive.specs.Fresh.{freshOf}
+use Rattle.executive.specs.Demands.{after, Overtaking}
 use Rattle.board.specs.Blocks.{written}
 use Rattle.board.specs.Image.{imageLength, imageOf, loadOf, isImage}
 
@@ -41,12 +42,22 @@ freshNumber config o = pick (eqb (length o) imageLength) (freshOf config .number
 unfoldable pub freshImage : List ℕ → List ℕ → List ℕ
 freshImage config o = pick (eqb (freshNumber config o) 0) (imageOf (freshOf config .table)) o
 
+-- the contract: n is what making a table from config in the buffer o answers, and o then is p
+pub record MakesImage (config o p : List ℕ) (n : ℕ) : Type 0 where
+  pub number : n ≡ freshNumber config o
+  pub image : p ≡ freshImage config o
+  pub holds : n ≡ 0 → Holds p (freshOf config .table)
+
 -- ---- an answer's bytes: number, Z, V, C, active task, 0, argument, grid times passed over
 abbrev pub answerWidths : List ℕ
 answerWidths = 1 ∷ 1 ∷ 1 ∷ 1 ∷ 1 ∷ 1 ∷ 2 ∷ 8 ∷ []
 
 abbrev pub answerLength : ℕ
 answerLength = 16
+
+-- where the active task stands
+abbrev pub activeAt : ℕ
+activeAt = 4
 
 abbrev pub answerBytes : Answer → List ℕ
 answerBytes a = lay answerWidths (a .number ∷ one (a .z) ∷ one (a .v) ∷ one (a .c) ∷ a .active .0 ∷ 0 ∷ a .argument ∷ a .skipped ∷ [])
@@ -67,3 +78,28 @@ stepImage s call o = pick (ltb (length o) answerLength) s (imageAfter s call)
 
 unfoldable pub stepAnswer : List ℕ → List ℕ → List ℕ → List ℕ
 stepAnswer s call o = pick (ltb (length o) answerLength) o (written o 0 (answerBytes (answerTo s call)))
+
+-- the contract: n is what the step of call at the image s answers, with the buffer o for the answer; s then is p, and o is q
+pub record StepsImage (s call o p q : List ℕ) (n : ℕ) : Type 0 where
+  pub number : n ≡ stepNumber s call o
+  pub image : p ≡ stepImage s call o
+  pub answer : q ≡ stepAnswer s call o
+  pub holds : n ≡ 0 → Holds p (stepOf (loadOf s) call .table)
+
+-- ---- a history of images: from s, by calls one after the other, each with room for its answer, to the image at the end
+pub record Stepped (s call p : List ℕ) : Type 0 where
+  pub before : List ℕ
+  pub after : List ℕ
+  pub number : ℕ
+  pub room : answerLength ≤ length before
+  pub steps : StepsImage s call before p after number
+
+abbrev pub Runs : List ℕ → List (List ℕ) → List ℕ → Type 0
+Runs s [] p = s ≡ p
+Runs s (call ∷ calls) p = (u : List ℕ) × Stepped s call u × Runs u calls p
+
+-- demand 3 of task k over such a history: it holds of the tables, and the image at the end is that of the table after the calls
+pub record OvertakingImage (s : List ℕ) (k : ℕ) (calls : List (List ℕ)) (p : List ℕ) : Type 0 where
+  pub tables : Overtaking (loadOf s) k calls
+  pub image : WellFormedImage p
+  pub loads : loadOf p ≡ after (loadOf s) calls

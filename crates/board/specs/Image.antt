@@ -1,5 +1,6 @@
 -- The image of a table: 896 bytes, numbers big-endian. docs/TABLE.md has the layout in words.
 use Prim.Native.Nat.{ℕ, _+_}
+use mathlib.Core.Path.{_≡_}
 use mathlib.Core.Bool.{Bool, false}
 use mathlib.Core.List.{List, [], _∷_, _++_}
 use lib.Dec.{eqb}
@@ -167,6 +168,11 @@ storeNumber o = pick (eqb (length o) imageLength) 0 1
 unfoldable pub storeBytes : Table → List ℕ → List ℕ
 storeBytes t o = pick (eqb (length o) imageLength) (imageOf t) o
 
+-- the contract: n is what storing t into the buffer o answers, and o then is p
+pub record Stores (t : Table) (o p : List ℕ) (n : ℕ) : Type 0 where
+  pub number : n ≡ storeNumber o
+  pub image : p ≡ storeBytes t o
+
 -- ---- the table of any bytes; those past the end read as 0
 abbrev pub taskFrom : List ℕ → ℕ → Task
 taskFrom s at = taskOf (cut taskWidths at s)
@@ -204,6 +210,13 @@ loadOf s =
     (blocks (placeFrom s) 1 16 queueAt)
     (blocks (alarmFrom s) 8 32 alarmsAt)
     (blocks (requestFrom s) 6 32 poolAt)
+
+-- the contracts: t is the table of the bytes s; storing t and loading it gives u
+abbrev pub Loads : List ℕ → Table → Type 0
+Loads s t = t ≡ loadOf s
+
+abbrev pub ComesBack : Table → Table → Type 0
+ComesBack t u = u ≡ t
 
 -- ---- an image is byte for byte the image of the table that it loads to
 unfoldable pub isImageOf : List ℕ → Table → Bool

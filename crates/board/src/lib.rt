@@ -1,10 +1,6 @@
 // The board library: the executive's table as bytes, and entry points for C, on byte slices and numbers only.
 use executive::configuration;
-ghost use mathlib.Core.Path.{_≡_};
-ghost use Rattle.executive.specs.Fresh.{freshOf};
-ghost use Rattle.executive.specs.Steps.{stepOf};
-ghost use Rattle.board.specs.Image.{loadOf};
-ghost use Rattle.board.specs.Entries.{CheckedImage, Holds, freshNumber, freshImage, stepNumber, stepImage, stepAnswer};
+ghost use Rattle.board.specs.Entries.{MakesImage, CheckedImage, StepsImage};
 
 pub mod answers;
 pub mod checking;
@@ -17,9 +13,7 @@ pub mod storing;
 // the image's length, and then no byte is changed.
 #[no_mangle]
 pub extern "C" fn quermanic_fresh(config: &[u8], image: &mut [u8]) -> u8
-    ensures { λ r. ⌜ r ≡ freshNumber (now (config .entry)) (now (image .entry)) ⌝ }
-    ensures { λ _. ⌜ now (image .exit) ≡ freshImage (now (config .entry)) (now (image .entry)) ⌝ }
-    ensures { λ r. ⌜ (r ≡ 0 → Holds (now (image .exit)) (freshOf (now (config .entry)) .table)) ⌝ }
+    ensures { λ r. ⌜ MakesImage (now (config .entry)) (now (image .entry)) (now (image .exit)) r ⌝ }
 {
     if image.len() != 896 {
         return 1;
@@ -50,10 +44,7 @@ pub extern "C" fn quermanic_check(image: &[u8]) -> u8
 // its bytes is changed. Where the answer's buffer is shorter than 16 bytes: 20, and no byte of any buffer is changed.
 #[no_mangle]
 pub extern "C" fn quermanic_step(image: &mut [u8], call: &[u8], answer: &mut [u8]) -> u8
-    ensures { λ r. ⌜ r ≡ stepNumber (now (image .entry)) (now (call .entry)) (now (answer .entry)) ⌝ }
-    ensures { λ _. ⌜ now (image .exit) ≡ stepImage (now (image .entry)) (now (call .entry)) (now (answer .entry)) ⌝ }
-    ensures { λ _. ⌜ now (answer .exit) ≡ stepAnswer (now (image .entry)) (now (call .entry)) (now (answer .entry)) ⌝ }
-    ensures { λ r. ⌜ (r ≡ 0 → Holds (now (image .exit)) (stepOf (loadOf (now (image .entry))) (now (call .entry)) .table)) ⌝ }
+    ensures { λ r. ⌜ StepsImage (now (image .entry)) (now (call .entry)) (now (answer .entry)) (now (image .exit)) (now (answer .exit)) r ⌝ }
 {
     if answer.len() < 16 {
         return 20;

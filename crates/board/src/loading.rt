@@ -11,7 +11,7 @@ use records::TaskNo;
 ghost use mathlib.Core.Path.{_≡_};
 ghost use Prim.Native.Nat.{_≤_};
 ghost use Rattle.board.specs.Blocks.{blocks};
-ghost use Rattle.board.specs.Image.{stateOf, taskFrom, placeFrom, alarmFrom, requestFrom, queueAt, alarmsAt, poolAt, loadOf};
+ghost use Rattle.board.specs.Image.{stateOf, taskFrom, placeFrom, alarmFrom, requestFrom, queueAt, alarmsAt, poolAt, Loads};
 
 // The state of a state's byte, time and mask. A byte that is no state's gives a wait that no well-formed table holds.
 fn state_of(tag: u8, time: u64, mask: u32) -> State
@@ -133,7 +133,7 @@ fn pool_in(bytes: &[u8]) -> [Request; 32]
 
 // The table of any bytes.
 pub fn load(bytes: &[u8]) -> Table
-    ensures { λ r. ⌜ r ≡ loadOf (now (bytes .entry)) ⌝ }
+    ensures { λ r. ⌜ Loads (now (bytes .entry)) r ⌝ }
 {
     let tasks = tasks_in(bytes);
     let queue = queue_in(bytes);

@@ -2,12 +2,12 @@
 use crate::loading;
 use crate::storing;
 use executive::Table;
-ghost use mathlib.Core.Path.{_≡_};
+ghost use Rattle.board.specs.Image.{ComesBack};
 ghost use Rattle.board.specs.Promises.{Promises};
 
 // Stores a table and loads its image: the same table.
 pub fn there_and_back(table: Table) -> Table
-    ensures { λ r. ⌜ r ≡ table ⌝ }
+    ensures { λ r. ⌜ ComesBack table r ⌝ }
 {
     let mut image = [0u8; 896];
     storing::put_table(&mut image, table);

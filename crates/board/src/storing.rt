@@ -13,7 +13,7 @@ ghost use mathlib.Core.List.{[], _∷_};
 ghost use Prim.Native.Nat.{_+_, _≤_};
 ghost use lib.ListN.{length};
 ghost use Rattle.board.specs.Blocks.{row, written};
-ghost use Rattle.board.specs.Image.{taskBytes, placeBytes, alarmBytes, requestBytes, queueAt, headAt, alarmsAt, poolAt, imageLength, imageOf, storeNumber, storeBytes};
+ghost use Rattle.board.specs.Image.{taskBytes, placeBytes, alarmBytes, requestBytes, queueAt, headAt, alarmsAt, poolAt, imageLength, imageOf, Stores};
 ghost use Rattle.board.specs.Coding.{codedOf, frontBytes, runBytes, headOf};
 
 // A state's byte, time and mask; time and mask are 0 where it has none.
@@ -177,8 +177,7 @@ pub(crate) fn put_table(out: &mut [u8], table: Table)
 
 // Stores a table: 0 and its image in out, or 1 where out has not the image's length, and no byte is changed.
 pub fn store(table: Table, out: &mut [u8]) -> u8
-    ensures { λ r. ⌜ r ≡ storeNumber (now (out .entry)) ⌝ }
-    ensures { λ _. ⌜ now (out .exit) ≡ storeBytes table (now (out .entry)) ⌝ }
+    ensures { λ r. ⌜ Stores table (now (out .entry)) (now (out .exit)) r ⌝ }
 {
     if out.len() != 896 {
         return 1;

@@ -17,7 +17,7 @@ use Rattle.records.specs.Kinds.{bodyOf, lengthOf, kindOf}
 use Rattle.records.specs.Calls.{gotOf}
 use Rattle.records.specs.Reading.{readAs, readOf}
 use Rattle.records.specs.Writing.{bytesOf}
-use Rattle.records.proofs.RoundTrips.{write-read}
+use Rattle.records.proofs.Assured.{promises}
 use Rattle.executive.specs.declared.Table.{Table}
 use Rattle.executive.specs.Queue.{pick}
 use Rattle.executive.specs.Table.{carry}
@@ -161,7 +161,7 @@ step-kind call.End = refl
 
 module _ (t : Table) (c : Call) (w : isWellFormed t ≡ true) where
   pub take-call : isStep c ≡ true → performed t c ≡ stepOf t (bytesOf c)
-  take-call h = step-read t (bytesOf c) w (some-bytes c) (step-kind c ∙ h) c (write-read c)
+  take-call h = step-read t (bytesOf c) w (some-bytes c) (step-kind c ∙ h) c (promises .write-read c)
 
   pub take-no-call : isStep c ≡ false → refused t 4 ≡ stepOf t (bytesOf c)
   take-no-call h = step-no-call t (bytesOf c) w (some-bytes c) (step-kind c ∙ h)

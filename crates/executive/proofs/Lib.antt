@@ -53,3 +53,4 @@ pub mod Clear
 pub mod Answered
 pub mod Others
 pub mod Skipping
+pub mod Assured

@@ -11,10 +11,10 @@ use Rattle.records.specs.declared.Call.{Call}
 use Rattle.records.specs.declared.Call.the-variants as call
 use Rattle.records.specs.declared.Got.{Got}
 use Rattle.records.specs.declared.Got.the-variants as got
-use Rattle.records.specs.Calls.{InRange}
+use Rattle.records.specs.Calls.{InRange, GotInRange}
 use Rattle.records.specs.Numbers.{Bytes}
 use Rattle.records.specs.Reading.{readOf}
-use Rattle.records.proofs.Ranges.{GotInRange, read-in-range}
+use Rattle.records.proofs.Assured.{promises}
 use Rattle.executive.specs.Numbers.{lastUnit}
 use Rattle.executive.specs.declared.Table.{Table}
 use Rattle.executive.specs.declared.Outcome.{Outcome}
@@ -112,7 +112,7 @@ performed-kept t c w r = let x = performed-is t c w r in rw (x .table) (well-for
 
 -- ---- a record's bytes: the call that is read from bytes fits its bytes
 pub call-in-range : (s : List ℕ) → Bytes s → InRange (callIn s)
-call-in-range s b = go (readOf s) (read-in-range s b)
+call-in-range s b = go (readOf s) (promises .read-in-range s b)
   where
     go : (g : Got) → GotInRange g → InRange (calledBy g)
     go (got.Call c) r = r

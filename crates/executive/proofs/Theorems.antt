@@ -234,6 +234,8 @@ demands = record {
   restarts-by = restarts-by;
   begins-again-by = begins-again-by;
   step-determined = λ t s x y p q. p ∙ sym q;
+  take-determined = λ t c x y p q. p ∙ sym q;
   check-determined = checked-once;
   fresh-determined = λ s x y p q. p ∙ sym q;
+  length-determined = λ s x y p q. p ∙ sym q;
 }

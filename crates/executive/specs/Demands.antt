@@ -21,8 +21,8 @@ use Rattle.executive.specs.Plans.{caller, nothing, endPlan, restartPlan}
 use Rattle.executive.specs.WellFormed.{WellFormed}
 use Rattle.executive.specs.Check.{Checked}
 use Rattle.executive.specs.Refusals.{Refusal, when, planOf, callIn, callRefusals, refusals, firstOf}
-use Rattle.executive.specs.Steps.{stepOf}
-use Rattle.executive.specs.Fresh.{freshOf}
+use Rattle.executive.specs.Steps.{stepOf, Steps, Takes}
+use Rattle.executive.specs.Fresh.{Makes, Measures}
 
 -- ---- the plan that a step executes: its kind's, where it is accepted; where it is refused, nothing
 abbrev pub planFor : Table → ℕ → Call → Plan
@@ -143,7 +143,9 @@ pub record Demands : Type 0 where
       → aimAt (taskAt (t .tasks) (caller t .0) .start) (t .rest .clock) p n .0 ≤ t .rest .clock .0 → RestartsBy (0x01 ∷ p ∷ n ∷ []) t
   pub begins-again-by : (t : Table) → stepOf t (0x00 ∷ []) .answer .number ≡ 0
       → placeOf (caller t .0) (requests (t .rest)) < length (requests (t .rest)) → RestartsBy (0x00 ∷ []) t
-  -- any two outcomes that a public entry's contract allows are equal
-  pub step-determined : (t : Table) (s : List ℕ) (x y : Outcome) → x ≡ stepOf t s → y ≡ stepOf t s → x ≡ y
+  -- any two outcomes that a public entry's contract allows are equal: the answer and every field of the table
+  pub step-determined : (t : Table) (s : List ℕ) (x y : Outcome) → Steps t s x → Steps t s y → x ≡ y
+  pub take-determined : (t : Table) (c : Call) (x y : Outcome) → Takes t c x → Takes t c y → x ≡ y
   pub check-determined : (t : Table) (x y : ℕ) → Checked t x → Checked t y → x ≡ y
-  pub fresh-determined : (s : List ℕ) (x y : Fresh) → x ≡ freshOf s → y ≡ freshOf s → x ≡ y
+  pub fresh-determined : (s : List ℕ) (x y : Fresh) → Makes s x → Makes s y → x ≡ y
+  pub length-determined : (s : List ℕ) (x y : ℕ) → Measures s x → Measures s y → x ≡ y

@@ -1,5 +1,6 @@
 -- The fresh table of a configuration (01, "Records"): one 40, then 1 to 16 of 41, then 42, and nothing more.
 use Prim.Native.Nat.{ℕ, zero, suc, _+_, _-_, _*_}
+use mathlib.Core.Path.{_≡_}
 use mathlib.Core.Bool.{Bool}
 use mathlib.Core.List.{List, [], _∷_, _++_}
 use lib.Dec.{eqb, leb}
@@ -85,3 +86,10 @@ freshTable s = admits (starters s (tasksIn s) 1) (begin (dormantTable s)) .table
 -- number 0 and the table, or number 2 and the all-zero table
 unfoldable pub freshOf : List ℕ → Fresh
 freshOf s = pick (isConfiguration s) (record { number = 0; table = freshTable s }) (record { number = 2; table = zeroTable })
+
+-- ---- the contracts: f is what the bytes s make; n is the length of the configuration that they begin with
+abbrev pub Makes : List ℕ → Fresh → Type 0
+Makes s f = f ≡ freshOf s
+
+abbrev pub Measures : List ℕ → ℕ → Type 0
+Measures s n = n ≡ configurationIn s

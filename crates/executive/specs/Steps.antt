@@ -1,11 +1,13 @@
 -- The step: the answer and the table that a record brings about, from any table and any bytes.
 use Prim.Native.Nat.{ℕ, _%_}
+use mathlib.Core.Path.{_≡_}
 use mathlib.Core.Bool.{Bool, false, not}
 use mathlib.Core.List.{List}
 use lib.Dec.{ltb, eqb}
 use Rattle.records.specs.declared.Call.{Call}
 use Rattle.records.specs.declared.Call.the-variants as call
 use Rattle.records.specs.Calls as calls
+use Rattle.records.specs.Writing.{bytesOf}
 use Rattle.executive.specs.declared.Table.{Table}
 use Rattle.executive.specs.declared.Marks.{Marks}
 use Rattle.executive.specs.declared.Answer.{Answer}
@@ -93,6 +95,13 @@ performed t c = outcomeOf t (firstOf (callRefusals t c)) c
 -- a record's bytes, at any table
 unfoldable pub stepOf : Table → List ℕ → Outcome
 stepOf t s = outcomeOf t (firstOf (refusals t s)) (callIn s)
+
+-- ---- the contracts: o is what the record s brings about at the table t, what the call c does
+abbrev pub Steps : Table → List ℕ → Outcome → Type 0
+Steps t s o = o ≡ stepOf t s
+
+abbrev pub Takes : Table → Call → Outcome → Type 0
+Takes t c o = o ≡ stepOf t (bytesOf c)
 
 -- ---- for the code: whether a call that was read is one that a step takes; a configuration record is none
 abbrev pub isStep : Call → Bool

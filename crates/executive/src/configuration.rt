@@ -15,7 +15,7 @@ ghost use Rattle.executive.specs.Table.{Flying, pad, noTask, admits};
 ghost use Rattle.executive.specs.Check.{upTo};
 ghost use Rattle.executive.specs.Cards.{Cards};
 ghost use Rattle.executive.specs.FreshLaw.{FreshLaw};
-ghost use Rattle.executive.specs.Fresh.{placeIn, ownIn, markIn, tasksIn, configurationIn, taskRight, isConfiguration, blankRest, withTasks, dormantAt, sleepers, starter, starters, freshOf};
+ghost use Rattle.executive.specs.Fresh.{placeIn, ownIn, markIn, tasksIn, taskRight, isConfiguration, blankRest, withTasks, dormantAt, sleepers, starter, starters, Makes, Measures};
 
 // The byte at a place, and 0 past the end.
 fn at(s: &[u8], i: usize) -> u8
@@ -67,7 +67,7 @@ fn tasks_in(s: &[u8]) -> u8
 
 // The length of the configuration that the bytes begin with, up to its 42; 0 where they begin with none.
 pub fn length_in(bytes: &[u8]) -> usize
-    ensures { λ r. ⌜ r ≡ configurationIn (now (bytes .entry)) ⌝ }
+    ensures { λ r. ⌜ Measures (now (bytes .entry)) r ⌝ }
 {
     if at(bytes, 0) != 0x40 {
         return 0;
@@ -225,7 +225,7 @@ fn start_marked(w: Work, s: &[u8], n: u8) -> Work
 
 // The table of a configuration's bytes: number 0 and the table, or number 2 and the all-zero table.
 pub fn fresh(bytes: &[u8]) -> Fresh
-    ensures { λ r. ⌜ r ≡ freshOf (now (bytes .entry)) ⌝ }
+    ensures { λ r. ⌜ Makes (now (bytes .entry)) r ⌝ }
 {
     if !is_configuration(bytes) {
         let none = all_dormant(bytes, 0);

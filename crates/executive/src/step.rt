@@ -14,7 +14,7 @@ ghost use Rattle.executive.specs.WellFormed.{WellFormed};
 ghost use mathlib.Core.Bool.{true};
 ghost use Rattle.executive.specs.Check.{isWellFormed};
 ghost use Rattle.executive.specs.Refusals.{planOf, isCall, earlyOf};
-ghost use Rattle.executive.specs.Steps.{isStep, performed, stepOf};
+ghost use Rattle.executive.specs.Steps.{isStep, performed, stepOf, Steps, Takes};
 
 // Whether a record of that kind is a call; a configuration record is none.
 fn is_call(kind: Kind) -> bool
@@ -139,7 +139,7 @@ impl Table {
 
     // A step from a record's bytes, whatever the table and the bytes are: the answer, and the table's state.
     pub fn step(self, bytes: &[u8]) -> Outcome
-        ensures { λ r. ⌜ r ≡ stepOf self (now (bytes .entry)) ⌝ }
+        ensures { λ r. ⌜ Steps self (now (bytes .entry)) r ⌝ }
     {
         if self.is_well_formed() {
             return self.step_checked(bytes);
@@ -149,7 +149,7 @@ impl Table {
 
     // The same from a call that was read: what its record's bytes give.
     pub fn take(self, call: Call) -> Outcome
-        ensures { λ r. ⌜ r ≡ stepOf self (bytesOf call) ⌝ }
+        ensures { λ r. ⌜ Takes self call r ⌝ }
     {
         if self.is_well_formed() {
             return self.take_checked(call);

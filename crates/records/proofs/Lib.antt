@@ -2,3 +2,4 @@
 pub mod Numbers
 pub mod Ranges
 pub mod RoundTrips
+pub mod Assured

@@ -23,6 +23,10 @@ pub number-back : (w x : ℕ) → numberOf (oneAnd w x) ≡ x
 number-back zero x = refl
 number-back (suc w) x = number-last (oneAnd w (x / 256)) (x % 256) ∙ rw (number-back w (x / 256)) (omega arith)
 
+pub fitting-back : (w x : ℕ) → x < 256 ^ w → numberOf (bytesIn w x) ≡ x
+fitting-back zero x h = omega arith
+fitting-back (suc w) x h = number-back w x
+
 -- the bytes of a number of four bytes, by one quotient each
 pub four : (x : ℕ) → x / 16777216 ∷ x / 65536 % 256 ∷ x / 256 % 256 ∷ x % 256 ∷ [] ≡ oneAnd 3 x
 four x =

@@ -1,5 +1,5 @@
 -- A call's numbers are below the bounds of their widths: whoever owns the call knows it, and so does whoever read it from bytes.
-use Prim.Native.Nat.{ℕ, _<_}
+use Prim.Native.Nat.{ℕ}
 use mathlib.Core.List.{List}
 use native.Mathlib.Omega.{arith}
 use lib.Dec.{lit<}
@@ -13,7 +13,7 @@ use Rattle.records.proofs.Got.{the-type as got-type}
 use Rattle.records.proofs.Got.Laws.{the-laws as got-laws}
 use Rattle.records.specs.Numbers.{Bytes, cut}
 use Rattle.records.specs.Kinds.{bodyOf}
-use Rattle.records.specs.Calls.{gotOf, InRange}
+use Rattle.records.specs.Calls.{gotOf, InRange, GotInRange}
 use Rattle.records.specs.Reading.{firstKind, readOf}
 use Rattle.records.specs.declared.Kind.{Kind}
 use Rattle.records.specs.declared.Kind.the-variants as kind
@@ -40,10 +40,6 @@ in-range (call.Task p m) vs q = let known = owed the-type the-laws (call.Task p 
 in-range call.End vs q = tt
 
 -- what a reader's answer owns
-abbrev pub GotInRange : Got → Type 0
-GotInRange (got.Call c) = InRange c
-GotInRange (got.Refused n) = n < 256
-
 pub got-in-range : (g : Got) (vs : List Val) → Is (row got-type) g vs → GotInRange g
 got-in-range (got.Call c) vs q = let o = owed got-type got-laws (got.Call c) vs q in in-range c _ (o .0)
 got-in-range (got.Refused n) vs q = let o = owed got-type got-laws (got.Refused n) vs q in omega arith

@@ -1,5 +1,5 @@
 -- A call as its kind and the numbers of its body.
-use Prim.Native.Nat.{ℕ}
+use Prim.Native.Nat.{ℕ, _<_}
 use mathlib.Core.List.{List, [], _∷_}
 use lib.ListN.{getD}
 use Rattle.records.specs.Numbers.{Fits}
@@ -63,3 +63,8 @@ gotOf kind.End xs = got.Call call.End
 -- each number of a call is below the bound of its width
 abbrev pub InRange : Call → Type 0
 InRange c = Fits (bodyOf (kindIn c)) (fieldsOf c)
+
+-- the same of what a reader answers
+abbrev pub GotInRange : Got → Type 0
+GotInRange (got.Call c) = InRange c
+GotInRange (got.Refused n) = n < 256

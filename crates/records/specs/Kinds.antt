@@ -1,5 +1,6 @@
 -- The table of records, and what is read from it: a kind's first byte, its body, its length, and the kind of a first byte.
 use Prim.Native.Nat.{ℕ, _+_}
+use mathlib.Core.Path.{_≡_}
 use mathlib.Core.List.{List, [], _∷_}
 use mathlib.Core.Bool.{Bool, cond}
 use lib.Dec.{eqb}
@@ -77,3 +78,10 @@ kindAmong rs b = look (λ r. eqb b (r .byte)) (λ r. r .name) kind.Unknown rs
 
 unfoldable pub kindOf : ℕ → Kind
 kindOf b = kindAmong table b
+
+-- ---- the contracts: k is the kind of the first byte b; n is the length of a record of kind k
+abbrev pub KindIs : ℕ → Kind → Type 0
+KindIs b k = k ≡ kindOf b
+
+abbrev pub LengthIs : Kind → ℕ → Type 0
+LengthIs k n = n ≡ lengthOf k

@@ -1,16 +1,21 @@
--- What is promised of the definitions: both round trips, and when each number is given.
-use Prim.Native.Nat.{ℕ, _<_}
+-- What is promised of the definitions: both round trips, when each number is given, and that each contract allows one outcome.
+use Prim.Native.Nat.{ℕ, _<_, _^_}
 use mathlib.Core.Path.{_≡_}
 use mathlib.Core.Logic.{_↔_, _≢_, _⊎_}
 use mathlib.Core.List.{List}
 use lib.ListN.{length}
-use Rattle.records.specs.Numbers.{Bytes}
-use Rattle.records.specs.Kinds.{lengthOf}
-use Rattle.records.specs.Reading.{firstKind, readOf, readNumber}
-use Rattle.records.specs.Writing.{bytesOf, writtenOf, writeNumber}
+use Rattle.records.specs.Numbers.{Bytes, numberOf, bytesIn}
+use Rattle.records.specs.Kinds.{lengthOf, KindIs, LengthIs}
+use Rattle.records.specs.Calls.{GotInRange}
+use Rattle.records.specs.Reading.{firstKind, readOf, Reads, readNumber}
+use Rattle.records.specs.Writing.{bytesOf, writtenOf, Writes, writeNumber}
+use Rattle.records.specs.Trips.{ComesBack, WritesAgain}
+use Rattle.records.specs.declared.Kind.{Kind}
 use Rattle.records.specs.declared.Kind.the-variants as kind
 use Rattle.records.specs.declared.Call.{Call}
+use Rattle.records.specs.declared.Got.{Got}
 use Rattle.records.specs.declared.Got.the-variants as got
+use Rattle.records.specs.declared.Written.{Written}
 
 -- the record is of a carried kind, and its length is not its kind's
 abbrev pub Misfit : List ℕ → Type 0
@@ -28,3 +33,13 @@ pub record Promises : Type 0 where
   -- writing refuses only with 20, and exactly when the buffer is shorter than the record
   pub writes : (c : Call) (o : List ℕ) → (writeNumber (writtenOf c o) ≡ 0) ⊎ (writeNumber (writtenOf c o) ≡ 20)
   pub twenty : (c : Call) (o : List ℕ) → (writeNumber (writtenOf c o) ≡ 20) ↔ (length o < length (bytesOf c))
+  -- a number that fits its width is that of its bytes; what is read from bytes is in range
+  pub number-back : (w x : ℕ) → x < 256 ^ w → numberOf (bytesIn w x) ≡ x
+  pub read-in-range : (s : List ℕ) → Bytes s → GotInRange (readOf s)
+  -- any two outcomes that a public function's contract allows are equal, the answer and every byte of the buffer
+  pub kind-determined : (b : ℕ) (x y : Kind) → KindIs b x → KindIs b y → x ≡ y
+  pub length-determined : (k : Kind) (x y : ℕ) → LengthIs k x → LengthIs k y → x ≡ y
+  pub read-determined : (s : List ℕ) (x y : Got) → Reads s x → Reads s y → x ≡ y
+  pub write-determined : (c : Call) (o p q : List ℕ) (x y : Written) → Writes c o p x → Writes c o q y → (p ≡ q) × (x ≡ y)
+  pub there-determined : (c : Call) (x y : Got) → ComesBack c x → ComesBack c y → x ≡ y
+  pub back-determined : (s o p q : List ℕ) (x y : Written) → WritesAgain s o p x → WritesAgain s o q y → (p ≡ q) × (x ≡ y)

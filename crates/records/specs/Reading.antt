@@ -1,5 +1,6 @@
 -- Reading: the call of a record's bytes, or the number of the refusal.
 use Prim.Native.Nat.{ℕ}
+use mathlib.Core.Path.{_≡_}
 use mathlib.Core.List.{List}
 use mathlib.Core.Bool.{cond}
 use lib.ListN.{length, getD}
@@ -24,6 +25,10 @@ readAs k s =
 -- 3 where it is empty, else read as a record of its first byte's kind
 unfoldable pub readOf : List ℕ → Got
 readOf s = cond (eqb (length s) 0) (got.Refused 3) (readAs (firstKind s) s)
+
+-- ---- the contract: g is what reading s answers
+abbrev pub Reads : List ℕ → Got → Type 0
+Reads s g = g ≡ readOf s
 
 -- the number that a reader's answer carries
 abbrev pub readNumber : Got → ℕ

@@ -31,6 +31,11 @@ writtenOf c o = putOf (bytesOf c) o
 unfoldable pub outOf : Call → List ℕ → List ℕ
 outOf c o = putOutOf (bytesOf c) o
 
+-- ---- the contract: w is what writing c to the buffer o answers, and o then is p
+pub record Writes (c : Call) (o p : List ℕ) (w : Written) : Type 0 where
+  pub answer : w ≡ writtenOf c o
+  pub buffer : p ≡ outOf c o
+
 -- the number that a writer's answer carries
 abbrev pub writeNumber : Written → ℕ
 writeNumber (written.Length n) = 0

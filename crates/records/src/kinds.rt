@@ -1,11 +1,10 @@
 // The kind that a first byte names, and the length of a record of a kind.
 use crate::Kind;
-ghost use mathlib.Core.Path.{_≡_};
-ghost use Rattle.records.specs.Kinds.{kindOf, lengthOf};
+ghost use Rattle.records.specs.Kinds.{KindIs, LengthIs};
 
 // The kind of a record with this first byte.
 pub fn kind_of(byte: u8) -> Kind
-    ensures { λ r. ⌜ r ≡ kindOf byte ⌝ }
+    ensures { λ r. ⌜ KindIs byte r ⌝ }
 {
     match byte {
         0x00 => Kind::Terminate,
@@ -27,7 +26,7 @@ pub fn kind_of(byte: u8) -> Kind
 
 // The length of a whole record of this kind, first byte and body; 0 for Unknown.
 pub fn length_of(kind: Kind) -> usize
-    ensures { λ r. ⌜ r ≡ lengthOf kind ⌝ }
+    ensures { λ r. ⌜ LengthIs kind r ⌝ }
 {
     match kind {
         Kind::Unknown => 0,

@@ -11,7 +11,7 @@ ghost use lib.ListN.{getD};
 ghost use Rattle.records.specs.Numbers.{numberOf, cut};
 ghost use Rattle.records.specs.Kinds.{bodyOf};
 ghost use Rattle.records.specs.Calls.{gotOf};
-ghost use Rattle.records.specs.Reading.{readOf};
+ghost use Rattle.records.specs.Reading.{Reads};
 
 // The byte at a place, and 0 past the end.
 fn at(bytes: &[u8], i: usize) -> u8
@@ -80,7 +80,7 @@ fn call_of(kind: Kind, bytes: &[u8]) -> Got
 
 // The call that a record holds. Refused: 3 where it is empty, 4 where its first byte is no carried kind, 3 where its length is not its kind's.
 pub fn read(bytes: &[u8]) -> Got
-    ensures { λ r. ⌜ r ≡ readOf (now (bytes .entry)) ⌝ }
+    ensures { λ r. ⌜ Reads (now (bytes .entry)) r ⌝ }
 {
     let n = bytes.len();
     if n == 0 {

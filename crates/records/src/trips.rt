@@ -4,12 +4,11 @@ use crate::Got;
 use crate::Written;
 use crate::reading;
 use crate::writing;
-ghost use mathlib.Core.Path.{_≡_};
-ghost use Rattle.records.specs.Trips.{againOf, againOutOf};
+ghost use Rattle.records.specs.Trips.{ComesBack, WritesAgain};
 
 // Writes a call and reads the record: the same call.
 pub fn there_and_back(call: Call) -> Got
-    ensures { λ r. ⌜ r ≡ Got.Call call ⌝ }
+    ensures { λ r. ⌜ ComesBack call r ⌝ }
 {
     let mut record = [0u8; 6];
     match writing::write(call, &mut record) {
@@ -20,8 +19,7 @@ pub fn there_and_back(call: Call) -> Got
 
 // Reads a record and writes its call: the same bytes stand at out's start. Refused, and no byte changed, where the one or the other is.
 pub fn back_and_there(bytes: &[u8], out: &mut [u8]) -> Written
-    ensures { λ r. ⌜ r ≡ againOf (now (bytes .entry)) (now (out .entry)) ⌝ }
-    ensures { λ _. ⌜ now (out .exit) ≡ againOutOf (now (bytes .entry)) (now (out .entry)) ⌝ }
+    ensures { λ r. ⌜ WritesAgain (now (bytes .entry)) (now (out .entry)) (now (out .exit)) r ⌝ }
 {
     match reading::read(bytes) {
         Got::Call(call) => writing::write(call, out),

@@ -5,7 +5,7 @@ ghost use mathlib.Core.Path.{_≡_};
 ghost use mathlib.Core.List.{_++_};
 ghost use Prim.Native.Nat.{_≤_};
 ghost use lib.ListN.{length, take, drop};
-ghost use Rattle.records.specs.Writing.{Encodes, writtenOf, outOf};
+ghost use Rattle.records.specs.Writing.{Encodes, Writes};
 
 // The bytes of a record, with zeros after them, and their number.
 struct Encoded([u8; 6], usize);
@@ -59,8 +59,7 @@ fn put(bytes: [u8; 6], n: usize, out: &mut [u8])
 
 // Puts a call's record at the start of out, whose bytes after it keep their content. Refused with 20 where out is shorter than the record: then no byte changes.
 pub fn write(call: Call, out: &mut [u8]) -> Written
-    ensures { λ r. ⌜ r ≡ writtenOf call (now (out .entry)) ⌝ }
-    ensures { λ _. ⌜ now (out .exit) ≡ outOf call (now (out .entry)) ⌝ }
+    ensures { λ r. ⌜ Writes call (now (out .entry)) (now (out .exit)) r ⌝ }
 {
     let e = encode(call);
     let n = e.1;

@@ -6,8 +6,8 @@ use lib.Seq.{length-take-le}
 use denote.Ref.{now}
 use borrow.Author.Needs.{needs}
 use borrow.Author.Tests.{not-false}
-use Rattle.bench.specs.Pieces.{isMore}
-use Rattle.bench.proofs.Whole.{Sound, lines, start-sound, start-more, filled-in, filled-sound, filled-fewer, filled-more}
+use Rattle.bench.specs.Pieces.{isMore, Sound, lines}
+use Rattle.bench.proofs.Assured.{promise}
 use Rattle.bench_program.proofs.tell.Statement.{statement}
 use Rattle.bench_program.proofs.tell.Tie as tie
 
@@ -18,23 +18,23 @@ abbrev μ-loop : tie.MeasureT-loop
 μ-loop input out₀ run₀ out run = lines input run
 
 loop-holds : tie.Need-loop-holds Inv-loop μ-loop
-loop-holds c = (search needs, rw (c .start .ensures) (start-sound (now (c .before .before .args .input))), rw (c .start .ensures) (start-more (now (c .before .before .args .input))))
+loop-holds c = (search needs, rw (c .start .ensures) (promise .start-sound (now (c .before .before .args .input))), rw (c .start .ensures) (promise .start-more (now (c .before .before .args .input))))
 
 array-share-prefix-out : tie.Need-array-share-prefix-out Inv-loop μ-loop
 array-share-prefix-out c =
     let f = c .before .fill in
-    omega (arith, filled-in (f .ensures), f .kept .1 .1 .0, c .before .before .before .loop .inv .0)
+    omega (arith, promise .within _ _ _ _ _ (f .ensures), f .kept .1 .1 .0, c .before .before .before .loop .inv .0)
 
 slice-aggregate-write-all : tie.Need-slice-aggregate-write-all Inv-loop μ-loop
 slice-aggregate-write-all c =
     let f = c .before .before .fill in
-    sym (length-take-le (f .result .used) (f .last .1 .1 .0) (filled-in (f .ensures)))
+    sym (length-take-le (f .result .used) (f .last .1 .1 .0) (promise .within _ _ _ _ _ (f .ensures)))
 
 loop-less : tie.Need-loop-less Inv-loop μ-loop
-loop-less c = filled-fewer (c .before .before .before .before .before .before .fill .ensures) (c .before .before .before .before .before .before .before .before .loop .inv .1) (omega (arith, c .before .before .before .before .before .before .before .before .loop .inv .0)) (c .before .before .before .before .before .before .before .before .loop .inv .2)
+loop-less c = promise .fewer _ _ _ _ _ (c .before .before .before .before .before .before .fill .ensures) (c .before .before .before .before .before .before .before .before .loop .inv .1) (omega (arith, c .before .before .before .before .before .before .before .before .loop .inv .0)) (c .before .before .before .before .before .before .before .before .loop .inv .2)
 
 loop-again : tie.Need-loop-again Inv-loop μ-loop
-loop-again c = (search needs, filled-sound (c .before .before .before .before .before .before .fill .ensures) (c .before .before .before .before .before .before .before .before .loop .inv .1), filled-more (c .before .before .before .before .before .before .fill .ensures) (not-false _ (c .before .if1 .left)))
+loop-again c = (search needs, promise .sound _ _ _ _ _ (c .before .before .before .before .before .before .fill .ensures) (c .before .before .before .before .before .before .before .before .loop .inv .1), promise .more _ _ _ _ _ (c .before .before .before .before .before .before .fill .ensures) (not-false _ (c .before .if1 .left)))
 
 pub tell-spec : {M : Type 1} → statement M
 tell-spec =

@@ -19,7 +19,7 @@ returns : tie.Need-returns
 returns c =
     let a = c .before .before .before .before .args in
     let e = step-short (now (a .image)) (now (a .call)) (now (a .answer)) (c .if1 .taken) in
-    (e .0, (e .1 .0, (e .1 .1, λ z. absurd (omega arith))))
+    record { number = e .0; image = e .1 .0; answer = e .1 .1; holds = λ z. absurd (omega arith) }
 
 returns-2 : tie.Need-returns-2
 returns-2 c =
@@ -31,7 +31,7 @@ returns-2 c =
     step-none s (now (a .call)) (now (a .answer)) (c .before .before .before .before .before .before .before .before .before .before .if1 .left)
     (told s (l .result) (l .ensures) (i .ensures) ∙ not-true (i .result) (c .before .before .before .before .before .if2 .taken))
     (c .before .before .put-answer .ensures ∙ ap (λ x. written (now (a .answer)) 0 (answerBytes x)) (c .before .before .before .before .no-table .ensures)) in
-    (e .0, (e .1 .0, (e .1 .1, λ z. absurd (omega arith))))
+    record { number = e .0; image = e .1 .0; answer = e .1 .1; holds = λ z. absurd (omega arith) }
 
 returns-3 : tie.Need-returns-3
 returns-3 c =
@@ -43,7 +43,7 @@ returns-3 c =
     let e = told s (l .result) (l .ensures) (i .ensures) ∙ not-false (i .result) (c .before .before .before .before .before .before .before .if2 .left) in
     let d =
     step-refused s (now (a .call)) (now (a .answer)) (c .before .before .before .before .before .before .before .before .before .before .before .before .if1 .left) (x .result) (x .ensures ∙ ap (λ t. stepOf t (now (a .call))) (l .ensures)) e (c .if3 .taken) (c .before .before .before .put-answer2 .ensures) in
-    (d .0, (d .1 .0, (d .1 .1, λ z. absurd (c .if3 .taken z))))
+    record { number = d .0; image = d .1 .0; answer = d .1 .1; holds = λ z. absurd (c .if3 .taken z) }
 
 put-table-requires : tie.Need-put-table-requires
 put-table-requires c κs =
@@ -67,7 +67,7 @@ returns-4 c =
     step-done s (now (a .call)) (now (a .answer)) (c .before .before .before .before .before .before .before .before .before .before .before .before .before .before .before .before .before .if1 .left) (x .result) (x .ensures ∙ ap (λ t. stepOf t (now (a .call))) (l .ensures)) e (omega (arith, c .before .before .before .before .before .if3 .left)) (c .before .before .before .before .before .before .before .before .put-answer2 .ensures) (c .before .before .put-table .ensures) in
     let h =
     holds (x .result .table) (stepOf (loadOf s) (now (a .call)) .table) (outcome-owned (x .result) _ (x .ok)) (ap (λ (y : Outcome). y .table) ex) (c .before .before .put-table .ensures) in
-    (d .0, (d .1 .0, (d .1 .1, λ z. h)))
+    record { number = d .0; image = d .1 .0; answer = d .1 .1; holds = λ z. h }
 
 pub quermanic-step-spec : {M : Type 1} → statement M
 quermanic-step-spec =

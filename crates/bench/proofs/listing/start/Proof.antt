@@ -3,7 +3,7 @@ use denote.Ref.{now}
 use lib.Seq.{length-take-le}
 use Prim.Native.Nat.{_≤_}
 use lib.ListN.{length}
-use Rattle.executive.proofs.Shape.{within}
+use Rattle.executive.proofs.Assured.{fresh-law}
 use Rattle.bench.specs.Pieces.{startOf}
 use borrow.Author.Needs.{needs}
 use Rattle.bench.proofs.listing.start.Statement.{statement}
@@ -12,7 +12,7 @@ use Rattle.bench.proofs.listing.start.Tie as tie
 slice-aggregate-fresh : tie.Need-slice-aggregate-fresh
 slice-aggregate-fresh c =
     let s = now (c .before .before .before .args .input) in
-    let h : c .before .length-in .result ≤ length s = rw (c .before .length-in .ensures) (within s) in
+    let h : c .before .length-in .result ≤ length s = rw (c .before .length-in .ensures) (fresh-law .within s) in
     sym (length-take-le (c .before .length-in .result) s h)
 
 returns : tie.Need-returns

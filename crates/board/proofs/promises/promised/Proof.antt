@@ -1,5 +1,5 @@
 -- `promises::promised`: the promises hold.
-use Rattle.board.proofs.Answered.{promises}
+use Rattle.board.proofs.Assured.{promises}
 use Rattle.board.proofs.promises.promised.Statement.{statement}
 use Rattle.board.proofs.promises.promised.Tie as tie
 

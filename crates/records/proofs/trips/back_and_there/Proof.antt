@@ -15,10 +15,11 @@ returns c =
     let r = k .before .before in
     let a = r .before .before .before .args in
     let h : Bytes (now (a .bytes)) = λ i. omega (arith, r .before .before .shared-slice-known .given i) in
-    let e = sym (r .read .ensures) ∙ k .call .given .1 in (
-      w .ensures .0 ∙ again-call (now (a .bytes)) (now (a .out)) (k .call .given .0 .0) h e,
-      w .ensures .1 ∙ again-out (now (a .bytes)) (now (a .out)) (k .call .given .0 .0) h e,
-    )
+    let e = sym (r .read .ensures) ∙ k .call .given .1 in
+    record {
+      answer = w .ensures .answer ∙ again-call (now (a .bytes)) (now (a .out)) (k .call .given .0 .0) h e;
+      buffer = w .ensures .buffer ∙ again-out (now (a .bytes)) (now (a .out)) (k .call .given .0 .0) h e;
+    }
 
 returns-2 : tie.Need-returns-2
 returns-2 c =
@@ -26,7 +27,7 @@ returns-2 c =
     let r = k .before .before in
     let a = r .before .before .before .args in
     let e = sym (r .read .ensures) ∙ k .number .given .1 in
-    (again-refused (now (a .bytes)) (now (a .out)) _ e, again-kept (now (a .bytes)) (now (a .out)) _ e)
+    record { answer = again-refused (now (a .bytes)) (now (a .out)) _ e; buffer = again-kept (now (a .bytes)) (now (a .out)) _ e }
 
 pub back-and-there-spec : {M : Type 1} → statement M
 back-and-there-spec =

@@ -26,7 +26,7 @@ last c = c .before .before .before .before .write .last .1 .0
 counted : (c : tie.After-known-told) → count c ≡ length (bytesOf (c .before .before .before .before .before .before .args .call))
 counted c =
     write-length (c .before .before .before .before .before .before .args .call) zeros (lit≤ tt) (count c)
-    (sym (c .before .n .given .1) ∙ c .before .before .before .before .write .ensures .0)
+    (sym (c .before .n .given .1) ∙ c .before .before .before .before .write .ensures .answer)
 
 within : (c : tie.After-known-told) → count c ≤ length (last c)
 within c = omega (arith, counted c, bytes-short (c .before .before .before .before .before .before .args .call), c .before .before .before .before .write .kept .1 .0)
@@ -42,13 +42,13 @@ returns c =
     let d = c .before .before in
     let a = d .before .before .before .before .before .before .args in
     c .read .ensures
-    ∙ ap readOf (out-start (a .call) zeros (lit≤ tt) (count d) (last d) (counted d) (d .before .before .before .before .write .ensures .1))
+    ∙ ap readOf (out-start (a .call) zeros (lit≤ tt) (count d) (last d) (counted d) (d .before .before .before .before .write .ensures .buffer))
     ∙ write-read (a .call)
 
 returns-2 : tie.Need-returns-2
 returns-2 c =
     let w = c .before .before .before .before .write in
-    absurd (write-never (c .before .before .before .before .before .before .args .call) zeros (lit≤ tt) _ (sym (c .before .number .given .1) ∙ w .ensures .0))
+    absurd (write-never (c .before .before .before .before .before .before .args .call) zeros (lit≤ tt) _ (sym (c .before .number .given .1) ∙ w .ensures .answer))
 
 pub there-and-back-spec : {M : Type 1} → statement M
 there-and-back-spec =

@@ -17,7 +17,7 @@ returns c =
     let a = c .before .before .before .args in
     let e = c .before .encode .ensures in
     let h : length (now (a .out)) < length (bytesOf (a .call)) = omega (arith, e .count) in
-    (write-refused (a .call) (now (a .out)) h, out-kept (a .call) (now (a .out)) h)
+    record { answer = write-refused (a .call) (now (a .out)) h; buffer = out-kept (a .call) (now (a .out)) h }
 
 returns-2 : tie.Need-returns-2
 returns-2 c =
@@ -25,13 +25,14 @@ returns-2 c =
     let a = d .before .before .args in
     let e = d .encode .ensures in
     let s = now (a .out) in
-    let h : length (bytesOf (a .call)) ≤ length s = omega (arith, e .count) in (
-      ap written.Length (e .count) ∙ write-done (a .call) s h,
-      c .before .before .put .ensures
+    let h : length (bytesOf (a .call)) ≤ length s = omega (arith, e .count) in
+    record {
+      answer = ap written.Length (e .count) ∙ write-done (a .call) s h;
+      buffer = c .before .before .put .ensures
           ∙ ap (λ b. b ++ drop (d .encode .result .1) s) (e .bytes)
           ∙ ap (λ k. bytesOf (a .call) ++ drop k s) (e .count)
-          ∙ out-done (a .call) s h,
-    )
+          ∙ out-done (a .call) s h;
+    }
 
 pub write-spec : {M : Type 1} → statement M
 write-spec = tie.close (tie.spec (λ c κs. search needs) returns (λ c κs. search needs) (λ c. search needs) returns-2)

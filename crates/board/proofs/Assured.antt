@@ -1,0 +1,28 @@
+-- What is promised holds.
+use mathlib.Core.Path.{sym, _∙_}
+use Rattle.board.specs.Promises.{Promises}
+use Rattle.board.proofs.Trips.{load-store, image-parts, stored, load-fits}
+use Rattle.board.proofs.Answered.{refused, short, not-made}
+use Rattle.board.proofs.Histories.{fresh-kept, step-kept, active, overtaking}
+
+pub promises : Promises
+promises = record {
+  load-store = load-store;
+  store-load = λ s e. image-parts s e .1;
+  stored = stored;
+  sized = λ s e. image-parts s e .0;
+  load-fits = load-fits;
+  refused = refused;
+  short = short;
+  not-made = not-made;
+  fresh-kept = fresh-kept;
+  step-kept = step-kept;
+  active = active;
+  overtaking = overtaking;
+  fresh-determined = λ g o _ _ x y p q. (p .image ∙ sym (q .image), p .number ∙ sym (q .number));
+  check-determined = λ s x y p q. p .number ∙ sym (q .number);
+  step-determined = λ s k o _ _ _ _ x y p q. (p .image ∙ sym (q .image), p .answer ∙ sym (q .answer), p .number ∙ sym (q .number));
+  load-determined = λ s x y p q. p ∙ sym q;
+  store-determined = λ t o _ _ x y p q. (p .image ∙ sym (q .image), p .number ∙ sym (q .number));
+  trip-determined = λ t x y p q. p ∙ sym q;
+}

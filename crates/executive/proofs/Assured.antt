@@ -1,0 +1,16 @@
+-- What is promised holds. Of the modules here the crates above name this one and no other.
+use Rattle.executive.specs.Demands.{Demands}
+use Rattle.executive.specs.Check.{Decided}
+use Rattle.executive.specs.FreshLaw.{FreshLaw}
+use Rattle.executive.proofs.Checked as checked
+use Rattle.executive.proofs.Shown as shown
+use Rattle.executive.proofs.Theorems as theorems
+
+pub demands : Demands
+demands = theorems.demands
+
+pub decided : Decided
+decided = checked.decided
+
+pub fresh-law : FreshLaw
+fresh-law = shown.fresh-law

@@ -1,0 +1,27 @@
+-- What is promised holds. Of the modules here the crates above name this one and no other.
+use mathlib.Core.Path.{sym, _∙_}
+use Rattle.records.specs.Promises.{Promises}
+use Rattle.records.proofs.Numbers.{fitting-back}
+use Rattle.records.proofs.Ranges.{read-in-range}
+use Rattle.records.proofs.RoundTrips.{write-read, read-write}
+use Rattle.records.proofs.reading.Laws.{reads, three, four}
+use Rattle.records.proofs.writing.Laws.{writes, twenty}
+
+pub promises : Promises
+promises = record {
+  write-read = write-read;
+  read-write = read-write;
+  reads = reads;
+  three = three;
+  four = four;
+  writes = writes;
+  twenty = twenty;
+  number-back = fitting-back;
+  read-in-range = read-in-range;
+  kind-determined = λ b x y p q. p ∙ sym q;
+  length-determined = λ k x y p q. p ∙ sym q;
+  read-determined = λ s x y p q. p ∙ sym q;
+  write-determined = λ c o _ _ x y p q. (p .buffer ∙ sym (q .buffer), p .answer ∙ sym (q .answer));
+  there-determined = λ c x y p q. p ∙ sym q;
+  back-determined = λ s o _ _ x y p q. (p .buffer ∙ sym (q .buffer), p .answer ∙ sym (q .answer));
+}
