@@ -153,7 +153,7 @@ module _ (s : List ℕ) (n : ℕ) (few : n ≤ 16) (right : (k : ℕ) → 0 < k 
       go false ih = ih ts (record { size = d .size; linked = d .linked; own = d .own; dormant = λ i l. d .dormant i (omega arith) })
 
 -- ---- the starts are a plan, and it is good
-abbrev startsPlan : List ℕ → Plan
+abbrev pub startsPlan : List ℕ → Plan
 startsPlan s = record { out = stays; ins = starters s (tasksIn s) 1; rest = dormantTable s .rest }
 
 starts-good : (s : List ℕ) → Bytes s → Told s → Good (startsPlan s) (dormantTable s)
@@ -168,7 +168,7 @@ starts-good s b c =
     }) in
     record { leaving = refl; joining = d .joining; linked = up-ok (d .linked); own = d .own; rested = f .rested }
 
-starts-kept : (s : List ℕ) → Bytes s → isConfiguration s ≡ true → Kept (startsPlan s) (dormantTable s)
+pub starts-kept : (s : List ℕ) → Bytes s → isConfiguration s ≡ true → Kept (startsPlan s) (dormantTable s)
 starts-kept s b e = let c = told s e in apply-kept (startsPlan s) (dormantTable s) (dormant-formed s b c) (starts-good s b c)
 
 -- in flight it is the fresh table
@@ -176,7 +176,7 @@ starts-are : (s : List ℕ) → carry (startsPlan s) (dormantTable s) ≡ admits
 unfolding depart
 starts-are s = carry-still (startsPlan s) (dormantTable s) refl
 
-fresh-is : (s : List ℕ) → freshTable s ≡ carry (startsPlan s) (dormantTable s) .table
+pub fresh-is : (s : List ℕ) → freshTable s ≡ carry (startsPlan s) (dormantTable s) .table
 unfolding freshTable
 fresh-is s = ap (λ (w : Work). w .table) (sym (starts-are s))
 

@@ -41,6 +41,7 @@ pub mod Flagged
 pub mod Shape
 pub mod Spelled
 pub mod Begun
+pub mod SaidOut
 pub mod Performed
 pub mod Untouched
 pub mod Decided

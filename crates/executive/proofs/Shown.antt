@@ -13,6 +13,7 @@ use Rattle.executive.specs.Cards.{afterCalls, Cards}
 use Rattle.executive.specs.FreshLaw.{FreshLaw}
 use Rattle.executive.proofs.Shape.{within, found-again}
 use Rattle.executive.proofs.Spelled.{spelled, tested}
+use Rattle.executive.proofs.SaidOut.{said-out}
 use Rattle.executive.proofs.Begun.{fresh-formed, fresh-room, fresh-clock, fresh-flags, fresh-made, fresh-refused}
 
 pub cards : Cards
@@ -38,6 +39,7 @@ fresh-law = record {
   exactly = λ s. (spelled s, tested s);
   formed = fresh-formed;
   room = fresh-room;
+  said-out = said-out;
   clock = fresh-clock;
   flags = fresh-flags;
   made = fresh-made;

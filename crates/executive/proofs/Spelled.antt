@@ -1,6 +1,6 @@
 -- The test of a configuration's bytes passes exactly where they are one 40, 1 to 16 of 41, and 42.
 use Prim.Native.Nat.{ℕ, zero, suc, _+_, _-_, _*_, _≤_, _<_}
-use mathlib.Core.Path.{_≡_, refl, ap, _∙_}
+use mathlib.Core.Path.{_≡_, refl, sym, ap, _∙_}
 use mathlib.Core.Bool.{Bool, true, false}
 use mathlib.Core.List.{List, [], _∷_}
 use native.Mathlib.Omega.{arith}
@@ -8,7 +8,7 @@ use native.Mathlib.Nat.{le-of-suc-le-suc}
 use borrow.Author.Tests.{le-leb, eq-eqb, eqb-true}
 use lib.Dec.{eqb}
 use lib.ListN.{length, getD, drop, drop-of-length-le}
-use lib.Seq.{drop-cons}
+use lib.Seq.{drop-cons, getD-drop, drop-drop}
 use Rattle.executive.specs.Queue.{pick}
 use Rattle.executive.specs.Fresh.{granuleIn, placeIn, ownIn, markIn, tasksFrom, tasksIn, configurationIn, taskRight, isConfiguration}
 use Rattle.executive.specs.FreshLaw.{Entry, recordsOf, AllRight, Configuration}
@@ -16,7 +16,7 @@ use Rattle.executive.proofs.Tally.{all-make}
 use Rattle.executive.proofs.Shape.{Told, told}
 
 -- ---- from the test to the words: the tasks are read off the bytes
-unfoldable entriesIn : List ℕ → ℕ → ℕ → List Entry
+unfoldable pub entriesIn : List ℕ → ℕ → ℕ → List Entry
 entriesIn s zero k = []
 entriesIn s (suc n) k = record { own = ownIn s k; mark = markIn s k } ∷ entriesIn s n (suc k)
 
@@ -148,6 +148,22 @@ module _ (g : ℕ) (es : List Entry) (some : 1 ≤ length es) (few : length es �
   test-is =
       let l : length whole ≡ 3 * length es + 3 = omega (arith, length-records es) in
       rw (length-is, count-is, le-leb 1 (length es) some, eq-eqb (length whole) (3 * length es + 3) l, le-leb 1 g time) (all-make (taskRight whole) (length es) task-right)
+
+-- the tasks read off a configuration's bytes are those that it was spelled from
+entries-from : (s : List ℕ) (es : List Entry) (k : ℕ) → 0 < k → drop (placeIn k) s ≡ recordsOf es → entriesIn s (length es) k ≡ es
+unfolding entriesIn recordsOf
+entries-from s [] k h d = refl
+entries-from s (e ∷ es) k h d =
+    let own : ownIn s k ≡ e .own = sym (getD-drop (placeIn k) s 1 0) ∙ ap (λ (u : List ℕ). getD u 1 0) d in
+    let mark : markIn s k ≡ e .mark = sym (getD-drop (placeIn k) s 2 0) ∙ ap (λ (u : List ℕ). getD u 2 0) d in
+    let z : placeIn k + 3 ≡ placeIn (suc k) = omega arith in
+    let next : drop (placeIn (suc k)) s ≡ recordsOf es = ap (λ (n : ℕ). drop n s) (sym z) ∙ sym (drop-drop 3 (placeIn k) s) ∙ ap (drop 3) d in
+    rw (own, mark, entries-from s es (suc k) (omega arith) next) refl
+
+pub entries-back : (s : List ℕ) (c : Configuration s) → (tasksIn s ≡ length (c .tasks)) × (granuleIn s ≡ c .granule) × (entriesIn s (tasksIn s) 1 ≡ c .tasks)
+entries-back s c =
+    let n : tasksIn s ≡ length (c .tasks) = rw (c .bytes) (count-is (c .granule) (c .tasks) (c .some) (c .few) (c .time) (c .right)) in
+    (n, rw (c .bytes) refl, rw n (entries-from s (c .tasks) 1 (omega arith) (rw (c .bytes) refl)))
 
 pub tested : (s : List ℕ) → Configuration s → isConfiguration s ≡ true
 tested s c = rw (c .bytes) (test-is (c .granule) (c .tasks) (c .some) (c .few) (c .time) (c .right))

@@ -40,7 +40,7 @@ unfolding activeOf items
 head-is-active ts [] = refl
 head-is-active ts (c ∷ q) = refl
 
-plan-tasks : (p : Plan) (t : Table) → apply p t .tasks ≡ after-tasks p t
+pub plan-tasks : (p : Plan) (t : Table) → apply p t .tasks ≡ after-tasks p t
 unfolding apply
 plan-tasks p t = joins-tasks (p .ins) (depart (p .out) t) ∙ ap (puts (p .ins)) (out-tasks (p .out) t)
 

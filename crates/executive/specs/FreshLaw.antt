@@ -1,16 +1,21 @@
 -- What holds of every configuration and its fresh table, as one list under one statement.
-use Prim.Native.Nat.{ℕ, _≤_}
+use Prim.Native.Nat.{ℕ, suc, _≤_}
 use mathlib.Core.Path.{_≡_}
 use mathlib.Core.Bool.{true, false}
-use mathlib.Core.List.{List, [], _∷_, _++_}
+use mathlib.Core.List.{List, [], _∷_, _++_, map}
 use mathlib.Core.Logic.{_↔_}
+use lib.Dec.{eqb}
 use lib.ListN.{length}
 use Rattle.records.specs.Numbers.{Bytes}
-use Rattle.executive.specs.Numbers.{mostTasks, highest}
-use Rattle.executive.specs.Table.{begin, admits}
+use Rattle.executive.specs.declared.State.the-variants.{Ready}
+use Rattle.executive.specs.declared.Task.{Task}
+use Rattle.executive.specs.declared.Table.{Table}
+use Rattle.executive.specs.Numbers.{mostTasks, mostQueued, flagCount, highest}
+use Rattle.executive.specs.Queue.{Item, pick, inserts}
+use Rattle.executive.specs.Table.{nobody, never, noTask, noRequest, pad, view, begin, admits}
 use Rattle.executive.specs.Plans.{caller}
 use Rattle.executive.specs.WellFormed.{WellFormed}
-use Rattle.executive.specs.Fresh.{tasksIn, configurationIn, isConfiguration, zeroTable, dormantTable, starters, freshTable, freshOf}
+use Rattle.executive.specs.Fresh.{tasksIn, configurationIn, isConfiguration, zeroTable, dormantAt, dormantTable, starters, freshTable, freshOf}
 
 -- ---- a configuration in 01's words: one 40, then 1 to 16 of 41, then 42, and nothing more
 -- what the record of a task gives: own priority 0 to 15; mark 1 or 0
@@ -35,6 +40,28 @@ pub record Configuration (s : List ℕ) : Type 0 where
   pub time : 1 ≤ granule
   pub right : AllRight tasks
 
+-- ---- the fresh table in 01's words: the marked tasks start in ascending number at their own priority, with argument 0 and scheduled start 0
+abbrev pub startedAt : ℕ → Task
+startedAt p = record { own = p; state = Ready; priority = p; argument = 0; start = never; «end_waiter» = nobody }
+
+abbrev pub entryOf : Entry → Task
+entryOf e = pick (eqb (e .mark) 1) (startedAt (e .own)) (dormantAt (e .own))
+
+-- the marked ones of some tasks, the first of them numbered k
+unfoldable pub marked : ℕ → List Entry → List Item
+marked k [] = []
+marked k (e ∷ es) = pick (eqb (e .mark) 1) (record { task = k; prio = e .own } ∷ marked (suc k) es) (marked (suc k) es)
+
+pub record SaidOut (g : ℕ) (es : List Entry) (t : Table) : Type 0 where
+  pub count : t .rest .count ≡ length es
+  pub granule : t .rest .granule ≡ g
+  -- the marked are ready, all others dormant, each with its own priority; the places past the count are zero
+  pub tasks : t .tasks ≡ pad mostTasks noTask (map entryOf es)
+  -- the marked entered the empty queue, in ascending number
+  pub queue : view t ≡ inserts (marked 1 es) []
+  pub no-alarm : t .rest .alarms ≡ pad flagCount never []
+  pub no-request : (t .rest .queued ≡ 0) × (t .rest .pool ≡ pad mostQueued noRequest [])
+
 -- the configuration of 01's listing
 abbrev pub listing : List ℕ
 listing = 0x40 ∷ 0x0A ∷ 0x41 ∷ 0x07 ∷ 0x01 ∷ 0x41 ∷ 0x05 ∷ 0x01 ∷ 0x41 ∷ 0x07 ∷ 0x00 ∷ 0x42 ∷ []
@@ -45,6 +72,7 @@ pub record FreshLaw : Type 0 where
   -- from any configuration the fresh table is well formed, and no start finds the ready queue full
   pub formed : (s : List ℕ) → Bytes s → isConfiguration s ≡ true → WellFormed (freshTable s)
   pub room : (s : List ℕ) → Bytes s → isConfiguration s ≡ true → admits (starters s (tasksIn s) 1) (begin (dormantTable s)) .full ≡ false
+  pub said-out : (s : List ℕ) → Bytes s → (c : Configuration s) → SaidOut (c .granule) (c .tasks) (freshTable s)
   -- its clock is 0, no flag is set
   pub clock : (s : List ℕ) → freshTable s .rest .clock .0 ≡ 0
   pub flags : (s : List ℕ) → freshTable s .rest .flags ≡ 0
