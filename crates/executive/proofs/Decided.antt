@@ -101,14 +101,17 @@ unfolding refusals
 numbers t s =
     (λ e. omega arith, (λ e. omega arith, (λ e. omega arith, (λ e. omega arith, (λ e. omega arith, (λ e. omega arith, (λ e. omega arith, (λ e. omega arith, (λ e. omega arith, (λ e. omega arith, (λ e. omega arith, tt)))))))))))
 
+pub step-number : (t : Table) (s : List ℕ) → stepOf t s .answer .number ≡ firstOf (refusals t s)
+unfolding stepOf
+step-number t s = number-is t (firstOf (refusals t s)) (callIn s)
+
 pub decided : (t : Table) (s : List ℕ) → Decides (refusals t s) (stepOf t s .answer .number)
 unfolding stepOf
 decided t s = rw (number-is t (firstOf (refusals t s)) (callIn s)) (first-decides (refusals t s) (numbers t s))
 
 -- accepted: no condition holds, and the table is well formed
 pub allowed : (t : Table) (s : List ℕ) → stepOf t s .answer .number ≡ 0 → firstOf (refusals t s) ≡ 0
-unfolding stepOf
-allowed t s e = sym (number-is t (firstOf (refusals t s)) (callIn s)) ∙ e
+allowed t s e = sym (step-number t s) ∙ e
 
 pub allowed-formed : (t : Table) (s : List ℕ) → stepOf t s .answer .number ≡ 0 → WellFormed t
 unfolding refusals

@@ -45,6 +45,7 @@ pub mod SaidOut
 pub mod Performed
 pub mod Untouched
 pub mod Decided
+pub mod Given
 pub mod Chosen
 pub mod Theorems
 pub mod Example

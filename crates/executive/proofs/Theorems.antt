@@ -37,6 +37,7 @@ use Rattle.executive.proofs.Plans.{runs}
 use Rattle.executive.proofs.Clear.{early, end-owed, restart-owed}
 use Rattle.executive.proofs.Performed.{call-allowed, step-is, step-kept}
 use Rattle.executive.proofs.Decided.{decided, unformed, order, allowed, allowed-formed, refusal-keeps, answers-active}
+use Rattle.executive.proofs.Given.{given}
 use Rattle.executive.proofs.Checked.{well-formed-iff, checked-once}
 use Rattle.executive.proofs.Chosen.{prio-is, named, of-kind, dispatches}
 use Rattle.executive.proofs.Untouched.{head-is-active, step-others}
@@ -219,6 +220,7 @@ pub demands : Demands
 demands = record {
   refusal-keeps = refusal-keeps;
   decided = decided;
+  given = given;
   unformed = unformed;
   order = order;
   kept = kept;

@@ -21,6 +21,7 @@ use Rattle.executive.specs.Plans.{caller, nothing, endPlan, restartPlan}
 use Rattle.executive.specs.WellFormed.{WellFormed}
 use Rattle.executive.specs.Check.{Checked}
 use Rattle.executive.specs.Refusals.{Refusal, when, planOf, callIn, callRefusals, refusals, firstOf}
+use Rattle.executive.specs.Given.{Given}
 use Rattle.executive.specs.Steps.{stepOf, Steps, Takes}
 use Rattle.executive.specs.Fresh.{Makes, Measures}
 
@@ -112,10 +113,11 @@ pub record RestartsBy (s : List ℕ) (t : Table) : Type 0 where
 
 -- ---- all of it: t is any table, s any record, ss any records
 pub record Demands : Type 0 where
-  -- 1: a refusal changes nothing, and its number is the first of the list whose condition holds, number 1 exactly for a table that is not well formed; the list is
-  -- in 01's order; every step keeps the table well formed
+  -- 1: a refusal changes nothing, and its number is the first of the list whose condition holds, in 01's words too (`Given`), number 1 exactly for a table that is
+  -- not well formed; the list is in 01's order; every step keeps the table well formed
   pub refusal-keeps : (t : Table) (s : List ℕ) → stepOf t s .answer .number ≢ 0 → stepOf t s .table ≡ t
   pub decided : (t : Table) (s : List ℕ) → Decides (refusals t s) (stepOf t s .answer .number)
+  pub given : (t : Table) (s : List ℕ) (n : ℕ) → (stepOf t s .answer .number ≡ n) ↔ Given t s n
   pub unformed : (t : Table) (s : List ℕ) → (stepOf t s .answer .number ≡ 1) ↔ (WellFormed t → ⊥)
   pub order : (t : Table) (s : List ℕ) → map (λ (r : Refusal). r .number) (refusals t s) ≡ 1 ∷ 3 ∷ 4 ∷ 3 ∷ 5 ∷ 6 ∷ 7 ∷ 9 ∷ 8 ∷ 10 ∷ 11 ∷ []
   pub kept : (t : Table) (ss : List (List ℕ)) → WellFormed t → AllBytes ss → WellFormed (after t ss)

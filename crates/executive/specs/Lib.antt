@@ -12,6 +12,7 @@ pub mod Refusals
 pub mod Steps
 pub mod Fresh
 pub mod Broken
+pub mod Given
 pub mod Demands
 pub mod QueueLaw
 pub mod Worked
