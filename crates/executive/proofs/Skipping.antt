@@ -26,8 +26,8 @@ use Rattle.executive.specs.Plans.{caller, endWaiter, waking, restartPlan
 use Rattle.executive.specs.WellFormed.{WellFormed, sumOf}
 use Rattle.executive.specs.Check.{isWellFormed, upTo, allOf, numbersRight, falls, exactAt, queueRight, timesRight, startedRight, masksRight, busyRight, waitersAt, waitersRight, dormantRight, poolRight}
 use Rattle.executive.specs.Refusals.{planOf, nobodyActive, badBody, namesCaller, alarmRunning, poolFull, endsTime, overfills, refusals, firstOf, callIn}
-use Rattle.executive.specs.Steps.{marksOf, accepted, refused, outcomeOf, stepOf, noTable, marks, answerOf, hasV, performed}
-use Rattle.executive.specs.Demands.{planIn}
+use Rattle.executive.specs.Steps.{marksOf, accepted, refused, outcomeOf, stepOf, noTable, marks, answerOf, hasV}
+use Rattle.executive.specs.Demands.{planIn, after}
 use Rattle.executive.specs.Skipping.{NextOnGrid, Skip, DueNext, Skips, Skipping}
 use Rattle.executive.proofs.Interval.{every-some, next-ahead}
 use Rattle.executive.proofs.Checked.{well-formed-iff}
@@ -40,7 +40,6 @@ use Rattle.executive.proofs.Performed.{never-full, step-is}
 use Rattle.executive.proofs.Decided.{number-is}
 use Rattle.executive.specs.Fresh.{tasksFrom, tasksIn, configurationIn, taskRight, isConfiguration, sleepers, dormantTable, starter, starters, freshTable, freshOf}
 use Rattle.executive.specs.Rests.{placeOf, isSet, each, rung, advanced}
-use Rattle.executive.specs.Cards.{afterCalls}
 use Rattle.records.specs.declared.Call.the-variants as call
 
 -- ---- the grid
@@ -219,7 +218,7 @@ elsewhere t s z =
     marks-skip t s (number-is t (firstOf (refusals t s)) (callIn s) ∙ o .0) (callIn s) refl (o .1)
 
 pub skipping : Skipping
-unfolding tasksFrom tasksIn configurationIn kindOf readAs readOf behind pad taskAt putAt enterAt departed entered depart admit admits carry interval aimAt placeOf isSet each rung advanced waking endPlan restartPlan pausePlan cancelPlan levelOf waitOf argumentOf startPlan queuePlan startOnlyPlan requestOf askPlan rises risers setPlan resetPlan flagPlan waitPlan alarmPlan tickPlan upTo allOf sumOf numbersRight falls exactAt queueRight timesRight startedRight masksRight busyRight waitersAt waitersRight dormantRight poolRight isWellFormed planOf nobodyActive badBody namesCaller alarmRunning poolFull endsTime overfills refusals firstOf marksOf accepted refused stepOf taskRight isConfiguration sleepers dormantTable starter starters freshTable freshOf performed afterCalls missed nextOnGrid skippedOf
+unfolding tasksFrom tasksIn configurationIn kindOf readAs readOf behind pad taskAt putAt enterAt departed entered depart admit admits carry interval aimAt placeOf isSet each rung advanced waking endPlan restartPlan pausePlan cancelPlan levelOf waitOf argumentOf startPlan queuePlan startOnlyPlan requestOf askPlan rises risers setPlan resetPlan flagPlan waitPlan alarmPlan tickPlan upTo allOf sumOf numbersRight falls exactAt queueRight timesRight startedRight masksRight busyRight waitersAt waitersRight dormantRight poolRight isWellFormed planOf nobodyActive badBody namesCaller alarmRunning poolFull endsTime overfills refusals firstOf marksOf accepted refused stepOf taskRight isConfiguration sleepers dormantTable starter starters freshTable freshOf after missed nextOnGrid skippedOf
 skipping = record {
   next = next;
   only = only;

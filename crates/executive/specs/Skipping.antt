@@ -15,7 +15,8 @@ use Rattle.executive.specs.Plans.{caller}
 use Rattle.executive.specs.WellFormed.{WellFormed}
 use Rattle.executive.specs.Refusals.{callIn}
 use Rattle.executive.specs.Steps.{stepOf}
-use Rattle.executive.specs.Cards.{atTime, afterCalls, state, scheduled}
+use Rattle.executive.specs.Demands.{after}
+use Rattle.executive.specs.Cards.{atTime, restart, state, scheduled}
 use Rattle.executive.specs.Cards as cards
 
 -- the grid times are start + m * every, m at least 1. aim is the least of them after now, and k of them are at or before it
@@ -48,13 +49,13 @@ pub record Skips (t : Table) (s : List ℕ) : Type 0 where
 
 -- the accident: a task last scheduled at 2 s, every second, whose run ends eight hours later
 abbrev pub late : Table
-late = atTime 28802000 (afterCalls (atTime 2000 (cards.one 250)) (call.Restart 0x80 0 ∷ []))
+late = atTime 28802000 (after (atTime 2000 (cards.one 250)) (restart 0x80 0 ∷ []))
 
 abbrev pub skipping : Outcome
-skipping = stepOf late (0x01 ∷ 0x42 ∷ 1 ∷ [])
+skipping = stepOf late (restart 0x42 1)
 
 abbrev pub catchingUp : Outcome
-catchingUp = stepOf late (0x01 ∷ 0x02 ∷ 1 ∷ [])
+catchingUp = stepOf late (restart 0x02 1)
 
 pub record Skipping : Type 0 where
   pub next : (t : Table) (p n : ℕ) → WellFormed t → 0 < t .ready → p < 256 → n < 256 → Skip p n → DueNext t p n (stepOf t (0x01 ∷ p ∷ n ∷ []))
