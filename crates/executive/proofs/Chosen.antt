@@ -10,7 +10,7 @@ use lib.Dec.{eqb}
 use lib.ListN.{length}
 use Rattle.records.specs.declared.TaskNo.{TaskNo}
 use Rattle.executive.specs.declared.State.{State}
-use Rattle.executive.specs.declared.State.the-variants.{Dormant, Ready, Paused, Due, Flags, AwaitStart, AwaitEnd}
+use Rattle.executive.specs.declared.State.the-variants.{Ready}
 use Rattle.executive.specs.declared.Task.{Task}
 use Rattle.executive.specs.declared.Table.{Table}
 use Rattle.executive.specs.Queue.{pick, one, count, ahead, prioIn, activeOf}
@@ -21,6 +21,7 @@ use Rattle.executive.specs.Demands.{Dispatched}
 use Rattle.executive.proofs.Law.{head-highest, head-first}
 use Rattle.executive.proofs.Fits.{line-length}
 use Rattle.executive.proofs.Formed.{Formed}
+use Rattle.executive.proofs.Named.{ready-named, ready-kind}
 use Rattle.executive.proofs.QueueKept.{Head, head-is}
 
 -- the priority at which a task stands is the one in its entry
@@ -33,19 +34,6 @@ prio-is ts (j ∷ r) k h = go (eqb k (j .0)) refl h (prio-is ts r k)
         → pick b (taskAt ts (j .0) .priority) (prioIn k (items ts r)) ≡ taskAt ts k .priority
     go true e h ih = rw (eqb-true k (j .0) e)
     go false e h ih = ih (omega arith)
-
--- a state is ready by its name exactly if it is by its kind
-pub named : (s : State) → is 1 s ≡ 1 → s ≡ Ready
-named Dormant e = absurd (omega arith)
-named Ready e = refl
-named (Paused at) e = absurd (omega arith)
-named (Due at) e = absurd (omega arith)
-named (Flags m mask) e = absurd (omega arith)
-named AwaitStart e = absurd (omega arith)
-named AwaitEnd e = absurd (omega arith)
-
-pub of-kind : (s : State) → s ≡ Ready → is 1 s ≡ 1
-of-kind s e = ap (is 1) e
 
 -- what is said of a queue's numbers r, with the tasks ts
 module _ (ts : List Task) where
@@ -84,7 +72,7 @@ unready : (s : State) → s ≢ Ready → is 1 s ≡ 0
 unready s n = go (eqb 1 (kindOf s)) refl
   where
     go : (b : Bool) → eqb 1 (kindOf s) ≡ b → one b ≡ 0
-    go true e = absurd (n (named s (ap one e)))
+    go true e = absurd (n (ready-named s (ap one e)))
     go false e = refl
 
 pub dispatches : (t : Table) → Formed t → Dispatched t (caller t .0)
@@ -94,10 +82,10 @@ dispatches t w =
     record {
       head = p .head;
       chosen = λ h. record {
-        ready = named _ (p .ready h);
-        highest = λ j e. p .highest j (of-kind _ e);
-        first = λ j e _ d. p .first j (of-kind _ e) d;
+        ready = ready-named _ (p .ready h);
+        highest = λ j e. p .highest j (ready-kind _ e);
+        first = λ j e _ d. p .first j (ready-kind _ e) d;
       };
-      idle = (λ e j r. absurd (omega (arith, p .idle .0 e j, of-kind _ r)), λ f. p .idle .1 (λ j. unready (taskAt (t .tasks) j .state) (f j)));
+      idle = (λ e j r. absurd (omega (arith, p .idle .0 e j, ready-kind _ r)), λ f. p .idle .1 (λ j. unready (taskAt (t .tasks) j .state) (f j)));
       empty = (λ e. sym n ∙ p .empty .0 e, λ e. p .empty .1 (n ∙ e));
     }

@@ -15,6 +15,7 @@ use Rattle.executive.specs.Numbers.{mostTasks, flagCount, highest, mostG
 use Rattle.executive.specs.Queue.{one}
 use Rattle.executive.specs.Table.{Neat, Fit, never, noTask, line, requests, taskAt}
 use Rattle.executive.specs.WellFormed.{sumOf, kindOf, is, targetsOf, startsOf, endsOf, runsOf, steepOf, wildOf, selfsOf, twiceOf, idleOf, Line, Stored, Timely, Unmet, Zeros, WellFormed}
+use Rattle.executive.proofs.Named.{dormant-named, dormant-kind}
 use Rattle.executive.proofs.Law.{T-of, eqb-self, not-zero, Lt, lt-yes, lt-no, ltb-is}
 use Rattle.executive.proofs.Fits.{queue-length, pool-length}
 
@@ -147,14 +148,14 @@ formed {t} w =
         single = w .waiters .single;
         named = idle-at (t .tasks) (requests (t .rest)) (w .busy) 0 refl;
         busy = λ k _. idle-at (t .tasks) (requests (t .rest)) (w .busy) k;
-        quiet = λ k z. w .dormant k z .waiter;
+        quiet = λ k z. w .dormant k (dormant-named _ z) .waiter;
       };
       own = λ k. record {
         calm = (w .times .tasks k, w .masks k);
         started = w .started k;
         level = n .priority k;
         home = n .own k;
-        zeros = w .dormant k;
+        zeros = λ z. w .dormant k (dormant-named _ z);
         beyond = n .beyond k;
       };
       rested = record {
@@ -220,6 +221,6 @@ module _ (t : Table) (w : Formed t) where
     masks = λ k. w .own k .calm .1;
     busy = idle-none ts p any-idle;
     waiters = record { starts = w .links .starts; ends = w .links .ends; others = w .links .others; apart = w .links .apart; single = w .links .single };
-    dormant = λ k. w .own k .zeros;
+    dormant = λ k z. w .own k .zeros (dormant-kind _ z);
     pool = w .rested .neat .clear;
   }

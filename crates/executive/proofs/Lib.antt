@@ -24,6 +24,7 @@ pub mod Settings
 pub mod Shown
 pub mod Law
 pub mod Overtake
+pub mod Named
 pub mod Formed
 pub mod Moved
 pub mod Sums

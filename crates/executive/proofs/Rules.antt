@@ -20,6 +20,7 @@ use Rattle.executive.specs.Table.{nobody, never, noTask, noRequest, pad,
 use Rattle.executive.specs.Plans.{met}
 use Rattle.executive.specs.WellFormed.{InRange, Queue, Stored, Timely, Times, Unmet, Waiters, Zeros, sumOf, kindOf, is, startsOf, endsOf, runsOf, idleOf}
 use Rattle.executive.specs.Check.{upTo, allOf, entryInRange, requestInRange, isBlank, sizesRight, inBounds, numbersRight, isTask, isNobody, falls, standsIn, exactAt, queueRight, isStored, isTimely, alarmRight, taskTimely, timesRight, isStarted, startedRight, isUnmet, taskUnmet, masksRight, targetBusy, busyRight, waitersAt, namesOthers, waitersRight, isZero, sleepsRight, dormantRight, isFree, poolRight}
+use Rattle.executive.proofs.Named.{dormant-named, dormant-kind}
 use Rattle.executive.proofs.Tasks.{at-none}
 use Rattle.executive.proofs.Tally.{all-get, all-make, every-get, every-make}
 use Rattle.executive.proofs.Both.{split, paired, one-none, none-one, not-of, of-not, within, in-reach, sum-none, none-all}
@@ -436,13 +437,13 @@ sleeps-make e h = go (eqb 0 (kindOf (e .state))) h
     go false f = refl
 
 module _ (t : Table) where
-  pub dormant-get : dormantRight t ≡ true → (k : ℕ) → is 0 (taskAt (t .tasks) k .state) ≡ 1 → Zeros (taskAt (t .tasks) k)
+  pub dormant-get : dormantRight t ≡ true → (k : ℕ) → taskAt (t .tasks) k .state ≡ Dormant → Zeros (taskAt (t .tasks) k)
   unfolding dormantRight
-  dormant-get e k = sleeps-get (taskAt (t .tasks) k) (tasks-get sleepsRight (t .tasks) refl e k)
+  dormant-get e k z = sleeps-get (taskAt (t .tasks) k) (tasks-get sleepsRight (t .tasks) refl e k) (dormant-kind _ z)
 
-  pub dormant-make : ((k : ℕ) → is 0 (taskAt (t .tasks) k .state) ≡ 1 → Zeros (taskAt (t .tasks) k)) → dormantRight t ≡ true
+  pub dormant-make : ((k : ℕ) → taskAt (t .tasks) k .state ≡ Dormant → Zeros (taskAt (t .tasks) k)) → dormantRight t ≡ true
   unfolding dormantRight
-  dormant-make w = tasks-make sleepsRight (t .tasks) (λ k. sleeps-make (taskAt (t .tasks) k) (w k))
+  dormant-make w = tasks-make sleepsRight (t .tasks) (λ k. sleeps-make (taskAt (t .tasks) k) (λ z. w k (dormant-named _ z)))
 
   -- ---- the pool's free places
   module _ (l : length (t .rest .pool) ≡ 32) where

@@ -39,7 +39,8 @@ use Rattle.executive.proofs.Performed.{call-allowed, step-is, step-kept
 use Rattle.executive.proofs.Decided.{decided, unformed, order, allowed, allowed-formed, refusal-keeps, answers-active}
 use Rattle.executive.proofs.Given.{given}
 use Rattle.executive.proofs.Checked.{well-formed-iff, checked-once}
-use Rattle.executive.proofs.Chosen.{prio-is, named, of-kind, dispatches}
+use Rattle.executive.proofs.Named.{ready-named, ready-kind}
+use Rattle.executive.proofs.Chosen.{prio-is, dispatches}
 use Rattle.executive.proofs.Untouched.{head-is-active, step-others}
 
 -- ---- demand 1, over any records
@@ -95,7 +96,7 @@ told t k (s ∷ ss) w b h n =
 
 pub overtaking : (t : Table) (k : ℕ) (ss : List (List ℕ)) → WellFormed t → AllBytes ss → IsReady t k → NotYet k t ss → Overtaking t k ss
 overtaking t k ss w b y n =
-    let h : 0 < count k (view t) = omega (arith, w .queue .exactly .exact k, of-kind _ y) in
+    let h : 0 < count k (view t) = omega (arith, w .queue .exactly .exact k, ready-kind _ y) in
     let v : WellFormed (after t ss) = kept t ss w b in
     let d : Told t k ss = told t k ss w b h n in
     let s : Still k (view t) (plays (history t ss) (view t)) (entriesAbove (prioIn k (view t)) (history t ss)) (departures (history t ss)) =
@@ -104,7 +105,7 @@ overtaking t k ss w b y n =
     let p : prioIn k (view t) ≡ taskAt (t .tasks) k .priority = prio-is (t .tasks) (line t) k h in
     let p′ : prioIn k (view (after t ss)) ≡ prioIn k (view t) = rw (d .queue) (s .prio) in
     record {
-      still-ready = named _ (omega (arith, v .queue .exactly .exact k, is-le 1 (taskAt (after t ss .tasks) k .state)));
+      still-ready = ready-named _ (omega (arith, v .queue .exactly .exact k, is-le 1 (taskAt (after t ss .tasks) k .state)));
       same-priority = sym (prio-is (after t ss .tasks) (line (after t ss)) k there) ∙ p′ ∙ p;
       number = rw (d .queue, ← p) (s .number);
       active-at-nought = (first (view (after t ss)) k there, first-only (view (after t ss)) k there);

@@ -21,7 +21,7 @@ unfoldable pub sumOf : {A : Type 0} → (A → ℕ) → List A → ℕ
 sumOf f [] = 0
 sumOf f (x ∷ xs) = f x + sumOf f xs
 
--- the kind of a state; 1 where a state is of kind n, else 0
+-- a number for the kind of a state, which is named by one of its states; 1 where a state is of kind n, else 0
 abbrev pub kindOf : State → ℕ
 kindOf Dormant = 0
 kindOf Ready = 1
@@ -62,7 +62,7 @@ abbrev pub twiceOf : List Request → ℕ
 twiceOf p = sumOf (λ (r : Request). pick (eqb (r .«start_waiter» .0) 0) 0 (one (not (eqb (r .«end_waiter» .0) 0)))) p
 
 abbrev pub idleOf : List Task → List Request → ℕ
-idleOf ts p = sumOf (λ (r : Request). is 0 (taskAt ts (r .target .0) .state)) p
+idleOf ts p = sumOf (λ (r : Request). is (kindOf Dormant) (taskAt ts (r .target .0) .state)) p
 
 -- ---- every number is in range: entries past the task count are zero, and no name is over the count
 pub record Sizes (t : Table) : Type 0 where
@@ -92,7 +92,7 @@ pub record Line (n : ℕ) (ts : List Task) (r : List TaskNo) : Type 0 where
 
 -- the ready queue holds exactly the ready tasks; its free places are zero
 pub record Queue (t : Table) : Type 0 where
-  pub exactly : Line 1 (t .tasks) (line t)
+  pub exactly : Line (kindOf Ready) (t .tasks) (line t)
   pub tidy : t .queue ≡ pad mostTasks nobody (line t)
 
 -- ---- a stored time is after the clock c and at most the largest interval after it
@@ -126,8 +126,8 @@ Unmet fs (Flags m mask) = (0 < mask) × (met fs m mask ≡ false)
 -- ---- each request or run that names a waiter names a different task in the matching state; each such state is named once.
 -- A request names one waiter at most
 pub record Waiters (ts : List Task) (p : List Request) : Type 0 where
-  pub starts : (k : ℕ) → 0 < k → startsOf k p ≡ is 2 (taskAt ts k .state)
-  pub ends : (k : ℕ) → 0 < k → endsOf k p + runsOf k ts ≡ is 3 (taskAt ts k .state)
+  pub starts : (k : ℕ) → 0 < k → startsOf k p ≡ is (kindOf AwaitStart) (taskAt ts k .state)
+  pub ends : (k : ℕ) → 0 < k → endsOf k p + runsOf k ts ≡ is (kindOf AwaitEnd) (taskAt ts k .state)
   pub others : selfsOf p ≡ 0
   pub apart : (k : ℕ) → 0 < k → eqb k (taskAt ts k .«end_waiter» .0) ≡ false
   pub single : twiceOf p ≡ 0
@@ -156,6 +156,6 @@ pub record WellFormed (t : Table) : Type 0 where
   -- each request or run that names a waiter names a different task in the matching state, each such state is named once
   pub waiters : Waiters (t .tasks) (requests (t .rest))
   -- a dormant task holds zeros but for its own priority
-  pub dormant : (k : ℕ) → is 0 (taskAt (t .tasks) k .state) ≡ 1 → Zeros (taskAt (t .tasks) k)
+  pub dormant : (k : ℕ) → taskAt (t .tasks) k .state ≡ Dormant → Zeros (taskAt (t .tasks) k)
   -- the pool's places, first to last, are read as the order of asking, its free places last and zero
   pub pool : t .rest .pool ≡ pad mostQueued noRequest (requests (t .rest))
