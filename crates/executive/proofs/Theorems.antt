@@ -240,5 +240,6 @@ demands = record {
   take-determined = λ t c x y p q. p ∙ sym q;
   check-determined = checked-once;
   fresh-determined = λ s x y p q. p ∙ sym q;
+  no-table-determined = λ x y p q. p ∙ sym q;
   length-determined = λ s x y p q. p ∙ sym q;
 }

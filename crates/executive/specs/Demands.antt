@@ -11,6 +11,7 @@ use Rattle.records.specs.declared.Call.{Call}
 use Rattle.records.specs.Numbers.{Bytes}
 use Rattle.executive.specs.declared.State.the-variants.{Ready}
 use Rattle.executive.specs.declared.Table.{Table}
+use Rattle.executive.specs.declared.Answer.{Answer}
 use Rattle.executive.specs.declared.Outcome.{Outcome}
 use Rattle.executive.specs.declared.Fresh.{Fresh}
 use Rattle.executive.specs.Queue.{Moves, pick, one, count, ahead, activeOf, plays, Legal, departures, entriesAbove}
@@ -22,7 +23,7 @@ use Rattle.executive.specs.WellFormed.{WellFormed}
 use Rattle.executive.specs.Check.{Checked}
 use Rattle.executive.specs.Refusals.{Refusal, when, planOf, callIn, callRefusals, refusals, firstOf}
 use Rattle.executive.specs.Given.{Given}
-use Rattle.executive.specs.Steps.{stepOf, Steps, Takes}
+use Rattle.executive.specs.Steps.{stepOf, IsNoTable, Steps, Takes}
 use Rattle.executive.specs.Fresh.{Makes, Measures}
 
 -- ---- the plan that a step executes: its kind's, where it is accepted; where it is refused, nothing
@@ -150,4 +151,5 @@ pub record Demands : Type 0 where
   pub take-determined : (t : Table) (c : Call) (x y : Outcome) → Takes t c x → Takes t c y → x ≡ y
   pub check-determined : (t : Table) (x y : ℕ) → Checked t x → Checked t y → x ≡ y
   pub fresh-determined : (s : List ℕ) (x y : Fresh) → Makes s x → Makes s y → x ≡ y
+  pub no-table-determined : (x y : Answer) → IsNoTable x → IsNoTable y → x ≡ y
   pub length-determined : (s : List ℕ) (x y : ℕ) → Measures s x → Measures s y → x ≡ y

@@ -15,9 +15,8 @@ use Rattle.records.specs.declared.Call.the-variants as call
 use Rattle.records.specs.Kinds.{lengthOf}
 use Rattle.executive.specs.declared.State.the-variants.{Dormant}
 use Rattle.executive.specs.declared.Table.{Table}
-use Rattle.executive.specs.Numbers.{mostQueued, endOfTime}
+use Rattle.executive.specs.Numbers.{lastUnit, mostQueued, endOfTime}
 use Rattle.executive.specs.Table.{never, carry}
-use Rattle.executive.specs.Time.{units}
 use Rattle.executive.specs.Plans.{caller, stateAt}
 use Rattle.executive.specs.WellFormed.{WellFormed}
 use Rattle.executive.specs.Refusals.{planOf, kindIn, callIn}
@@ -30,24 +29,21 @@ Bit i x = x / 2 ^ i % 2 ≡ 1
 abbrev pub NoCall : Kind → Type 0
 NoCall k = (k ≡ kind.Unknown) ⊎ ((k ≡ kind.Granule) ⊎ ((k ≡ kind.Task) ⊎ (k ≡ kind.End)))
 
--- ---- 6: task not 1 to the task count; flag over 31; unit over the last in 02 or 0B; operation over 2; mode over 1; mask 0; in 04 any of bits 6..4;
+-- ---- 6: task not 1 to the task count; flag over 31; unit over 5 in 02 or 0B; operation over 2; mode over 1; mask 0; in 04 any of bits 6..4;
 -- in 05 both bits 6 and 5
 abbrev pub NoTask : Table → TaskNo → Type 0
 NoTask t k = (k .0 ≡ 0) ⊎ (t .rest .count < k .0)
 
-abbrev pub NoUnit : ℕ → Type 0
-NoUnit u = length units ≤ u
-
 abbrev pub BadBody : Table → Call → Type 0
 BadBody t call.Terminate = ⊥
 BadBody t (call.Restart p n) = Bit 7 p × Bit 6 p
-BadBody t (call.Pause u n) = NoUnit u
+BadBody t (call.Pause u n) = lastUnit < u
 BadBody t (call.CancelPause k) = NoTask t k
 BadBody t (call.Start o k) = NoTask t k ⊎ (Bit 6 o ⊎ (Bit 5 o ⊎ Bit 4 o))
 BadBody t (call.Queue o k a) = NoTask t k ⊎ (Bit 6 o × Bit 5 o)
 BadBody t (call.Flag o f) = (31 < f .0) ⊎ (2 < o)
 BadBody t (call.Wait m mask) = (1 < m) ⊎ (mask ≡ 0)
-BadBody t (call.Alarm u n f) = NoUnit u ⊎ (31 < f .0)
+BadBody t (call.Alarm u n f) = (lastUnit < u) ⊎ (31 < f .0)
 BadBody t call.Tick = ⊥
 BadBody t (call.Granule g) = ⊥
 BadBody t (call.Task p m) = ⊥
