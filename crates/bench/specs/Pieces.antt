@@ -99,7 +99,7 @@ pieceIn (suc turns) room s r =
 unfoldable pub pieceOf : ℕ → List ℕ → Run → Piece
 pieceOf room s r = pieceIn room room s r
 
--- ---- the contracts: the listing of s stands at r at its start; what filling a buffer answers: the buffer a is become b
+-- ---- the contracts: the listing of s stands at r at its start; what filling a buffer answers, a become b
 abbrev pub Starts : List ℕ → Run → Type 0
 Starts s r = r ≡ startOf s
 
@@ -153,15 +153,16 @@ pub record Promise : Type 0 where
   pub whole : (s ns : List ℕ) → isMore (pouredBy ns s (startOf s) .run .next) ≡ false → pouredBy ns s (startOf s) .text ≡ listingOf s
   -- and that comes to be: a buffer with room for a line takes one or more, and there are not more lines than this
   pub ends : (s ns : List ℕ) → Roomy ns → length s + 2 ≤ length ns → isMore (pouredBy ns s (startOf s) .run .next) ≡ false
-  -- for whoever fills until there is no more: where it starts there is more to tell and room to count it; a piece is within its buffer, leaves room
-  -- to count, says whether there is more, and in a buffer with room for a line leaves fewer lines
+  -- for whoever fills until there is no more: where it starts there is more to tell and room to count it; a piece is
+  -- within its buffer, leaves room to count, says whether there is more, and with room for a line leaves fewer lines
   pub start-sound : (s : List ℕ) → Sound s (startOf s)
   pub start-more : (s : List ℕ) → isMore (startOf s .next) ≡ true
   pub within : (s : List ℕ) (r : Run) (a b : List ℕ) (f : Filled) → Fills s r a b f → f .used ≤ length b
   pub sound : (s : List ℕ) (r : Run) (a b : List ℕ) (f : Filled) → Fills s r a b f → Sound s r → Sound s (f .run)
   pub fewer : (s : List ℕ) (r : Run) (a b : List ℕ) (f : Filled) → Fills s r a b f → Sound s r → lineRoom ≤ length a
       → isMore (r .next) ≡ true → lines s (f .run) < lines s r
-  pub more : (s : List ℕ) (r : Run) (a b : List ℕ) (f : Filled) → Fills s r a b f → f .more ≡ true → isMore (f .run .next) ≡ true
+  pub more : (s : List ℕ) (r : Run) (a b : List ℕ) (f : Filled) → Fills s r a b f → f .more ≡ true
+      → isMore (f .run .next) ≡ true
   -- any two outcomes that a public function's contract allows are equal: the answer, and every byte of the buffer
   pub start-determined : (s : List ℕ) (x y : Run) → Starts s x → Starts s y → x ≡ y
   pub settled : (s : List ℕ) (r : Run) (a b c : List ℕ) (f g : Filled) → Fills s r a b f → Fills s r a c g → (b ≡ c) × (f ≡ g)

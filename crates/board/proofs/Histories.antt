@@ -1,7 +1,6 @@
--- Images of well-formed tables, through a fresh table and through steps: what the executive's demands say of the tables holds of the images.
+-- Images of well-formed tables, fresh and through steps: what the demands say of the tables holds of the images.
 use Prim.Native.Nat.{ℕ, _≤_}
 use mathlib.Core.Path.{_≡_, refl, sym, ap, _∙_}
-use mathlib.Core.Bool.{Bool, true, false}
 use mathlib.Core.List.{List, [], _∷_}
 use native.Mathlib.Omega.{arith}
 use borrow.Author.Tests.{le-ltb, eqb-true, eqb-false}
@@ -10,16 +9,15 @@ use lib.ListN.{length, getD}
 use Rattle.records.specs.Numbers.{Bytes}
 use Rattle.executive.specs.declared.Table.{Table}
 use Rattle.executive.specs.declared.Fresh.{Fresh}
-use Rattle.executive.specs.Queue.{pick}
 use Rattle.executive.specs.WellFormed.{WellFormed}
 use Rattle.executive.specs.Steps.{stepOf}
-use Rattle.executive.specs.Fresh.{isConfiguration, freshTable, freshOf}
+use Rattle.executive.specs.Fresh.{isConfiguration, freshOf}
 use Rattle.executive.specs.Demands.{after, AllBytes, IsReady, Dispatched, NotYet}
 use Rattle.executive.proofs.Assured.{demands, fresh-law}
 use Rattle.board.specs.Blocks.{written}
-use Rattle.board.specs.Image.{imageLength, loadOf, isImage}
-use Rattle.board.specs.Entries.{WellFormedImage, Holds, freshNumber, MakesImage, answerLength, activeAt, answerBytes, answerTo, stepNumber, stepImage, stepAnswer, StepsImage, Stepped, Runs, OvertakingImage}
-use Rattle.board.proofs.Alike.{decide, never}
+use Rattle.board.specs.Image.{imageLength, loadOf}
+use Rattle.board.specs.Entries.{WellFormedImage, Holds, freshNumber, MakesImage, answerLength, activeAt, answerTo, stepNumber, stepAnswer, StepsImage, Stepped, Runs, OvertakingImage}
+use Rattle.board.proofs.Alike.{decide}
 use Rattle.board.proofs.Answered.{refused}
 
 -- the image of a well-formed table

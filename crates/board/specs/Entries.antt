@@ -79,14 +79,14 @@ stepImage s call o = pick (ltb (length o) answerLength) s (imageAfter s call)
 unfoldable pub stepAnswer : List ℕ → List ℕ → List ℕ → List ℕ
 stepAnswer s call o = pick (ltb (length o) answerLength) o (written o 0 (answerBytes (answerTo s call)))
 
--- the contract: n is what the step of call at the image s answers, with the buffer o for the answer; s then is p, and o is q
+-- the contract: n is what the step of call at the image s answers, the buffer o lent for the answer; s then is p, o is q
 pub record StepsImage (s call o p q : List ℕ) (n : ℕ) : Type 0 where
   pub number : n ≡ stepNumber s call o
   pub image : p ≡ stepImage s call o
   pub answer : q ≡ stepAnswer s call o
   pub holds : n ≡ 0 → Holds p (stepOf (loadOf s) call .table)
 
--- ---- a history of images: from s, by calls one after the other, each with room for its answer, to the image at the end
+-- ---- a history of images: from s to p by calls one after the other, each with room for its answer
 pub record Stepped (s call p : List ℕ) : Type 0 where
   pub before : List ℕ
   pub after : List ℕ
@@ -98,7 +98,7 @@ abbrev pub Runs : List ℕ → List (List ℕ) → List ℕ → Type 0
 Runs s [] p = s ≡ p
 Runs s (call ∷ calls) p = (u : List ℕ) × Stepped s call u × Runs u calls p
 
--- demand 3 of task k over such a history: it holds of the tables, and the image at the end is that of the table after the calls
+-- demand 3 of task k over such a history: it holds of the tables, and the image p is that of the table after the calls
 pub record OvertakingImage (s : List ℕ) (k : ℕ) (calls : List (List ℕ)) (p : List ℕ) : Type 0 where
   pub tables : Overtaking (loadOf s) k calls
   pub image : WellFormedImage p

@@ -29,17 +29,19 @@ pub record Promises : Type 0 where
   pub not-made : (g o : List ℕ) → (freshNumber g o ≡ 0 → ⊥) → freshImage g o ≡ o
   -- a fresh image, and a step from the image of a well-formed table, leave the image of a well-formed table
   pub fresh-kept : (g o p : List ℕ) → Bytes g → MakesImage g o p 0 → WellFormedImage p
-  pub step-kept : (s k o p q : List ℕ) (n : ℕ) → Bytes k → WellFormedImage s → StepsImage s k o p q n → WellFormedImage p
+  pub step-kept : (s k o p q : List ℕ) (n : ℕ) → Bytes k → WellFormedImage s → StepsImage s k o p q n
+      → WellFormedImage p
   -- the answer's active byte is the first of those with highest priority, and 0 exactly if none is ready
-  pub active : (s k o p q : List ℕ) (n : ℕ) → Bytes k → WellFormedImage s → StepsImage s k o p q n → answerLength ≤ length o
-      → Dispatched (loadOf p) (getD q activeAt 0)
+  pub active : (s k o p q : List ℕ) (n : ℕ) → Bytes k → WellFormedImage s → StepsImage s k o p q n
+      → answerLength ≤ length o → Dispatched (loadOf p) (getD q activeAt 0)
   -- demand 3 over a history of images
-  pub overtaking : (s : List ℕ) (k : ℕ) (ks : List (List ℕ)) (p : List ℕ) → AllBytes ks → WellFormedImage s → Runs s ks p
-      → IsReady (loadOf s) k → NotYet k (loadOf s) ks → OvertakingImage s k ks p
+  pub overtaking : (s : List ℕ) (k : ℕ) (ks : List (List ℕ)) (p : List ℕ) → AllBytes ks → WellFormedImage s
+      → Runs s ks p → IsReady (loadOf s) k → NotYet k (loadOf s) ks → OvertakingImage s k ks p
   -- any two outcomes that a public function's contract allows are equal: the answer, and every byte of each buffer
   pub fresh-determined : (g o p q : List ℕ) (x y : ℕ) → MakesImage g o p x → MakesImage g o q y → (p ≡ q) × (x ≡ y)
   pub check-determined : (s : List ℕ) (x y : ℕ) → CheckedImage s x → CheckedImage s y → x ≡ y
-  pub step-determined : (s k o p q u v : List ℕ) (x y : ℕ) → StepsImage s k o p u x → StepsImage s k o q v y → (p ≡ q) × (u ≡ v) × (x ≡ y)
+  pub step-determined : (s k o p q u v : List ℕ) (x y : ℕ) → StepsImage s k o p u x → StepsImage s k o q v y
+      → (p ≡ q) × (u ≡ v) × (x ≡ y)
   pub load-determined : (s : List ℕ) (x y : Table) → Loads s x → Loads s y → x ≡ y
   pub store-determined : (t : Table) (o p q : List ℕ) (x y : ℕ) → Stores t o p x → Stores t o q y → (p ≡ q) × (x ≡ y)
   pub trip-determined : (t x y : Table) → ComesBack t x → ComesBack t y → x ≡ y

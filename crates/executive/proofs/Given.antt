@@ -1,4 +1,4 @@
--- The tests of the refusals say what 01's words say, each of them, and so the first that passes is the first that holds.
+-- Each test of the refusals says what 01's words say, and so the first that passes is the first that holds.
 use Prim.Native.Nat.{ℕ, _+_, _/_, _%_, _≤_, _<_}
 use mathlib.Core.Path.{_≡_, refl, sym, ap, _∙_}
 use mathlib.Core.Logic.{_↔_, _≢_, _⊎_, inl, inr, ⊎-elim}
@@ -166,7 +166,8 @@ says-tick c = (to c, λ e. rw e refl)
     to (call.Task p m) e = clash e
     to call.End e = clash e
 
-says-queue : (h : ℕ → TaskNo → Bool) (P : ℕ → TaskNo → Type 0) → ((o : ℕ) (k : TaskNo) → Says (h o k) (P o k)) → (c : Call) → Says (ofQueue h c) (IsQueue P c)
+says-queue : (h : ℕ → TaskNo → Bool) (P : ℕ → TaskNo → Type 0) → ((o : ℕ) (k : TaskNo) → Says (h o k) (P o k))
+    → (c : Call) → Says (ofQueue h c) (IsQueue P c)
 says-queue h P says c = (to c, λ x. rw (x .call) (says (x .option) (x .target) .1 (x .said)))
   where
     to : (c : Call) → ofQueue h c ≡ true → IsQueue P c
@@ -184,7 +185,8 @@ says-queue h P says c = (to c, λ x. rw (x .call) (says (x .option) (x .target) 
     to (call.Task p m) e = clash e
     to call.End e = clash e
 
-says-alarm : (h : FlagNo → Bool) (P : FlagNo → Type 0) → ((f : FlagNo) → Says (h f) (P f)) → (c : Call) → Says (ofAlarm h c) (IsAlarm P c)
+says-alarm : (h : FlagNo → Bool) (P : FlagNo → Type 0) → ((f : FlagNo) → Says (h f) (P f))
+    → (c : Call) → Says (ofAlarm h c) (IsAlarm P c)
 says-alarm h P says c = (to c, λ x. rw (x .call) (says (x .flag) .1 (x .said)))
   where
     to : (c : Call) → ofAlarm h c ≡ true → IsAlarm P c
@@ -262,7 +264,8 @@ first-is [] (c ∷ cs) m n = absurd m
 first-is (r ∷ rs) [] m n = absurd m
 first-is (r ∷ rs) (c ∷ cs) m n = go (r .given) (m .1) (first-is rs cs (m .2) n)
   where
-    go : (b : Bool) → Says b (c .holds) → (firstOf rs ≡ n) ↔ First n cs → (pick b (r .number) (firstOf rs) ≡ n) ↔ First n (c ∷ cs)
+    go : (b : Bool) → Says b (c .holds) → (firstOf rs ≡ n) ↔ First n cs
+        → (pick b (r .number) (firstOf rs) ≡ n) ↔ First n (c ∷ cs)
     go true x ih = (λ e. inl (x .0 refl, sym e ∙ m .0), λ z. ⊎-elim (λ h. m .0 ∙ sym (h .1)) (λ h. absurd (h .0 (x .0 refl))) z)
     go false x ih = (λ e. inr (λ h. clash (x .1 h), ih .0 e), λ z. ⊎-elim (λ h. clash (x .1 (h .0))) (λ h. ih .1 (h .1)) z)
 

@@ -441,7 +441,8 @@ module _ (t : Table) where
   unfolding dormantRight
   dormant-get e k z = sleeps-get (taskAt (t .tasks) k) (tasks-get sleepsRight (t .tasks) refl e k) (dormant-kind _ z)
 
-  pub dormant-make : ((k : ℕ) → taskAt (t .tasks) k .state ≡ Dormant → Zeros (taskAt (t .tasks) k)) → dormantRight t ≡ true
+  pub dormant-make : ((k : ℕ) → taskAt (t .tasks) k .state ≡ Dormant → Zeros (taskAt (t .tasks) k))
+      → dormantRight t ≡ true
   unfolding dormantRight
   dormant-make w = tasks-make sleepsRight (t .tasks) (λ k. sleeps-make (taskAt (t .tasks) k) (λ z. w k (dormant-named _ z)))
 

@@ -45,13 +45,15 @@ module _ (s : List ℕ) where
       ms = marked (suc k) (entriesIn s n (suc k))
 
       go : (b : Bool) → ((us : List Task) → entries (starters s n (suc k)) us ≡ ms)
-          → entries (pick b (starting k ∷ []) [] ++ starters s n (suc k)) ts ≡ pick b (record { task = k; prio = ownIn s k } ∷ ms) ms
+          → entries (pick b (starting k ∷ []) [] ++ starters s n (suc k)) ts
+          ≡ pick b (record { task = k; prio = ownIn s k } ∷ ms) ms
       go true ih = ap (λ (l : List Item). record { task = k; prio = ownIn s k } ∷ l) (ih (change-at ts k (starting k .change)))
       go false ih = ih ts
 
   -- ---- the entries: those before number k stand as they will be
   starters-stored : (n k m : ℕ) (pre : List Task) → k ≡ suc (length pre) → n ≤ m
-      → puts (starters s n k) (pre ++ pad m noTask (sleepers s n k)) ≡ pre ++ pad m noTask (map entryOf (entriesIn s n k))
+      → puts (starters s n k) (pre ++ pad m noTask (sleepers s n k))
+      ≡ pre ++ pad m noTask (map entryOf (entriesIn s n k))
   unfolding starters starter puts sleepers entriesIn pad
   starters-stored zero k m pre e l = refl
   starters-stored (suc n) k zero pre e l = absurd (omega arith)
@@ -70,8 +72,10 @@ module _ (s : List ℕ) where
       done = pad m noTask (map entryOf (entriesIn s n (suc k)))
 
       go : (b : Bool) → ((x : Task) → puts (starters s n (suc k)) (pre ++ (x ∷ still)) ≡ pre ++ (x ∷ done))
-          → puts (pick b (starting k ∷ []) [] ++ starters s n (suc k)) (pre ++ (dormantAt (ownIn s k) ∷ still)) ≡ pre ++ (pick b (startedAt (ownIn s k)) (dormantAt (ownIn s k)) ∷ done)
-      go true ih = ap (puts (starters s n (suc k))) (stored pre still (dormantAt (ownIn s k)) k (starting k .change) e) ∙ ih (startedAt (ownIn s k))
+          → puts (pick b (starting k ∷ []) [] ++ starters s n (suc k)) (pre ++ (dormantAt (ownIn s k) ∷ still))
+          ≡ pre ++ (pick b (startedAt (ownIn s k)) (dormantAt (ownIn s k)) ∷ done)
+      go true ih = ap (puts (starters s n (suc k))) (stored pre still (dormantAt (ownIn s k)) k (starting k .change) e)
+          ∙ ih (startedAt (ownIn s k))
       go false ih = ih (dormantAt (ownIn s k))
 
   -- ---- all of it

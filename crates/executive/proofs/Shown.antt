@@ -35,11 +35,9 @@ cards = record {
   );
   formed-later = (
     well-formed-iff (atTime 420000 (one 10)) .0 refl,
-    (
-      well-formed-iff (atTime 540000 again) .0 refl,
-      (well-formed-iff (atTime 600000 again) .0 refl, (well-formed-iff (atTime (2 ^ 40 - 1) (one 1)) .0 refl, (well-formed-iff (atTime (2 ^ 40) (one 1)) .0 refl, tt))),
-    ),
+    (well-formed-iff (atTime 540000 again) .0 refl, (well-formed-iff (atTime 600000 again) .0 refl, tt)),
   );
+  formed-last = (well-formed-iff (atTime (2 ^ 40 - 1) (one 1)) .0 refl, (well-formed-iff (atTime (2 ^ 40) (one 1)) .0 refl, tt));
   p1 = (refl, refl);
   p2 = (refl, refl, refl);
   p3 = (refl, refl, refl, refl, refl);

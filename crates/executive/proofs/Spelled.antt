@@ -150,7 +150,8 @@ module _ (g : ℕ) (es : List Entry) (some : 1 ≤ length es) (few : length es �
       rw (length-is, count-is, le-leb 1 (length es) some, eq-eqb (length whole) (3 * length es + 3) l, le-leb 1 g time) (all-make (taskRight whole) (length es) task-right)
 
 -- the tasks read off a configuration's bytes are those that it was spelled from
-entries-from : (s : List ℕ) (es : List Entry) (k : ℕ) → 0 < k → drop (placeIn k) s ≡ recordsOf es → entriesIn s (length es) k ≡ es
+entries-from : (s : List ℕ) (es : List Entry) (k : ℕ) → 0 < k → drop (placeIn k) s ≡ recordsOf es
+    → entriesIn s (length es) k ≡ es
 unfolding entriesIn recordsOf
 entries-from s [] k h d = refl
 entries-from s (e ∷ es) k h d =
@@ -160,7 +161,8 @@ entries-from s (e ∷ es) k h d =
     let next : drop (placeIn (suc k)) s ≡ recordsOf es = ap (λ (n : ℕ). drop n s) (sym z) ∙ sym (drop-drop 3 (placeIn k) s) ∙ ap (drop 3) d in
     rw (own, mark, entries-from s es (suc k) (omega arith) next) refl
 
-pub entries-back : (s : List ℕ) (c : Configuration s) → (tasksIn s ≡ length (c .tasks)) × (granuleIn s ≡ c .granule) × (entriesIn s (tasksIn s) 1 ≡ c .tasks)
+pub entries-back : (s : List ℕ) (c : Configuration s)
+    → (tasksIn s ≡ length (c .tasks)) × (granuleIn s ≡ c .granule) × (entriesIn s (tasksIn s) 1 ≡ c .tasks)
 entries-back s c =
     let n : tasksIn s ≡ length (c .tasks) = rw (c .bytes) (count-is (c .granule) (c .tasks) (c .some) (c .few) (c .time) (c .right)) in
     (n, rw (c .bytes) refl, rw n (entries-from s (c .tasks) 1 (omega arith) (rw (c .bytes) refl)))

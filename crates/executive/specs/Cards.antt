@@ -1,4 +1,5 @@
--- The bench cards P1 to P12 (01, "Bench cards"), as one list under one statement; each is shown of `stepOf` on records, with 01's sentence above it.
+-- The bench cards P1 to P12 (01, "Bench cards"), as one list under one statement; each is shown of `stepOf` on records,
+-- with 01's sentence above it.
 use Prim.Native.Nat.{ℕ, _-_, _^_}
 use mathlib.Core.Path.{_≡_}
 use mathlib.Core.Bool.{true, false}
@@ -116,18 +117,20 @@ full = after (one 10) asking
 pub record Cards : Type 0 where
   -- the cards' tables are well formed
   pub formed : AllFormed (one 1 ∷ one 10 ∷ two 10 ∷ two 100 ∷ idle ∷ again ∷ full ∷ [])
-  pub formed-later : AllFormed (atTime 420000 (one 10) ∷ atTime 540000 again ∷ atTime 600000 again ∷ atTime (2 ^ 40 - 1) (one 1) ∷ atTime (2 ^ 40) (one 1) ∷ [])
+  pub formed-later : AllFormed (atTime 420000 (one 10) ∷ atTime 540000 again ∷ atTime 600000 again ∷ [])
+  pub formed-last : AllFormed (atTime (2 ^ 40 - 1) (one 1) ∷ atTime (2 ^ 40) (one 1) ∷ [])
   -- Tasks 1 and 2 start at priority 7 in that order: 1 is active.
   pub p1 : (line (two 10) ≡ task 1 ∷ task 2 ∷ []) × (caller (two 10) ≡ task 1)
   -- Granule 100: pauses of 1 and of 99 ms both end at the next tick.
-  pub p2 : (numbers (two 100) (pause 1 ∷ pause 99 ∷ tick ∷ []) ≡ 0 ∷ 0 ∷ 0 ∷ []) × (line (after (two 100) (pause 1 ∷ pause 99 ∷ [])) ≡ [])
+  pub p2 : (numbers (two 100) (pause 1 ∷ pause 99 ∷ tick ∷ []) ≡ 0 ∷ 0 ∷ 0 ∷ [])
+      × (line (after (two 100) (pause 1 ∷ pause 99 ∷ [])) ≡ [])
       × (line (after (two 100) (pause 1 ∷ pause 99 ∷ tick ∷ [])) ≡ task 1 ∷ task 2 ∷ [])
   -- 30 seconds is 30,000 ms; 255 hours is 918,000,000 ms. 30 days are 2,592,000,000 ms; 255 days, the largest interval, 22,032,000,000 ms (02).
   pub p3 : (interval 2 30 .0 ≡ 30000) × (interval 4 255 .0 ≡ 918000000)
       × (interval 5 30 .0 ≡ 2592000000) × (interval 5 255 .0 ≡ 22032000000) × (longest ≡ 22032000000)
   -- Scheduled start 0, every 5 minutes, ended at 420,000: enters at once, scheduled start 300,000.
-  pub p4 : (scheduled 1 (one 10) ≡ 0) × (answer (atTime 420000 (one 10)) everyFive .number ≡ 0) × (line (ended 420000 (one 10)) ≡ task 1 ∷ [])
-      × (scheduled 1 (ended 420000 (one 10)) ≡ 300000)
+  pub p4 : (scheduled 1 (one 10) ≡ 0) × (answer (atTime 420000 (one 10)) everyFive .number ≡ 0)
+      × (line (ended 420000 (one 10)) ≡ task 1 ∷ []) × (scheduled 1 (ended 420000 (one 10)) ≡ 300000)
   -- That run ended at 540,000: due at 600,000. Ended at exactly 600,000: enters at once.
   pub p5 : (state 1 (ended 540000 again) ≡ Due (record { 0 = 600000 })) × (line (ended 540000 again) ≡ [])
       × (line (ended 600000 again) ≡ task 1 ∷ []) × (scheduled 1 (ended 600000 again) ≡ 600000)
@@ -135,7 +138,8 @@ pub record Cards : Type 0 where
   pub p6 : (answer (one 10) (restart 6 1) .number ≡ 0) × (answer (one 10) (restart 6 1) .v ≡ true)
       × (answer (one 10) (restart 5 1) .number ≡ 0) × (answer (one 10) (restart 5 1) .v ≡ false)
   -- Waiting for all of mask 3; flag 0 set, flag 0 reset, flag 1 set: still waiting.
-  pub p7 : (numbers (two 10) blinking ≡ 0 ∷ 0 ∷ 0 ∷ 0 ∷ []) × (after (two 10) blinking .rest .flags ≡ 2) × (state 1 (after (two 10) blinking) ≡ Flags All 3)
+  pub p7 : (numbers (two 10) blinking ≡ 0 ∷ 0 ∷ 0 ∷ 0 ∷ [])
+      × (after (two 10) blinking .rest .flags ≡ 2) × (state 1 (after (two 10) blinking) ≡ Flags All 3)
   -- 32 queued, one more for a busy task: 8. One begins, ask again: 0.
   pub p8 : (queued full ≡ 32) × (answer full (ask 0x80 1) .number ≡ 8) × (queued (after full (terminate ∷ [])) ≡ 31)
       × (answer (after full (terminate ∷ [])) (ask 0x80 1) .number ≡ 0)
@@ -143,9 +147,11 @@ pub record Cards : Type 0 where
   pub p9 : (answer (two 10) (start 0x80 2) .number ≡ 0) × (answer (two 10) (start 0x80 2) .z ≡ true)
       × (stepOf (two 10) (start 0x80 2) .table ≡ two 10) × (queued (two 10) ≡ 0)
   -- Kind 05 at oneself: bit 5 gives 7; bits 6 and 5 clear queues.
-  pub p10 : (answer (one 10) (ask 0x20 1) .number ≡ 7) × (answer (one 10) (ask 0x00 1) .number ≡ 0) × (queued (after (one 10) (ask 0x00 1 ∷ [])) ≡ 1)
+  pub p10 : (answer (one 10) (ask 0x20 1) .number ≡ 7) × (answer (one 10) (ask 0x00 1) .number ≡ 0)
+      × (queued (after (one 10) (ask 0x00 1 ∷ [])) ≡ 1)
   -- Granule 1: a tick at 2^40 - 1 is accepted, at 2^40 gives 10.
-  pub p11 : (answer (atTime (2 ^ 40 - 1) (one 1)) tick .number ≡ 0) × (after (atTime (2 ^ 40 - 1) (one 1)) (tick ∷ []) .rest .clock .0 ≡ 2 ^ 40)
+  pub p11 : (answer (atTime (2 ^ 40 - 1) (one 1)) tick .number ≡ 0)
+      × (after (atTime (2 ^ 40 - 1) (one 1)) (tick ∷ []) .rest .clock .0 ≡ 2 ^ 40)
       × (answer (atTime (2 ^ 40) (one 1)) tick .number ≡ 10)
   -- Idle: kind 00 gives 5.
   pub p12 : (caller idle .0 ≡ 0) × (answer idle terminate .number ≡ 5)

@@ -103,7 +103,7 @@ unfoldable pub enteredOf : ℕ → List Moves → ℕ
 enteredOf k [] = 0
 enteredOf k (m ∷ ms) = count k (m .ins) + enteredOf k ms
 
--- a task that restarts in one step counts as one departure and one entry: by the step's plan, and in the history of the record s
+-- a task that restarts in one step counts as one departure and one entry: by the step's plan; in a record's history
 pub record Restarts (p : Plan) (t : Table) : Type 0 where
   pub departs : movesOf p t .out ≡ true
   pub enters : count (caller t .0) (movesOf p t .ins) ≡ 1
@@ -114,8 +114,9 @@ pub record RestartsBy (s : List ℕ) (t : Table) : Type 0 where
 
 -- ---- all of it: t is any table, s any record, ss any records
 pub record Demands : Type 0 where
-  -- 1: a refusal changes nothing, and its number is the first of the list whose condition holds, in 01's words too (`Given`), number 1 exactly for a table that is
-  -- not well formed; the list is in 01's order; every step keeps the table well formed
+  -- 1: a refusal changes nothing, and its number is the first of the list whose condition holds, in 01's words too
+  -- (`Given`), number 1 exactly for a table that is not well formed; the list is in 01's order; every step keeps the
+  -- table well formed
   pub refusal-keeps : (t : Table) (s : List ℕ) → stepOf t s .answer .number ≢ 0 → stepOf t s .table ≡ t
   pub decided : (t : Table) (s : List ℕ) → Decides (refusals t s) (stepOf t s .answer .number)
   pub given : (t : Table) (s : List ℕ) (n : ℕ) → (stepOf t s .answer .number ≡ n) ↔ Given t s n
@@ -132,18 +133,22 @@ pub record Demands : Type 0 where
   -- the departures and entries counted are all that changes the queue: in the queue after and departed is in the queue before and entered, for each task
   pub accounted : (t : Table) (k : ℕ) (ss : List (List ℕ)) → WellFormed t → AllBytes ss → 0 < k
       → count k (view (after t ss)) + departedOf k t ss ≡ count k (view t) + enteredOf k (history t ss)
-  -- no entry or departure is invented: the queue after is the moves played on the queue before, and each that enters was not in it
-  pub played : (t : Table) (ss : List (List ℕ)) → WellFormed t → AllBytes ss → view (after t ss) ≡ plays (history t ss) (view t)
+  -- no entry or departure is invented: the queue after is the moves played on the queue before, and each that enters
+  -- was not in it
+  pub played : (t : Table) (ss : List (List ℕ)) → WellFormed t → AllBytes ss
+      → view (after t ss) ≡ plays (history t ss) (view t)
   pub legal : (t : Table) (ss : List (List ℕ)) → WellFormed t → AllBytes ss → Legal (history t ss) (view t)
   -- only that task's entry is rewritten: a task that neither departed nor entered has its entry as it was
   pub others : (t : Table) (k : ℕ) (ss : List (List ℕ)) → WellFormed t → AllBytes ss
       → departedOf k t ss ≡ 0 → enteredOf k (history t ss) ≡ 0 → taskAt (after t ss .tasks) k ≡ taskAt (t .tasks) k
-  -- 01 where the time aimed at has come, and 00 where a request for the caller is queued: the plan, and the history of an accepted record
+  -- 01 where the time aimed at has come, and 00 where a request for the caller is queued: the plan, and the history of
+  -- an accepted record
   pub restarts : (t : Table) (p n : ℕ) → WellFormed t → 0 < t .ready
       → aimAt (taskAt (t .tasks) (caller t .0) .start) (t .rest .clock) p n .0 ≤ t .rest .clock .0 → Restarts (restartPlan t p n) t
   pub begins-again : (t : Table) → WellFormed t → 0 < t .ready → placeOf (caller t .0) (requests (t .rest)) < length (requests (t .rest)) → Restarts (endPlan t) t
   pub restarts-by : (t : Table) (p n : ℕ) → stepOf t (0x01 ∷ p ∷ n ∷ []) .answer .number ≡ 0
-      → aimAt (taskAt (t .tasks) (caller t .0) .start) (t .rest .clock) p n .0 ≤ t .rest .clock .0 → RestartsBy (0x01 ∷ p ∷ n ∷ []) t
+      → aimAt (taskAt (t .tasks) (caller t .0) .start) (t .rest .clock) p n .0 ≤ t .rest .clock .0
+      → RestartsBy (0x01 ∷ p ∷ n ∷ []) t
   pub begins-again-by : (t : Table) → stepOf t (0x00 ∷ []) .answer .number ≡ 0
       → placeOf (caller t .0) (requests (t .rest)) < length (requests (t .rest)) → RestartsBy (0x00 ∷ []) t
   -- any two outcomes that a public entry's contract allows are equal: the answer and every field of the table

@@ -40,7 +40,8 @@ pub record Configuration (s : List ℕ) : Type 0 where
   pub time : 1 ≤ granule
   pub right : AllRight tasks
 
--- ---- the fresh table in 01's words: the marked tasks start in ascending number at their own priority, with argument 0 and scheduled start 0
+-- ---- the fresh table in 01's words: the marked tasks start in ascending number at their own priority, with argument 0
+-- and scheduled start 0
 abbrev pub startedAt : ℕ → Task
 startedAt p = record { own = p; state = Ready; priority = p; argument = 0; start = never; «end_waiter» = nobody }
 

@@ -1,5 +1,5 @@
--- The numbers an answer can carry, a second time, in 01's words: propositions where `refusals` has tests, bits as bits. A step's answer has the number
--- of the first of these cases that holds.
+-- The numbers an answer can carry, a second time, in 01's words: propositions where `refusals` has tests, bits as bits.
+-- A step's answer has the number of the first of these cases that holds.
 use Prim.Native.Nat.{ℕ, _+_, _/_, _%_, _^_, _≤_, _<_}
 use mathlib.Core.Path.{_≡_}
 use mathlib.Core.Logic.{_≢_, _⊎_}
@@ -29,8 +29,8 @@ Bit i x = x / 2 ^ i % 2 ≡ 1
 abbrev pub NoCall : Kind → Type 0
 NoCall k = (k ≡ kind.Unknown) ⊎ ((k ≡ kind.Granule) ⊎ ((k ≡ kind.Task) ⊎ (k ≡ kind.End)))
 
--- ---- 6: task not 1 to the task count; flag over 31; unit over 5 in 02 or 0B; operation over 2; mode over 1; mask 0; in 04 any of bits 6..4;
--- in 05 both bits 6 and 5
+-- ---- 6: task not 1 to the task count; flag over 31; unit over 5 in 02 or 0B; operation over 2; mode over 1; mask 0;
+-- in 01 both bits 7 and 6 (02); in 04 any of bits 6..4; in 05 both bits 6 and 5
 abbrev pub NoTask : Table → TaskNo → Type 0
 NoTask t k = (k .0 ≡ 0) ⊎ (t .rest .count < k .0)
 

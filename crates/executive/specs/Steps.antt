@@ -96,7 +96,8 @@ performed t c = outcomeOf t (firstOf (callRefusals t c)) c
 unfoldable pub stepOf : Table → List ℕ → Outcome
 stepOf t s = outcomeOf t (firstOf (refusals t s)) (callIn s)
 
--- ---- the contracts: a is the answer where there is no well-formed table; o is what the record s brings about at the table t, what the call c does
+-- ---- the contracts: a is the answer where there is no well-formed table; o is what the record s brings about at the
+-- table t, what the call c does
 abbrev pub IsNoTable : Answer → Type 0
 IsNoTable a = a ≡ noTable
 

@@ -1,4 +1,4 @@
--- What is promised of the definitions: both round trips, when each number is given, and that each contract allows one outcome.
+-- What is promised of the definitions: both round trips, when each number is given, one outcome for each contract.
 use Prim.Native.Nat.{ℕ, _<_, _^_}
 use mathlib.Core.Path.{_≡_}
 use mathlib.Core.Logic.{_↔_, _≢_, _⊎_}
@@ -40,6 +40,8 @@ pub record Promises : Type 0 where
   pub kind-determined : (b : ℕ) (x y : Kind) → KindIs b x → KindIs b y → x ≡ y
   pub length-determined : (k : Kind) (x y : ℕ) → LengthIs k x → LengthIs k y → x ≡ y
   pub read-determined : (s : List ℕ) (x y : Got) → Reads s x → Reads s y → x ≡ y
-  pub write-determined : (c : Call) (o p q : List ℕ) (x y : Written) → Writes c o p x → Writes c o q y → (p ≡ q) × (x ≡ y)
+  pub write-determined : (c : Call) (o p q : List ℕ) (x y : Written) → Writes c o p x → Writes c o q y
+      → (p ≡ q) × (x ≡ y)
   pub there-determined : (c : Call) (x y : Got) → ComesBack c x → ComesBack c y → x ≡ y
-  pub back-determined : (s o p q : List ℕ) (x y : Written) → WritesAgain s o p x → WritesAgain s o q y → (p ≡ q) × (x ≡ y)
+  pub back-determined : (s o p q : List ℕ) (x y : Written) → WritesAgain s o p x → WritesAgain s o q y
+      → (p ≡ q) × (x ≡ y)
