@@ -65,12 +65,14 @@ fn add(file: &mut File, chunk: &str, place: &str) -> Result<(), String> {
     let bare: Vec<&str> = words.iter().filter(|w| **w != "pub").copied().collect();
     let head = declared(chunk.lines().next().unwrap_or(""));
     match bare[0] {
-        "use" => {
-            let word = if words[0] == "pub" { "pub use" } else { "use" };
-            let tree = chunk.trim_start_matches("pub").trim_start().trim_start_matches("use");
-            file.uses.push(used(word, tree).map_err(|why| format!("{}: {}", place, why))?);
+        "use" if words[0] == "pub" => {
+            return Err(format!("{}: 'pub use' is not read here; use each name where it is.", place));
         }
-        "mod" => {}
+        "use" => {
+            let one = used("use", chunk.trim_start_matches("use")).map_err(|why| format!("{}: {}", place, why))?;
+            file.uses.push(one);
+        }
+        "mod" => file.below.push(bare[1].to_string()),
         "infix" | "infixl" | "infixr" => {
             let names = bare[2..].iter().map(|w| w.to_string()).collect();
             file.items.push(item(names, Vec::new(), chunk));
@@ -106,5 +108,10 @@ pub fn read(path: &str, source: &str) -> Result<File, String> {
         let end = starts.get(n + 1).copied().unwrap_or(plain.len());
         add(&mut file, &plain[*start..end], &text::at(path, &plain, *start))?;
     }
-    Ok(file)
+    let names: Vec<&str> = file.uses.iter().flat_map(|u| u.names.iter().map(|b| b.name.as_str())).collect();
+    let own = |u: &&Use| names.contains(&u.path[0].as_str()) || file.below.contains(&u.path[0]);
+    match file.uses.iter().find(own) {
+        Some(one) => Err(format!("{}: 'use {}' does not begin at a library.", path, one.path.join("."))),
+        None => Ok(file),
+    }
 }

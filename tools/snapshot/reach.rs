@@ -49,22 +49,11 @@ fn follow(tree: &Tree, path: &[String]) -> Option<Vec<Place>> {
         if let Some(file) = tree.file(krate, "specs", &below[..n].join("/")) {
             return match below.get(n) {
                 None => Some(Vec::new()),
-                Some(name) => named(tree, file, name),
+                Some(name) => Some(items_of(tree, file, name, true)).filter(|found| !found.is_empty()),
             };
         }
     }
     None
-}
-
-// An item that a file of specs/ has or passes on.
-fn named(tree: &Tree, file: usize, name: &str) -> Option<Vec<Place>> {
-    let own = items_of(tree, file, name, true);
-    if !own.is_empty() {
-        return Some(own);
-    }
-    let passed = tree.files[file].uses.iter().filter(|u| u.word == "pub use");
-    let mut found = passed.flat_map(|u| u.names.iter().filter(|b| b.name == name).map(move |b| whole(u, &b.from)));
-    found.next().and_then(|path| follow(tree, &path))
 }
 
 fn whole(one: &Use, below: &[String]) -> Vec<String> {
@@ -102,10 +91,10 @@ fn meant(tree: &Tree, at: usize, name: &[String]) -> Result<Vec<Place>, String> 
     for one in &file.uses {
         for n in brings(one, &name[0]) {
             let path = whole(one, &one.names[n].from);
+            let below: Vec<String> = path.iter().chain(&name[1..]).cloned().collect();
             if one.word == "code" {
-                found.extend(coded(tree, file, &path));
+                found.extend(coded(tree, file, &below));
             } else if one.module && name.len() > 1 {
-                let below: Vec<String> = path.iter().chain(&name[1..]).cloned().collect();
                 found.extend(follow(tree, &below).ok_or_else(|| missing(&below))?);
             } else {
                 found.extend(follow(tree, &path).ok_or_else(|| missing(&path))?);
@@ -126,7 +115,8 @@ fn next(tree: &Tree, place: Place) -> Result<Vec<Place>, String> {
     for path in &item.paths {
         found.extend(meant(tree, place.0, path)?);
         if path.len() > 1 {
-            found.extend(coded(tree, file, path));
+            let below: Vec<String> = Some("crate".to_string()).into_iter().chain(path.iter().cloned()).collect();
+            found.extend(coded(tree, file, path).into_iter().chain(coded(tree, file, &below)));
         }
     }
     Ok(found)

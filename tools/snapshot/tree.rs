@@ -9,7 +9,7 @@ pub struct Brought {
     pub name: String,
 }
 
-// `word` is how it is written: use, pub use, ghost use, or `use ..;` of code.
+// `word` is how it is written: use, ghost use, or code for the `use ..;` of code.
 pub struct Use {
     pub word: &'static str,
     pub path: Vec<String>,
@@ -28,15 +28,17 @@ pub struct Item {
     pub root: bool,
 }
 
+// A file, with the modules below it.
 pub struct File {
     pub path: String,
+    pub below: Vec<String>,
     pub uses: Vec<Use>,
     pub items: Vec<Item>,
 }
 
 impl File {
     pub fn new(path: &str) -> File {
-        File { path: path.to_string(), uses: Vec::new(), items: Vec::new() }
+        File { path: path.to_string(), below: Vec::new(), uses: Vec::new(), items: Vec::new() }
     }
 
     // `crates/NAME/FOLDER/MODULE.rt` as NAME, FOLDER and MODULE.
