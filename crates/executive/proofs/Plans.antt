@@ -306,7 +306,8 @@ module _ (t : Table) (w : Formed t) (h : 0 < t .ready) where
           rested = w .rested;
         }
 
-    now-good : aim .0 ≤ now → Good (record { out = leaves (dueAt aim); ins = waking (endWaiter t c) ++ (raising c ∷ []); rest = t .rest }) t
+    -- the rest is the plan's own: one that took a request out of the pool would have other links
+    now-good : aim .0 ≤ now → Good (record { out = leaves (dueAt aim); ins = waking (endWaiter t c) ++ (raising c ∷ []); rest = restartBy t c aim .rest }) t
     unfolding puts
     now-good z =
         let u = puts-append (waking (endWaiter t c)) (raising c ∷ []) ts₄ in
@@ -327,7 +328,7 @@ module _ (t : Table) (w : Formed t) (h : 0 < t .ready) where
       go : (aim : Millis) → aim .0 ≤ now + longest → Good (restartBy t c aim) t
       go aim far = by (leb (aim .0) now) refl
         where
-          by : (b : Bool) → leb (aim .0) now ≡ b → Good (record { out = leaves (dueAt aim); ins = waking (endWaiter t c) ++ pick b (raising c ∷ []) []; rest = t .rest }) t
+          by : (b : Bool) → leb (aim .0) now ≡ b → Good (record { out = leaves (dueAt aim); ins = waking (endWaiter t c) ++ pick b (raising c ∷ []) []; rest = restartBy t c aim .rest }) t
           by true z = now-good aim (leb-true (aim .0) now z)
           by false z = later-good aim far (leb-false (aim .0) now z)
 
