@@ -108,10 +108,5 @@ pub fn read(path: &str, source: &str) -> Result<File, String> {
         let end = starts.get(n + 1).copied().unwrap_or(plain.len());
         add(&mut file, &plain[*start..end], &text::at(path, &plain, *start))?;
     }
-    let names: Vec<&str> = file.uses.iter().flat_map(|u| u.names.iter().map(|b| b.name.as_str())).collect();
-    let own = |u: &&Use| names.contains(&u.path[0].as_str()) || file.below.contains(&u.path[0]);
-    match file.uses.iter().find(own) {
-        Some(one) => Err(format!("{}: 'use {}' does not begin at a library.", path, one.path.join("."))),
-        None => Ok(file),
-    }
+    Ok(file)
 }

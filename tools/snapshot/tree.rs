@@ -41,6 +41,18 @@ impl File {
         File { path: path.to_string(), below: Vec::new(), uses: Vec::new(), items: Vec::new() }
     }
 
+    // The file, unless a `use` of definitions begins at a name of the file itself: it would be taken for the kit's.
+    fn from_libraries(self) -> Result<File, String> {
+        let of_terms = || self.uses.iter().filter(|u| u.word != "code");
+        let brought = of_terms().flat_map(|u| u.names.iter().map(|b| &b.name));
+        let names: Vec<&String> = brought.chain(&self.below).collect();
+        let own = of_terms().find(|u| names.contains(&&u.path[0])).map(|u| u.path.join("."));
+        match own {
+            Some(path) => Err(format!("{}: 'use {}' does not begin at a library.", self.path, path)),
+            None => Ok(self),
+        }
+    }
+
     // `crates/NAME/FOLDER/MODULE.rt` as NAME, FOLDER and MODULE.
     pub fn parts(&self) -> (&str, &str, &str) {
         let mut parts = self.path.splitn(4, '/').skip(1);
@@ -101,10 +113,10 @@ pub fn read(root: &Path) -> Result<Tree, String> {
             return Err(format!("crates.txt lists '{}', and crates/{}/src has no file of it.", name, name));
         }
         for path in sources_of {
-            files.push(sources::read(&path, &text_of(&root.join(&path))?)?);
+            files.push(sources::read(&path, &text_of(&root.join(&path))?)?.from_libraries()?);
         }
         for path in files_in(root, &format!("crates/{}/specs", name), ".antt")? {
-            files.push(definitions::read(&path, &text_of(&root.join(&path))?)?);
+            files.push(definitions::read(&path, &text_of(&root.join(&path))?)?.from_libraries()?);
         }
     }
     Ok(Tree { crates, files })
