@@ -59,34 +59,39 @@ fn item(names: Vec<String>, fields: Vec<String>, chunk: &str) -> Item {
     Item { names, fields, lines: text::lines(chunk, 0), words: text::names(chunk), paths: Vec::new(), root: false }
 }
 
+// Why a chunk that begins with these words is not read, if it is not.
+fn unread(words: &[&str], bare: &[&str]) -> Option<&'static str> {
+    match (words, bare) {
+        (_, ["use" | "mod" | "record" | "data"]) | (_, []) => Some("is cut short"),
+        (_, ["infix" | "infixl" | "infixr"]) | (_, ["infix" | "infixl" | "infixr", _]) => Some("is cut short"),
+        (["pub", "use", ..], _) => Some("is not read here; use each name where it is"),
+        (_, ["open" | "ruleset" | "package", ..]) => Some("is not read here"),
+        _ => None,
+    }
+}
+
 // A chunk goes to the file: a `use`, a new item, or a clause of the last one.
 fn add(file: &mut File, chunk: &str, place: &str) -> Result<(), String> {
     let words: Vec<&str> = chunk.split_whitespace().collect();
     let bare: Vec<&str> = words.iter().filter(|w| **w != "pub").copied().collect();
-    let head = declared(chunk.lines().next().unwrap_or(""));
+    if let Some(why) = unread(&words, &bare) {
+        return Err(format!("{}: '{}' {}.", place, words[..words.len().min(2)].join(" "), why));
+    }
+    let named = |n: usize| vec![bare[n].to_string()];
     match bare[0] {
-        "use" if words[0] == "pub" => {
-            return Err(format!("{}: 'pub use' is not read here; use each name where it is.", place));
-        }
         "use" => {
             let one = used("use", chunk.trim_start_matches("use")).map_err(|why| format!("{}: {}", place, why))?;
             file.uses.push(one);
         }
-        "mod" => file.below.push(bare[1].to_string()),
+        "mod" => file.below.extend(named(1)),
         "infix" | "infixl" | "infixr" => {
             let names = bare[2..].iter().map(|w| w.to_string()).collect();
             file.items.push(item(names, Vec::new(), chunk));
         }
-        "record" => file.items.push(item(vec![head[1].clone()], within(chunk), chunk)),
-        "data" => {
-            let names = Some(head[1].clone()).into_iter().chain(within(chunk)).collect();
-            file.items.push(item(names, Vec::new(), chunk));
-        }
+        "record" => file.items.push(item(named(1), within(chunk), chunk)),
+        "data" => file.items.push(item(named(1).into_iter().chain(within(chunk)).collect(), Vec::new(), chunk)),
         "module" | "mutual" => file.items.push(item(within(chunk), Vec::new(), chunk)),
-        "open" | "ruleset" | "package" => {
-            return Err(format!("{}: '{}' is a form that is not read here.", place, bare[0]));
-        }
-        _ if is_signature(chunk) => file.items.push(item(vec![head[0].clone()], Vec::new(), chunk)),
+        _ if is_signature(chunk) => file.items.push(item(declared(chunk)[..1].to_vec(), Vec::new(), chunk)),
         _ => match file.items.last_mut() {
             None => return Err(format!("{}: a clause without a signature.", place)),
             Some(last) => {

@@ -239,7 +239,7 @@ fn declarations(code: &Code, file: &mut File, from: usize, end: usize, owner: Op
                 file.uses.push(ghost(code, n)?);
                 n + 2
             }
-            ("use", _) => {
+            ("use", _) if code.until(n, &[";"]) < end => {
                 let stop = code.until(n, &[";"]);
                 file.uses.push(used(code, n, stop)?);
                 stop + 1
@@ -249,6 +249,9 @@ fn declarations(code: &Code, file: &mut File, from: usize, end: usize, owner: Op
             ("struct" | "enum" | "const" | "type", _) => {
                 let stop = code.until(n, &[";", "{", "="]);
                 let stop = if code.word(stop) == "{" { code.closed(stop) } else { code.until(stop, &[";"]) + 1 };
+                if stop > end {
+                    return code.refuse(n);
+                }
                 file.items.push(code.item(code.word(n + 1).to_string(), first, stop, public, None));
                 stop
             }
