@@ -11,8 +11,8 @@ use native.Mathlib.Nat.{add-zero}
 use borrow.Author.Tests.{le-leb, lt-leb, leb-true, ne-eqb}
 use Rattle.executive.specs.declared.Answer.{Answer}
 use Rattle.executive.specs.declared.Outcome.{Outcome}
+use Rattle.records.specs.declared.TaskNo.{TaskNo}
 use Rattle.executive.specs.declared.Table.{Table}
-use Rattle.executive.specs.Plans.{caller}
 use Rattle.executive.specs.Steps.{stepOf}
 use Rattle.bench.specs.declared.Next.{Next}
 use Rattle.bench.specs.declared.Next.the-variants as next
@@ -45,7 +45,7 @@ last-some s =
     (λ e. rw e (decide (eqb (stepLength s) 0) (λ f. rw f (stop-some 4)) (λ f. rw f (stop-some 3))))
 
 told-as-some : (n : Next) (s : List ℕ) (r : Run) → isMore n ≡ true → 0 < length (toldAs n s r)
-told-as-some next.Header s r e = header-some (r .table .rest .granule) (r .table .rest .count) (caller (r .table) .0)
+told-as-some (next.Header k) s r e = header-some (r .table .rest .granule) (r .table .rest .count) (k .0)
 told-as-some next.Step s r e =
     decide (eqb (wholeOf (leftIn s r)) 0) (λ q. rw q (last-some (leftIn s r))) (λ q. rw q (line-some _ _ _))
 told-as-some (next.Stop n) s r e = stop-some n
@@ -234,9 +234,9 @@ module _ (s : List ℕ) (r : Run) (a : List ℕ) where
       → Fills s r a b (record { used = k; more = false; run = withNext next.Nothing r })
   fill-stop n e h p = fills-all _ (going-over false (going-first (next.Stop n) e refl h p) refl refl)
 
-  pub fill-header : r .next ≡ next.Header → 64 ≤ length a → {b c : List ℕ} {k : ℕ} (f : Filled) → Adds a 0 b k (headerOf (r .table))
-      → FillsFrom k s (withNext next.Step r) b c f → Fills s r a c f
-  fill-header e h f p q = fills-all f (going-on f (going-first next.Header e refl h p) q)
+  pub fill-header : (t : TaskNo) → r .next ≡ next.Header t → 64 ≤ length a → {b c : List ℕ} {k : ℕ} (f : Filled)
+      → Adds a 0 b k (headerOf (r .table) t) → FillsFrom k s (withNext next.Step r) b c f → Fills s r a c f
+  fill-header t e h f p q = fills-all f (going-on f (going-first (next.Header t) e refl h p) q)
 
   pub fill-steps : r .next ≡ next.Step → {b : List ℕ} (f : Filled) → FillsFrom 0 s (withNext next.Step r) a b f → Fills s r a b f
   fill-steps e f q =

@@ -51,7 +51,7 @@ steps-enough (suc j) (suc k) n t s h g =
 
 -- ---- what is left to tell
 abbrev pub leftAs : Next → List ℕ → Run → List ℕ
-leftAs next.Header s r = headerOf (r .table) ++ stepsOf (length s) (r .number) (r .table) (leftIn s r)
+leftAs (next.Header k) s r = headerOf (r .table) k ++ stepsOf (length s) (r .number) (r .table) (leftIn s r)
 leftAs next.Step s r = stepsOf (length s) (r .number) (r .table) (leftIn s r)
 leftAs (next.Stop n) s r = stopOf n
 leftAs next.Nothing s r = []
@@ -60,13 +60,13 @@ abbrev pub left : List ℕ → Run → List ℕ
 left s r = leftAs (r .next) s r
 
 no-more : (n : Next) (s : List ℕ) (r : Run) → isMore n ≡ false → leftAs n s r ≡ []
-no-more next.Header s r e = absurd (let z : _≡_ {A = ℕ} 0 1 = cc in omega arith)
+no-more (next.Header k) s r e = absurd (let z : _≡_ {A = ℕ} 0 1 = cc in omega arith)
 no-more next.Step s r e = absurd (let z : _≡_ {A = ℕ} 0 1 = cc in omega arith)
 no-more (next.Stop n) s r e = absurd (let z : _≡_ {A = ℕ} 0 1 = cc in omega arith)
 no-more next.Nothing s r e = refl
 
 no-lines : (n : Next) (s : List ℕ) (r : Run) → linesAs n s r ≤ 0 → isMore n ≡ false
-no-lines next.Header s r h = absurd (omega arith)
+no-lines (next.Header k) s r h = absurd (omega arith)
 no-lines next.Step s r h = absurd (omega arith)
 no-lines (next.Stop n) s r h = absurd (omega arith)
 no-lines next.Nothing s r h = refl
@@ -96,7 +96,7 @@ step-turn s r h =
     rw e (record { same = p ∙ rw (e, d, a); sound = rw a (omega arith); fewer = omega arith }))
 
 turn-as : (n : Next) (s : List ℕ) (r : Run) → SoundAs n s r → isMore n ≡ true → Turn (leftAs n s r) (toldAs n s r) (linesAs n s r) s (afterAs n s r)
-turn-as next.Header s r h e = record { same = refl; sound = h; fewer = omega arith }
+turn-as (next.Header k) s r h e = record { same = refl; sound = h; fewer = omega arith }
 turn-as next.Step s r h e = step-turn s r h
 turn-as (next.Stop n) s r h e = record { same = sym (append-nil (stopOf n)); sound = tt; fewer = omega arith }
 turn-as next.Nothing s r h e = absurd (let z : _≡_ {A = ℕ} 0 1 = cc in omega arith)
@@ -151,7 +151,7 @@ poured-told [] s r h = stay s r h
 poured-told (n ∷ ns) s r h = let t = piece-of n s r h in move t (poured-told ns s (pieceOf n s r .run) (t .sound))
 
 none-lines : (n : Next) (s : List ℕ) (r : Run) → isMore n ≡ false → linesAs n s r ≡ 0
-none-lines next.Header s r e = absurd (let z : _≡_ {A = ℕ} 0 1 = cc in omega arith)
+none-lines (next.Header k) s r e = absurd (let z : _≡_ {A = ℕ} 0 1 = cc in omega arith)
 none-lines next.Step s r e = absurd (let z : _≡_ {A = ℕ} 0 1 = cc in omega arith)
 none-lines (next.Stop n) s r e = absurd (let z : _≡_ {A = ℕ} 0 1 = cc in omega arith)
 none-lines next.Nothing s r e = refl
@@ -172,7 +172,7 @@ start-sound s =
     decide (ltb mostBytes (length s))
     (λ e. rw e tt)
     (λ e.
-    rw e (decide (eqb (madeOf s .number) 0)
+    rw e (decide (eqb (madeOf s .answer .number) 0)
     (λ f. rw f (omega (arith, ltb-false mostBytes (length s) e, length-drop (configurationIn s) s)))
     (λ f. rw f tt)))
 
@@ -181,7 +181,7 @@ unfolding startOf listingOf
 start-left s =
     decide (ltb mostBytes (length s))
     (λ e. rw e)
-    (λ e. rw e (decide (eqb (madeOf s .number) 0) (λ f. rw f) (λ f. rw f)))
+    (λ e. rw e (decide (eqb (madeOf s .answer .number) 0) (λ f. rw f) (λ f. rw f)))
 
 start-lines : (s : List ℕ) → lines s (startOf s) ≤ length s + 2
 unfolding startOf
@@ -189,7 +189,7 @@ start-lines s =
     decide (ltb mostBytes (length s))
     (λ e. rw e (omega arith))
     (λ e.
-    rw e (decide (eqb (madeOf s .number) 0)
+    rw e (decide (eqb (madeOf s .answer .number) 0)
     (λ f. rw f (omega (arith, length-drop (configurationIn s) s)))
     (λ f. rw f (omega arith))))
 
@@ -197,7 +197,7 @@ start-lines s =
 start-more : (s : List ℕ) → isMore (startOf s .next) ≡ true
 unfolding startOf
 start-more s =
-    decide (ltb mostBytes (length s)) (λ e. rw e) (λ e. rw e (decide (eqb (madeOf s .number) 0) (λ f. rw f) (λ f. rw f)))
+    decide (ltb mostBytes (length s)) (λ e. rw e) (λ e. rw e (decide (eqb (madeOf s .answer .number) 0) (λ f. rw f) (λ f. rw f)))
 
 module _ (s : List ℕ) (r : Run) (a b : List ℕ) (f : Filled) (p : Fills s r a b f) where
   filled-in : f .used ≤ length b

@@ -1,9 +1,9 @@
 -- The four lines that a listing is made of (01, "The bench program").
 use Prim.Native.Nat.{ℕ}
 use mathlib.Core.List.{List, [], _∷_, _++_}
+use Rattle.records.specs.declared.TaskNo.{TaskNo}
 use Rattle.executive.specs.declared.Table.{Table}
 use Rattle.executive.specs.declared.Answer.{Answer}
-use Rattle.executive.specs.Plans.{caller}
 use Rattle.bench.specs.Glyphs.{decimalOf, hexOf, bitOf}
 
 -- words with a space between them, and a line feed at the end
@@ -37,8 +37,9 @@ abbrev pub headerBy : ℕ → ℕ → ℕ → List ℕ
 headerBy granule tasks active =
     row (granuleWord ∷ decimalOf granule ∷ tasksWord ∷ decimalOf tasks ∷ activeWord ∷ decimalOf active ∷ [])
 
-abbrev pub headerOf : Table → List ℕ
-headerOf t = headerBy (t .rest .granule) (t .rest .count) (caller t .0)
+-- that of a table in which a task is active
+abbrev pub headerOf : Table → TaskNo → List ℕ
+headerOf t active = headerBy (t .rest .granule) (t .rest .count) (active .0)
 
 -- a step: its number, its kind in hex, answer, ZVC, active
 unfoldable pub lineOf : ℕ → ℕ → Answer → List ℕ

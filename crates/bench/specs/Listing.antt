@@ -49,6 +49,6 @@ madeOf s = freshOf (take (configurationIn s) s)
 unfoldable pub listingOf : List ℕ → List ℕ
 listingOf s =
     cond (ltb mostBytes (length s)) (stopOf 12)
-    (cond (eqb (madeOf s .number) 0)
-    (headerOf (madeOf s .table) ++ stepsOf (length s) 1 (madeOf s .table) (drop (configurationIn s) s))
+    (cond (eqb (madeOf s .answer .number) 0)
+    (headerOf (madeOf s .table) (madeOf s .answer .active) ++ stepsOf (length s) 1 (madeOf s .table) (drop (configurationIn s) s))
     (stopOf 2))

@@ -5,6 +5,7 @@ use mathlib.Core.Bool.{Bool, true, false, cond}
 use mathlib.Core.List.{List, [], _∷_, _++_}
 use lib.ListN.{length, getD, take, drop}
 use lib.Dec.{eqb, leb, ltb}
+use Rattle.records.specs.declared.TaskNo.{TaskNo}
 use Rattle.executive.specs.declared.Table.{Table}
 use Rattle.executive.specs.Fresh.{configurationIn}
 use Rattle.executive.specs.Steps.{stepOf}
@@ -24,16 +25,21 @@ lineRoom = 64
 abbrev pub withNext : Next → Run → Run
 withNext n r = record { next = n; at = r .at; number = r .number; table = r .table }
 
--- what is told first, of an input of that length whose configuration gave that number
-abbrev pub firstOf : ℕ → ℕ → Next
-firstOf n k = cond (ltb mostBytes n) (next.Stop 12) (cond (eqb k 0) next.Header (next.Stop 2))
+-- what is told first, of an input of that length whose configuration gave that number and that active task
+abbrev pub firstOf : ℕ → ℕ → TaskNo → Next
+firstOf n k active = cond (ltb mostBytes n) (next.Stop 12) (cond (eqb k 0) (next.Header active) (next.Stop 2))
 
 unfoldable pub startOf : List ℕ → Run
-startOf s = record { next = firstOf (length s) (madeOf s .number); at = configurationIn s; number = 1; table = madeOf s .table }
+startOf s = record {
+  next = firstOf (length s) (madeOf s .answer .number) (madeOf s .answer .active);
+  at = configurationIn s;
+  number = 1;
+  table = madeOf s .table;
+}
 
 -- is there more to tell?
 abbrev pub isMore : Next → Bool
-isMore next.Header = true
+isMore (next.Header k) = true
 isMore next.Step = true
 isMore (next.Stop n) = true
 isMore next.Nothing = false
@@ -56,7 +62,7 @@ stepped w s r = record {
 }
 
 abbrev pub toldAs : Next → List ℕ → Run → List ℕ
-toldAs next.Header s r = headerOf (r .table)
+toldAs (next.Header k) s r = headerOf (r .table) k
 toldAs next.Step s r =
     cond (eqb (wholeOf (leftIn s r)) 0) (lastOf (leftIn s r))
     (lineOf (r .number) (getD (leftIn s r) 0 0) (stepOf (r .table) (take (wholeOf (leftIn s r)) (leftIn s r)) .answer))
@@ -64,7 +70,7 @@ toldAs (next.Stop n) s r = stopOf n
 toldAs next.Nothing s r = []
 
 abbrev pub afterAs : Next → List ℕ → Run → Run
-afterAs next.Header s r = withNext next.Step r
+afterAs (next.Header k) s r = withNext next.Step r
 afterAs next.Step s r = cond (eqb (wholeOf (leftIn s r)) 0) (withNext next.Nothing r) (stepped (wholeOf (leftIn s r)) s r)
 afterAs (next.Stop n) s r = withNext next.Nothing r
 afterAs next.Nothing s r = r
@@ -118,7 +124,7 @@ pub record FillsFrom (n : ℕ) (s : List ℕ) (r : Run) (a b : List ℕ) (f : Fi
 -- ---- where a listing can stand, and how much is left of it
 -- the number of a step has room to count those that are left
 abbrev pub SoundAs : Next → List ℕ → Run → Type 0
-SoundAs next.Header s r = r .number + length (leftIn s r) < 4294967296
+SoundAs (next.Header k) s r = r .number + length (leftIn s r) < 4294967296
 SoundAs next.Step s r = r .number + length (leftIn s r) < 4294967296
 SoundAs (next.Stop n) s r = Unit {0}
 SoundAs next.Nothing s r = Unit {0}
@@ -128,7 +134,7 @@ Sound s r = SoundAs (r .next) s r
 
 -- no more lines are left than this
 abbrev pub linesAs : Next → List ℕ → Run → ℕ
-linesAs next.Header s r = length (leftIn s r) + 2
+linesAs (next.Header k) s r = length (leftIn s r) + 2
 linesAs next.Step s r = length (leftIn s r) + 1
 linesAs (next.Stop n) s r = 1
 linesAs next.Nothing s r = 0

@@ -1,14 +1,15 @@
 // The bench: the listing of a run, from the bytes of its input to the bytes that are printed.
 use executive::Table;
+use records::TaskNo;
 
 mod glyphs;
 mod lines;
 pub mod listing;
 mod steps;
 
-// What is told next.
+// What is told next: the header, with the task that is active in the fresh table; a step; a stop with its number; nothing.
 pub enum Next {
-    Header,
+    Header(TaskNo),
     Step,
     Stop(u8),
     Nothing,

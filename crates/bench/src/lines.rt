@@ -1,22 +1,29 @@
 // The four lines of a listing, each put at a place of a buffer that has room for it.
 use crate::glyphs;
 use executive::Answer;
+use records::TaskNo;
 ghost use Prim.Native.Nat.{_+_, _≤_};
 ghost use lib.ListN.{length};
 ghost use Rattle.bench.specs.Glyphs.{Adds};
 ghost use Rattle.bench.specs.Lines.{headerBy, lineOf, stopOf, endOf};
 
 // granule, tasks and active, each with its number.
-pub(crate) fn header_line(out: &mut [u8], at: usize, granule: u8, tasks: u8, active: u8) -> usize
+pub(crate) fn header_line(
+    out: &mut [u8],
+    at: usize,
+    granule: u8,
+    tasks: u8,
+    active: TaskNo,
+) -> usize
     requires { ⌜ at + 64 ≤ length (now out) ⌝ }
-    ensures { λ r. ⌜ Adds (now (out .entry)) at (now (out .exit)) r (headerBy granule tasks active) ⌝ }
+    ensures { λ r. ⌜ Adds (now (out .entry)) at (now (out .exit)) r (headerBy granule tasks (active .0)) ⌝ }
 {
     let a = glyphs::text(out, at, b"granule ");
     let b = glyphs::decimal(out, a, granule as u32);
     let c = glyphs::text(out, b, b" tasks ");
     let d = glyphs::decimal(out, c, tasks as u32);
     let e = glyphs::text(out, d, b" active ");
-    let f = glyphs::decimal(out, e, active as u32);
+    let f = glyphs::decimal(out, e, active.0 as u32);
     glyphs::put(out, f, 10)
 }
 

@@ -9,22 +9,21 @@ use executive::configuration;
 use records::TaskNo;
 ghost use mathlib.Core.Path.{_≡_};
 ghost use Prim.Native.Nat.{_≤_, _-_};
-ghost use lib.ListN.{length, take};
+ghost use lib.ListN.{length};
 ghost use Rattle.bench.specs.declared.Next.the-variants.{Step};
-ghost use Rattle.executive.specs.Table.{headOf};
 ghost use Rattle.bench.specs.Glyphs.{Adds};
 ghost use Rattle.bench.specs.Lines.{headerOf};
 ghost use Rattle.bench.specs.Pieces.{firstOf, Starts, isMore, after, withNext, Fills, FillsFrom, Promise};
 
-// What is told first, of an input of that length whose configuration gave that number.
-fn first(length: usize, number: u8) -> Next
-    ensures { λ r. ⌜ r ≡ firstOf length number ⌝ }
+// What is told first, of an input of that length whose configuration gave that number and that active task.
+fn first(length: usize, number: u8, active: TaskNo) -> Next
+    ensures { λ r. ⌜ r ≡ firstOf length number active ⌝ }
 {
     if 65536 < length {
         return Next::Stop(12);
     }
     if number == 0 {
-        return Next::Header;
+        return Next::Header(active);
     }
     Next::Stop(2)
 }
@@ -35,7 +34,8 @@ pub fn start(input: &[u8]) -> Run
 {
     let at = configuration::length_in(input);
     let made = configuration::fresh(&input[..at]);
-    let next = first(input.len(), made.number);
+    let answer = made.answer;
+    let next = first(input.len(), answer.number, answer.active);
     let table = made.table;
     Run {
         next,
@@ -50,7 +50,7 @@ fn is_more(next: Next) -> bool
     ensures { λ r. ⌜ r ≡ isMore next ⌝ }
 {
     match next {
-        Next::Header => true,
+        Next::Header(_) => true,
         Next::Step => true,
         Next::Stop(_) => true,
         Next::Nothing => false,
@@ -67,25 +67,13 @@ fn number_after(n: u32) -> u32
     n
 }
 
-// The active task: the head of the queue, 0 when it is empty.
-fn active(queue: [TaskNo; 16], ready: u8) -> u8
-    ensures { λ r. ⌜ r ≡ headOf (take ready queue) .0 ⌝ }
-{
-    if ready == 0 {
-        return 0;
-    }
-    let head = queue[0];
-    head.0
-}
-
-// The header of a table.
-fn header(table: Table, out: &mut [u8]) -> usize
+// The header of a table, in which that task is active.
+fn header(table: Table, active: TaskNo, out: &mut [u8]) -> usize
     requires { ⌜ 64 ≤ length (now out) ⌝ }
-    ensures { λ r. ⌜ Adds (now (out .entry)) 0 (now (out .exit)) r (headerOf table) ⌝ }
+    ensures { λ r. ⌜ Adds (now (out .entry)) 0 (now (out .exit)) r (headerOf table active) ⌝ }
 {
     let rest = table.rest;
-    let queue = table.queue;
-    lines::header_line(out, 0, rest.granule, rest.count, active(queue, table.ready))
+    lines::header_line(out, 0, rest.granule, rest.count, active)
 }
 
 // The lines of the steps from where a listing stands, into a buffer that is used up to a place.
@@ -145,8 +133,8 @@ pub fn fill(input: &[u8], run: Run, out: &mut [u8]) -> Filled
         };
     }
     match next {
-        Next::Header => {
-            let used = header(table, out);
+        Next::Header(active) => {
+            let used = header(table, active, out);
             go_on(input, run, out, used)
         }
         Next::Step => go_on(input, run, out, 0),

@@ -17,7 +17,7 @@ use Rattle.executive.specs.Steps.{noTable, stepOf}
 use Rattle.executive.specs.Fresh.{freshOf}
 use Rattle.board.specs.Blocks.{written}
 use Rattle.board.specs.Image.{imageLength, imageOf, loadOf, isImageOf, isImage, FitsTable}
-use Rattle.board.specs.Entries.{checkNumber, CheckedImage, Holds, freshNumber, freshImage, answerLength, answerBytes, answerTo, imageAfter, stepNumber, stepImage, stepAnswer}
+use Rattle.board.specs.Entries.{noRoom, checkNumber, CheckedImage, Holds, freshNumber, freshImage, answerLength, answerBytes, answerTo, imageAfter, stepNumber, stepImage, stepAnswer}
 use Rattle.board.proofs.Alike.{decide, never}
 use Rattle.board.proofs.Trips.{load-store, stored}
 
@@ -27,18 +27,18 @@ holds t u f e i = record { image = rw i (stored t f); loads = ap loadOf i ∙ lo
 
 -- ---- a fresh table
 module _ (g o : List ℕ) where
-  pub fresh-length : (length o ≡ imageLength → ⊥) → (1 ≡ freshNumber g o) × (o ≡ freshImage g o)
+  pub fresh-length : (length o ≡ imageLength → ⊥) → (noRoom ≡ freshNumber g o) × (o ≡ freshImage g o)
   unfolding freshNumber freshImage
   fresh-length h = let e = ne-eqb (length o) imageLength h in (rw e, rw e)
 
   module _ (f : Fresh) (ef : f ≡ freshOf g) (n : length o ≡ imageLength) where
-    pub fresh-refused : (f .number ≡ 0 → ⊥) → (f .number ≡ freshNumber g o) × (o ≡ freshImage g o)
+    pub fresh-refused : (f .answer .number ≡ 0 → ⊥) → (f .answer .number ≡ freshNumber g o) × (o ≡ freshImage g o)
     unfolding freshNumber freshImage
-    fresh-refused h = let e = eq-eqb (length o) imageLength n in let k = ne-eqb (f .number) 0 h in rw (e, ← ef) (refl, rw k)
+    fresh-refused h = let e = eq-eqb (length o) imageLength n in let k = ne-eqb (f .answer .number) 0 h in rw (e, ← ef) (refl, rw k)
 
-    pub fresh-made : {u : List ℕ} → f .number ≡ 0 → u ≡ imageOf (f .table) → (0 ≡ freshNumber g o) × (u ≡ freshImage g o)
+    pub fresh-made : {u : List ℕ} → f .answer .number ≡ 0 → u ≡ imageOf (f .table) → (0 ≡ freshNumber g o) × (u ≡ freshImage g o)
     unfolding freshNumber freshImage
-    fresh-made h eu = let e = eq-eqb (length o) imageLength n in let k = eq-eqb (f .number) 0 h in rw (e, ← ef) (sym h, rw k eu)
+    fresh-made h eu = let e = eq-eqb (length o) imageLength n in let k = eq-eqb (f .answer .number) 0 h in rw (e, ← ef) (sym h, rw k eu)
 
 -- ---- the bytes are an image, as it was found
 module _ (s : List ℕ) (t : Table) (et : t ≡ loadOf s) where
@@ -64,7 +64,7 @@ module _ (s : List ℕ) (t : Table) (et : t ≡ loadOf s) where
 
 -- ---- a step
 module _ (s k o : List ℕ) where
-  pub step-short : length o < answerLength → (20 ≡ stepNumber s k o) × ((s ≡ stepImage s k o) × (o ≡ stepAnswer s k o))
+  pub step-short : length o < answerLength → (noRoom ≡ stepNumber s k o) × ((s ≡ stepImage s k o) × (o ≡ stepAnswer s k o))
   unfolding stepNumber stepImage stepAnswer
   step-short h = let e = lt-ltb (length o) answerLength h in (rw e, (rw e, rw e))
 

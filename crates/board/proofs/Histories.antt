@@ -25,18 +25,18 @@ held : (s : List ℕ) (t : Table) → Holds s t → WellFormed t → WellFormedI
 held s t h w = record { image = h .image; table = rw (h .loads) w }
 
 -- ---- a fresh one
-made-number : (g o : List ℕ) → 0 ≡ freshNumber g o → freshOf g .number ≡ 0
+made-number : (g o : List ℕ) → 0 ≡ freshNumber g o → freshOf g .answer .number ≡ 0
 unfolding freshNumber
 made-number g o e =
     decide (eqb (length o) imageLength)
-    (λ h. let z : 0 ≡ freshOf g .number = rw h at e in sym z)
-    (λ h. let z : _≡_ {A = ℕ} 0 1 = rw h at e in absurd (omega arith))
+    (λ h. let z : 0 ≡ freshOf g .answer .number = rw h at e in sym z)
+    (λ h. let z : _≡_ {A = ℕ} 0 30 = rw h at e in absurd (omega arith))
 
-made-formed : (g : List ℕ) → Bytes g → freshOf g .number ≡ 0 → WellFormed (freshOf g .table)
+made-formed : (g : List ℕ) → Bytes g → freshOf g .answer .number ≡ 0 → WellFormed (freshOf g .table)
 made-formed g b e =
     decide (isConfiguration g)
     (λ h. rw (fresh-law .made g h) (fresh-law .formed g b h))
-    (λ h. let z : _≡_ {A = ℕ} 2 0 = sym (ap (λ (f : Fresh). f .number) (fresh-law .refused g h)) ∙ e in absurd (omega arith))
+    (λ h. let z : _≡_ {A = ℕ} 2 0 = sym (ap (λ (f : Fresh). f .answer .number) (fresh-law .refused g h)) ∙ e in absurd (omega arith))
 
 pub fresh-kept : (g o p : List ℕ) → Bytes g → MakesImage g o p 0 → WellFormedImage p
 fresh-kept g o p b m = held p (freshOf g .table) (m .holds refl) (made-formed g b (made-number g o (m .number)))

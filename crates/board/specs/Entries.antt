@@ -35,9 +35,14 @@ pub record Holds (s : List ℕ) (t : Table) : Type 0 where
   pub image : isImage s ≡ true
   pub loads : loadOf s ≡ t
 
--- ---- a fresh table from configuration bytes: 1 where the buffer has not the image's length, else the number of making it; written only with 0
+-- ---- the board's own number, judged before any of 01's: a buffer that is to be written to has not the length it needs
+abbrev pub noRoom : ℕ
+noRoom = 30
+
+-- ---- a fresh table from configuration bytes: 30 where the buffer has not the image's length, else the number of
+-- making it; written only with 0
 unfoldable pub freshNumber : List ℕ → List ℕ → ℕ
-freshNumber config o = pick (eqb (length o) imageLength) (freshOf config .number) 1
+freshNumber config o = pick (eqb (length o) imageLength) (freshOf config .answer .number) noRoom
 
 unfoldable pub freshImage : List ℕ → List ℕ → List ℕ
 freshImage config o = pick (eqb (freshNumber config o) 0) (imageOf (freshOf config .table)) o
@@ -69,9 +74,9 @@ answerTo s call = pick (isImage s) (stepOf (loadOf s) call .answer) noTable
 unfoldable pub imageAfter : List ℕ → List ℕ → List ℕ
 imageAfter s call = pick (eqb (answerTo s call .number) 0) (imageOf (stepOf (loadOf s) call .table)) s
 
--- ---- a step: 20 where the answer's buffer is too short, and then no byte of any buffer changes
+-- ---- a step: 30 where the answer's buffer is too short, and then no byte of any buffer changes
 unfoldable pub stepNumber : List ℕ → List ℕ → List ℕ → ℕ
-stepNumber s call o = pick (ltb (length o) answerLength) 20 (answerTo s call .number)
+stepNumber s call o = pick (ltb (length o) answerLength) noRoom (answerTo s call .number)
 
 unfoldable pub stepImage : List ℕ → List ℕ → List ℕ → List ℕ
 stepImage s call o = pick (ltb (length o) answerLength) s (imageAfter s call)

@@ -9,17 +9,20 @@ pub mod numbers;
 pub mod promises;
 pub mod storing;
 
-// Makes a fresh table from configuration bytes: 0 and its image written; 2 where they are no configuration, 1 where the buffer has not
-// the image's length, and then no byte is changed.
+// The board's own number: a buffer that is to be written to has not the length it needs. It is judged before any other number.
+const NO_ROOM: u8 = 30;
+
+// Makes a fresh table from configuration bytes: 0 and its image written; 30 where the buffer has not the image's length, 2 where they
+// are no configuration, and then no byte is changed.
 #[no_mangle]
 pub extern "C" fn quermanic_fresh(config: &[u8], image: &mut [u8]) -> u8
     ensures { λ r. ⌜ MakesImage (now (config .entry)) (now (image .entry)) (now (image .exit)) r ⌝ }
 {
     if image.len() != 896 {
-        return 1;
+        return NO_ROOM;
     }
     let fresh = configuration::fresh(config);
-    let number = fresh.number;
+    let number = fresh.answer.number;
     if number != 0 {
         return number;
     }
@@ -41,13 +44,13 @@ pub extern "C" fn quermanic_check(image: &[u8]) -> u8
 }
 
 // Takes a step: the answer's number, and the answer at the start of its buffer. Accepted (0), the image is rewritten; refused, none of
-// its bytes is changed. Where the answer's buffer is shorter than 16 bytes: 20, and no byte of any buffer is changed.
+// its bytes is changed. Where the answer's buffer is shorter than 16 bytes: 30, and no byte of any buffer is changed.
 #[no_mangle]
 pub extern "C" fn quermanic_step(image: &mut [u8], call: &[u8], answer: &mut [u8]) -> u8
     ensures { λ r. ⌜ StepsImage (now (image .entry)) (now (call .entry)) (now (answer .entry)) (now (image .exit)) (now (answer .exit)) r ⌝ }
 {
     if answer.len() < 16 {
-        return 20;
+        return NO_ROOM;
     }
     let table = loading::load(image);
     if !checking::is_image_of(image, table) {

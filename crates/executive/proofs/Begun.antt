@@ -14,7 +14,10 @@ use Rattle.executive.specs.Queue.{pick, one, count}
 use Rattle.executive.specs.Table.{nobody, never, noTask, pad, Names, taskAt, putAt, items, stays, Join, Plan, depart, apply, begin, admits, carry}
 use Rattle.executive.specs.Plans.{asks, begins}
 use Rattle.executive.specs.WellFormed.{WellFormed, sumOf, is, runsOf, Line}
-use Rattle.executive.specs.Fresh.{granuleIn, ownIn, markIn, tasksIn, isConfiguration, blankRest, dormantAt, sleepers, dormantTable, starter, starters, freshTable, freshOf, zeroTable}
+use Rattle.executive.specs.Fresh.{granuleIn, ownIn, markIn, tasksIn, isConfiguration, blankRest, dormantAt, sleepers, dormantTable, starter, starters, freshTable, freshOf, zeroTable, madeBy}
+use Rattle.executive.specs.FreshLaw.{noConfiguration}
+use Rattle.executive.specs.Demands.{Dispatched}
+use Rattle.executive.proofs.Chosen.{dispatches}
 use Rattle.executive.proofs.Law.{not-zero}
 use Rattle.executive.proofs.Flight.{admits-rest, carry-still}
 use Rattle.executive.proofs.Moved.{at-other}
@@ -23,7 +26,7 @@ use Rattle.executive.proofs.Sums.{put-length}
 use Rattle.executive.proofs.QueueKept.{not-both}
 use Rattle.executive.proofs.LinksKept.{put-all, Up, ok-up, up-ok}
 use Rattle.executive.proofs.Links as links
-use Rattle.executive.proofs.Formed.{Own, blank-own, busy-own, LinksOk, Rested, Formed, well-formed}
+use Rattle.executive.proofs.Formed.{Own, blank-own, busy-own, LinksOk, Rested, Formed, formed, well-formed}
 use Rattle.executive.proofs.Kept.{puts, Good, Kept, apply-kept}
 use Rattle.executive.proofs.Rising.{Done, differ}
 use Rattle.executive.proofs.Settings.{dormant-fit}
@@ -196,10 +199,14 @@ pub fresh-flags : (s : List ℕ) → freshTable s .rest .flags ≡ 0
 unfolding freshTable dormantTable
 fresh-flags s = rw (admits-rest (starters s (tasksIn s) 1) (begin (dormantTable s))) refl
 
-pub fresh-made : (s : List ℕ) → isConfiguration s ≡ true → freshOf s ≡ record { number = 0; table = freshTable s }
+pub fresh-made : (s : List ℕ) → isConfiguration s ≡ true → freshOf s ≡ madeBy 0 (freshTable s)
 unfolding freshOf
 fresh-made s e = rw e refl
 
-pub fresh-refused : (s : List ℕ) → isConfiguration s ≡ false → freshOf s ≡ record { number = 2; table = zeroTable }
-unfolding freshOf
+pub fresh-refused : (s : List ℕ) → isConfiguration s ≡ false → freshOf s ≡ record { answer = noConfiguration; table = zeroTable }
+unfolding freshOf pad taskAt
 fresh-refused s e = rw e refl
+
+pub fresh-dispatched : (s : List ℕ) → Bytes s → isConfiguration s ≡ true
+    → Dispatched (freshOf s .table) (freshOf s .answer .active .0)
+fresh-dispatched s b e = rw (fresh-made s e) (dispatches (freshTable s) (formed (fresh-formed s b e)))

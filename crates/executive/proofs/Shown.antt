@@ -21,7 +21,7 @@ use Rattle.executive.proofs.Checked.{well-formed-iff}
 use Rattle.executive.proofs.Shape.{within, found-again}
 use Rattle.executive.proofs.Spelled.{spelled, tested}
 use Rattle.executive.proofs.SaidOut.{said-out}
-use Rattle.executive.proofs.Begun.{fresh-formed, fresh-room, fresh-clock, fresh-flags, fresh-made, fresh-refused}
+use Rattle.executive.proofs.Begun.{fresh-formed, fresh-room, fresh-clock, fresh-flags, fresh-made, fresh-refused, fresh-dispatched}
 
 pub cards : Cards
 unfolding behind pad taskAt putAt enterAt departed entered depart admit admits carry interval aimAt placeOf isSet each rung advanced waking endPlan restartPlan pausePlan cancelPlan levelOf waitOf argumentOf startPlan queuePlan startOnlyPlan requestOf askPlan rises risers setPlan resetPlan flagPlan waitPlan alarmPlan tickPlan upTo allOf sumOf numbersRight falls exactAt queueRight timesRight startedRight masksRight busyRight waitersAt waitersRight dormantRight poolRight isWellFormed kindOf readAs readOf planOf nobodyActive badBody namesCaller alarmRunning poolFull endsTime overfills refusals firstOf marksOf accepted refused stepOf tasksFrom tasksIn configurationIn taskRight isConfiguration sleepers dormantTable starter starters freshTable freshOf after along
@@ -63,6 +63,7 @@ fresh-law = record {
   flags = fresh-flags;
   made = fresh-made;
   refused = fresh-refused;
+  dispatched = fresh-dispatched;
   within = within;
   ends = found-again;
   example = (refl, refl, refl);

@@ -1,7 +1,7 @@
 -- The fresh table of a configuration (01, "Records"): one 40, then 1 to 16 of 41, then 42, and nothing more.
 use Prim.Native.Nat.{ℕ, zero, suc, _+_, _-_, _*_}
 use mathlib.Core.Path.{_≡_}
-use mathlib.Core.Bool.{Bool}
+use mathlib.Core.Bool.{Bool, false}
 use mathlib.Core.List.{List, [], _∷_, _++_}
 use lib.Dec.{eqb, leb}
 use lib.ListN.{length, getD}
@@ -16,6 +16,7 @@ use Rattle.executive.specs.Queue.{pick}
 use Rattle.executive.specs.Table.{nobody, never, noTask, noRequest, pad, Join, begin, admits}
 use Rattle.executive.specs.Plans.{asks, begins}
 use Rattle.executive.specs.Check.{_and_, upTo}
+use Rattle.executive.specs.Steps.{marks, answerOf}
 
 -- ---- the bytes: 40, granule; for each task 41, own priority, mark; 42. The record of task k stands at a place
 abbrev pub granuleIn : List ℕ → ℕ
@@ -83,9 +84,13 @@ starters s (suc n) k = starter s k ++ starters s n (suc k)
 unfoldable pub freshTable : List ℕ → Table
 freshTable s = admits (starters s (tasksIn s) 1) (begin (dormantTable s)) .table
 
--- number 0 and the table, or number 2 and the all-zero table
+-- a table with its answer: Z, V and C are 0, the active task and its argument are the table's
+abbrev pub madeBy : ℕ → Table → Fresh
+madeBy n t = record { answer = answerOf n (marks false false false) t; table = t }
+
+-- number 0 and the table, or number 2 and the all-zero table, in which nobody is active
 unfoldable pub freshOf : List ℕ → Fresh
-freshOf s = pick (isConfiguration s) (record { number = 0; table = freshTable s }) (record { number = 2; table = zeroTable })
+freshOf s = pick (isConfiguration s) (madeBy 0 (freshTable s)) (madeBy 2 zeroTable)
 
 -- ---- the contracts: f is what the bytes s make; n is the length of the configuration that they begin with
 abbrev pub Makes : List ℕ → Fresh → Type 0

@@ -9,13 +9,14 @@ use lib.ListN.{length}
 use Rattle.records.specs.Numbers.{Bytes}
 use Rattle.executive.specs.declared.State.the-variants.{Ready}
 use Rattle.executive.specs.declared.Task.{Task}
+use Rattle.executive.specs.declared.Answer.{Answer}
 use Rattle.executive.specs.declared.Table.{Table}
 use Rattle.executive.specs.Numbers.{mostTasks, mostQueued, flagCount, highest}
 use Rattle.executive.specs.Queue.{Item, pick, inserts}
 use Rattle.executive.specs.Table.{nobody, never, noTask, noRequest, pad, view, begin, admits}
-use Rattle.executive.specs.Plans.{caller}
 use Rattle.executive.specs.WellFormed.{WellFormed}
-use Rattle.executive.specs.Fresh.{tasksIn, configurationIn, isConfiguration, zeroTable, dormantAt, dormantTable, starters, freshTable, freshOf}
+use Rattle.executive.specs.Fresh.{tasksIn, configurationIn, isConfiguration, zeroTable, dormantAt, dormantTable, starters, freshTable, madeBy, freshOf}
+use Rattle.executive.specs.Demands.{Dispatched}
 
 -- ---- a configuration in 01's words: one 40, then 1 to 16 of 41, then 42, and nothing more
 -- what the record of a task gives: own priority 0 to 15; mark 1 or 0
@@ -63,6 +64,10 @@ pub record SaidOut (g : ℕ) (es : List Entry) (t : Table) : Type 0 where
   pub no-alarm : t .rest .alarms ≡ pad flagCount never []
   pub no-request : (t .rest .queued ≡ 0) × (t .rest .pool ≡ pad mostQueued noRequest [])
 
+-- the answer to bytes that are no configuration
+abbrev pub noConfiguration : Answer
+noConfiguration = record { number = 2; z = false; v = false; c = false; active = nobody; argument = 0; skipped = 0 }
+
 -- the configuration of 01's listing
 abbrev pub listing : List ℕ
 listing = 0x40 ∷ 0x0A ∷ 0x41 ∷ 0x07 ∷ 0x01 ∷ 0x41 ∷ 0x05 ∷ 0x01 ∷ 0x41 ∷ 0x07 ∷ 0x00 ∷ 0x42 ∷ []
@@ -77,11 +82,16 @@ pub record FreshLaw : Type 0 where
   -- its clock is 0, no flag is set
   pub clock : (s : List ℕ) → freshTable s .rest .clock .0 ≡ 0
   pub flags : (s : List ℕ) → freshTable s .rest .flags ≡ 0
-  -- a configuration gives number 0 and that table; any other bytes give number 2 and the all-zero table
-  pub made : (s : List ℕ) → isConfiguration s ≡ true → freshOf s ≡ record { number = 0; table = freshTable s }
-  pub refused : (s : List ℕ) → isConfiguration s ≡ false → freshOf s ≡ record { number = 2; table = zeroTable }
+  -- a configuration gives number 0 and that table; any other bytes give number 2, all else of the answer 0, and the
+  -- all-zero table
+  pub made : (s : List ℕ) → isConfiguration s ≡ true → freshOf s ≡ madeBy 0 (freshTable s)
+  pub refused : (s : List ℕ) → isConfiguration s ≡ false → freshOf s ≡ record { answer = noConfiguration; table = zeroTable }
+  -- the answer's active task is the first of those with highest priority, and nobody exactly if none is started
+  pub dispatched : (s : List ℕ) → Bytes s → isConfiguration s ≡ true
+      → Dispatched (freshOf s .table) (freshOf s .answer .active .0)
   -- a configuration is no longer than the bytes that begin with it; whatever follows it, it is found again by its length
   pub within : (s : List ℕ) → configurationIn s ≤ length s
   pub ends : (s r : List ℕ) → isConfiguration s ≡ true → configurationIn (s ++ r) ≡ length s
   -- the listing's configuration: number 0, task 1 is active, three tasks
-  pub example : (freshOf listing .number ≡ 0) × (caller (freshOf listing .table) .0 ≡ 1) × (freshOf listing .table .rest .count ≡ 3)
+  pub example : (freshOf listing .answer .number ≡ 0) × (freshOf listing .answer .active .0 ≡ 1)
+      × (freshOf listing .table .rest .count ≡ 3)

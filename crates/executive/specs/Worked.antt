@@ -38,7 +38,7 @@ along f t (s ∷ ss) = f (stepOf t s) ∷ along f (stepOf t s .table) ss
 
 -- task 2 waits at priority 5 behind task 1. Two enter above it and three depart: 0 + 3 = 1 + 2
 pub record Worked : Type 0 where
-  pub started : freshOf configuration .number ≡ 0
+  pub started : freshOf configuration .answer .number ≡ 0
   pub well-formed : isWellFormed table ≡ true
   pub ready : count 2 (view table) ≡ 1
   pub priority : prioIn 2 (view table) ≡ 5

@@ -33,7 +33,7 @@ pub fn no_table() -> Answer
     }
 }
 
-fn marked(z: bool, v: bool, c: bool) -> Marks
+pub(crate) fn marked(z: bool, v: bool, c: bool) -> Marks
     ensures { λ r. ⌜ r ≡ marks z v c ⌝ }
 {
     Marks {

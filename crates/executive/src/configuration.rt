@@ -7,6 +7,7 @@ use crate::State;
 use crate::Table;
 use crate::Task;
 use crate::Work;
+use crate::answers;
 use records::TaskNo;
 ghost use mathlib.Core.Path.{_≡_};
 ghost use Prim.Native.Nat.{_<_, _≤_};
@@ -15,7 +16,7 @@ ghost use Rattle.executive.specs.Table.{Flying, pad, noTask, admits};
 ghost use Rattle.executive.specs.Check.{upTo};
 ghost use Rattle.executive.specs.Cards.{Cards};
 ghost use Rattle.executive.specs.FreshLaw.{FreshLaw};
-ghost use Rattle.executive.specs.Fresh.{placeIn, ownIn, markIn, tasksIn, taskRight, isConfiguration, blankRest, withTasks, dormantAt, sleepers, starter, starters, Makes, Measures};
+ghost use Rattle.executive.specs.Fresh.{placeIn, ownIn, markIn, tasksIn, taskRight, isConfiguration, blankRest, withTasks, dormantAt, sleepers, starter, starters, madeBy, Makes, Measures};
 
 // The byte at a place, and 0 past the end.
 fn at(s: &[u8], i: usize) -> u8
@@ -223,17 +224,23 @@ fn start_marked(w: Work, s: &[u8], n: u8) -> Work
     v
 }
 
-// The table of a configuration's bytes: number 0 and the table, or number 2 and the all-zero table.
+// A table with its answer.
+fn made(number: u8, table: Table) -> Fresh
+    ensures { λ r. ⌜ r ≡ madeBy number table ⌝ }
+{
+    let m = answers::marked(false, false, false);
+    let answer = table.answer(number, m);
+    Fresh { answer, table }
+}
+
+// The table of a configuration's bytes, with its answer: number 0 and the table, or number 2 and the all-zero table.
 pub fn fresh(bytes: &[u8]) -> Fresh
     ensures { λ r. ⌜ Makes (now (bytes .entry)) r ⌝ }
 {
     if !is_configuration(bytes) {
         let none = all_dormant(bytes, 0);
         let rest = blank_rest(0, 0);
-        return Fresh {
-            number: 2,
-            table: table_of(none, rest),
-        };
+        return made(2, table_of(none, rest));
     }
     let n = tasks_in(bytes);
     let tasks = all_dormant(bytes, n);
@@ -243,8 +250,7 @@ pub fn fresh(bytes: &[u8]) -> Fresh
         full: false,
     };
     let v = start_marked(w, bytes, n);
-    let table = v.table;
-    Fresh { number: 0, table }
+    made(0, v.table)
 }
 
 // Every fresh table is well formed, and what else specs/FreshLaw says of a configuration.

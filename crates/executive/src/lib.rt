@@ -116,9 +116,9 @@ pub struct Outcome {
     pub table: Table,
 }
 
-// What a configuration makes: number 0 and the table, or number 2 and a table of zeros.
+// What a configuration makes: an answer with number 0 and the table, or one with number 2 and a table of zeros.
 pub struct Fresh {
-    pub number: u8,
+    pub answer: Answer,
     pub table: Table,
 }
 

@@ -11,28 +11,32 @@ returns c = fill-small (now (c .before .before .before .before .before .args .in
 
 go-on-requires : tie.Need-go-on-requires
 go-on-requires c κs =
-    let a = now (c .before .before .before .before .before .before .before .before .before .before .before .args .out) in
+    let a = now (c .before .before .before .before .before .before .before .before .before .before .before .before .args .out) in
     omega (arith, inside (omega arith) (c .before .before .before .header .ensures), c .before .before .before .header .ensures .size)
 
 returns-2 : tie.Need-returns-2
 returns-2 c =
-    let a = c .before .before .before .before .before .before .before .before .before .before .before .before .before .before .args in
-    fill-header (now (a .input)) (a .run) (now (a .out)) (c .before .before .before .before .before .before .before .before .enum-told .given .1) (c .before .before .before .before .before .before .before .before .before .before .if1 .left) _ (c .before .before .before .before .before .before .header .ensures) (c .before .before .go-on .ensures)
+    let m = c .before .before .before .before .before .before .before .before .before in
+    let a = m .before .before .before .before .before .before .args in
+    fill-header (now (a .input)) (a .run) (now (a .out)) _ (m .next .given .1) (m .before .before .if1 .left) _
+    (c .before .before .before .before .before .before .header .ensures) (c .before .before .go-on .ensures)
 
 returns-3 : tie.Need-returns-3
 returns-3 c =
     let a = c .before .before .before .before .before .before .before .before .before .before .args in
-    fill-steps (now (a .input)) (a .run) (now (a .out)) (c .before .before .before .before .enum-told2 .given .1) _ (c .before .before .go-on2 .ensures)
+    fill-steps (now (a .input)) (a .run) (now (a .out)) (c .before .before .before .before .enum-told .given .1) _ (c .before .before .go-on2 .ensures)
 
 returns-4 : tie.Need-returns-4
 returns-4 c =
-    let a = c .before .before .before .before .before .before .before .before .before .before .before .args in
-    fill-stop (now (a .input)) (a .run) (now (a .out)) _ (c .before .before .before .before .before .next .given .1) (c .before .before .before .before .before .before .before .if1 .left) (c .before .before .stop-line .ensures)
+    let m = c .before .before .before .before .before in
+    let a = m .before .before .before .before .before .before .args in
+    fill-stop (now (a .input)) (a .run) (now (a .out)) _ (m .next2 .given .1) (m .before .before .if1 .left)
+    (c .before .before .stop-line .ensures)
 
 returns-5 : tie.Need-returns-5
 returns-5 c =
     let a = c .before .before .before .before .before .before .args in
-    fill-nothing (now (a .input)) (a .run) (now (a .out)) (c .enum-told3 .given .1)
+    fill-nothing (now (a .input)) (a .run) (now (a .out)) (c .enum-told2 .given .1)
 
 pub fill-spec : {M : Type 1} → statement M
 fill-spec =

@@ -3,7 +3,7 @@ use Rattle.bench.proofs.listing.header.Statement.{statement}
 use Rattle.bench.proofs.listing.header.Tie as tie
 
 returns : tie.Need-returns
-returns c = rw (← c .before .before .before .active .ensures) (c .before .before .header-line .ensures)
+returns c = c .before .before .header-line .ensures
 
 pub header-spec : {M : Type 1} → statement M
-header-spec = tie.close (tie.spec (λ c κs. search needs) (λ c κs. search needs) (λ c. search needs) returns)
+header-spec = tie.close (tie.spec (λ c κs. search needs) (λ c. search needs) returns)

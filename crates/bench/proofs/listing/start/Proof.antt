@@ -17,7 +17,7 @@ slice-aggregate-fresh c =
 
 returns : tie.Need-returns
 unfolding startOf
-returns c = rw (c .before .first .ensures, c .before .before .fresh .ensures, c .before .before .before .before .length-in .ensures)
+returns c = rw (c .before .first .ensures, c .before .before .before .fresh .ensures, c .before .before .before .before .before .length-in .ensures)
 
 pub start-spec : {M : Type 1} → statement M
 start-spec =

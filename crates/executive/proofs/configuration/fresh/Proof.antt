@@ -11,19 +11,21 @@ use Rattle.executive.proofs.configuration.fresh.Tie as tie
 returns : tie.Need-returns
 unfolding freshOf sleepers
 returns c =
-    let m = c .before .before .before .before in
+    let m = c .before .before .before .before .before in
     rw (
-      c .table-of .ensures,
-      c .before .blank-rest .ensures,
-      c .before .before .all-dormant .ensures,
+      c .made .ensures,
+      c .before .table-of .ensures,
+      c .before .before .blank-rest .ensures,
+      c .before .before .before .all-dormant .ensures,
       ← m .is-configuration .ensures,
-      not-true (m .is-configuration .result) (c .before .before .before .if1 .taken),
+      not-true (m .is-configuration .result) (c .before .before .before .before .if1 .taken),
     ) refl
 
 start-marked-requires : tie.Need-start-marked-requires
 start-marked-requires c κs =
     let m = c .before .before .before .before in (
-      rw (c .table-of2 .ensures, c .before .blank-rest2 .ensures, c .before .before .before .all-dormant2 .ensures) (begin-flying _ (dormant-fit _ _ _ (m .tasks-in .ensures .1))),
+      rw (c .table-of2 .ensures, c .before .blank-rest2 .ensures, c .before .before .before .all-dormant2 .ensures)
+          (begin-flying _ (dormant-fit _ _ _ (m .tasks-in .ensures .1))),
       m .tasks-in .ensures .1,
     )
 
@@ -31,8 +33,9 @@ returns-2 : tie.Need-returns-2
 unfolding freshOf freshTable dormantTable
 returns-2 c =
     let m = c .before .before .before .before in
-    let l = c .before .before .before .before .before .before .before .before in
+    let l = m .before .before .before .before in
     rw (
+      c .made2 .ensures,
       c .before .start-marked .ensures,
       c .before .before .table-of2 .ensures,
       c .before .before .before .blank-rest2 .ensures,
@@ -40,13 +43,14 @@ returns-2 c =
       m .before .all-dormant2 .ensures,
       m .before .before .tasks-in .ensures .0,
       ← l .is-configuration .ensures,
-      not-false (l .is-configuration .result) (c .before .before .before .before .before .before .before .if1 .left),
+      not-false (l .is-configuration .result) (m .before .before .before .if1 .left),
     ) refl
 
 pub fresh-spec : {M : Type 1} → statement M
 fresh-spec =
     tie.close
     (tie.spec
+    (λ c κs. search needs)
     (λ c κs. search needs)
     (λ c κs. search needs)
     (λ c κs. search needs)
@@ -58,4 +62,5 @@ fresh-spec =
     (λ c κs. search needs)
     (λ c κs. search needs)
     start-marked-requires
+    (λ c κs. search needs)
     returns-2)
