@@ -8,14 +8,22 @@ x86_64 | amd64) emulated=no c_prefix= c_packages=gcc ;;
 esac
 c_compiler=${c_prefix}gcc c_lister=${c_prefix}objdump
 
+# kit_home, kit_tools: print the Rattle kit's folder, and the one of its compiler for this machine.
+kit_home() {
+    rt_path=$(readlink -f "$(command -v rt)") || rt_path=
+    printf '%s\n' "${RATTLE_HOME:-${rt_path%/bin/rt}}"
+}
+kit_tools() {
+    printf '%s/on/%s/toolchain\n' "$(kit_home)" "$machine"
+}
+
 # runnable PROGRAM: prints what runs this x86-64 program here: itself, or a script beside it that calls the emulator.
 runnable() {
     [ $emulated = yes ] || {
         printf '%s\n' "$1"
         return
     }
-    rt_path=$(readlink -f "$(command -v rt)") || rt_path=
-    parts=${RATTLE_HOME:-${rt_path%/bin/rt}}/on/$machine/toolchain
+    parts=$(kit_tools)
     if [ ! -x "$parts/bin/qemu-x86_64" ]; then
         echo "This machine ($machine) is no x86-64, and the Rattle kit's emulator is not at '$parts/bin'." >&2
         return 1
