@@ -10,12 +10,14 @@
 #ifndef QUERMANIC_H
 #define QUERMANIC_H
 
-#include <stddef.h>
 #include <stdint.h>
 
 #ifdef __cplusplus
 extern "C" {
 #endif
+
+/* A length in bytes. The code takes 64 bits on every machine; size_t has 32 on some, which would be another interface. */
+typedef uint64_t quermanic_length;
 
 /* The bytes of a table's image (docs/TABLE.md). */
 #define QUERMANIC_IMAGE_LENGTH 896
@@ -53,6 +55,74 @@ extern "C" {
 #define QUERMANIC_QUEUE_FULL 11        /* a task must enter a ready queue that holds 16 */
 #define QUERMANIC_SHORT_ANSWER 20      /* the answer's buffer is shorter than QUERMANIC_ANSWER_LENGTH */
 
+/* The kinds: the first byte of a record. */
+#define QUERMANIC_KIND_TERMINATE 0x00    /* the caller's run ends */
+#define QUERMANIC_KIND_RESTART 0x01      /* it ends, and the caller restarts after an interval */
+#define QUERMANIC_KIND_PAUSE 0x02        /* the caller departs for an interval */
+#define QUERMANIC_KIND_CANCEL_PAUSE 0x03 /* a task's pause ends now */
+#define QUERMANIC_KIND_START 0x04        /* a task starts, if it is dormant */
+#define QUERMANIC_KIND_QUEUE 0x05        /* a task starts, or the request for its start is queued */
+#define QUERMANIC_KIND_FLAG 0x09         /* a flag is reset, set or tested */
+#define QUERMANIC_KIND_WAIT 0x0A         /* the caller waits for flags */
+#define QUERMANIC_KIND_ALARM 0x0B        /* a flag is set after an interval */
+#define QUERMANIC_KIND_TICK 0x80         /* the clock gains a granule */
+#define QUERMANIC_KIND_GRANULE 0x40      /* a configuration's first record: its granule, in ms */
+#define QUERMANIC_KIND_TASK 0x41         /* a configuration's next: a task */
+#define QUERMANIC_KIND_END 0x42          /* a configuration's last */
+
+/* The units of an interval. With a count of 0 to 255 they make its length. */
+#define QUERMANIC_UNIT_1_MS 0
+#define QUERMANIC_UNIT_10_MS 1
+#define QUERMANIC_UNIT_SECOND 2
+#define QUERMANIC_UNIT_MINUTE 3
+#define QUERMANIC_UNIT_HOUR 4
+#define QUERMANIC_UNIT_DAY 5
+
+/* The parameter of 01: a unit, and one of these. */
+#define QUERMANIC_FROM_LAST_START 0x00 /* the interval counts from the last scheduled start: each missed start is run */
+#define QUERMANIC_FROM_NOW 0x80        /* the interval counts from now */
+
+/* The option of 04 and 05: a priority 0 to 15, or the target's own; in 05 also what the caller waits for, and no argument. */
+#define QUERMANIC_OWN_PRIORITY 0x80
+#define QUERMANIC_WAIT_FOR_END 0x40
+#define QUERMANIC_WAIT_FOR_START 0x20
+#define QUERMANIC_NO_ARGUMENT 0x10
+
+/* The operations of 09. */
+#define QUERMANIC_RESET 0
+#define QUERMANIC_SET 1
+#define QUERMANIC_TEST 2
+
+/* The modes of 0A, and the mask's bit of a flag. */
+#define QUERMANIC_ANY 0
+#define QUERMANIC_ALL 1
+#define QUERMANIC_MASK_OF(flag) ((uint32_t)1 << (flag))
+
+/* The marks of a configuration's task. */
+#define QUERMANIC_NOT_STARTED 0
+#define QUERMANIC_STARTED 1
+
+/* Places of an image that a board may read between calls (docs/TABLE.md has them all), and a task's states. */
+#define QUERMANIC_IMAGE_ENTRIES 0 /* sixteen entries: task k's from QUERMANIC_ENTRY_LENGTH * (k - 1) on */
+#define QUERMANIC_IMAGE_QUEUE 416 /* the ready queue: its first place is the active task, 0 when idle */
+#define QUERMANIC_IMAGE_READY 432 /* how many tasks are ready */
+#define QUERMANIC_IMAGE_COUNT 433 /* how many tasks there are */
+#define QUERMANIC_IMAGE_GRANULE 434
+#define QUERMANIC_IMAGE_QUEUED 435 /* how many requests are queued */
+#define QUERMANIC_IMAGE_CLOCK 436  /* eight bytes, the highest first */
+#define QUERMANIC_IMAGE_FLAGS 444  /* four bytes, the highest first: flag n is bit n */
+#define QUERMANIC_ENTRY_LENGTH 26
+#define QUERMANIC_ENTRY_STATE 1
+#define QUERMANIC_ENTRY_START 17 /* the last scheduled start of its run: eight bytes, the highest first */
+#define QUERMANIC_STATE_DORMANT 0
+#define QUERMANIC_STATE_READY 1
+#define QUERMANIC_STATE_PAUSED 2
+#define QUERMANIC_STATE_DUE 3
+#define QUERMANIC_STATE_WAITS_ANY 4
+#define QUERMANIC_STATE_WAITS_ALL 5
+#define QUERMANIC_STATE_WAITS_START 6
+#define QUERMANIC_STATE_WAITS_END 7
+
 /*
  * Makes a fresh table from the bytes of a configuration.
  *
@@ -62,7 +132,7 @@ extern "C" {
  *
  * After 1 or 2 no byte of `image` is changed. What `image` held before does not matter.
  */
-uint8_t quermanic_fresh(const uint8_t *config, size_t config_length, uint8_t *image, size_t image_length);
+uint8_t quermanic_fresh(const uint8_t *config, quermanic_length config_length, uint8_t *image, quermanic_length image_length);
 
 /*
  * Checks an image.
@@ -70,7 +140,7 @@ uint8_t quermanic_fresh(const uint8_t *config, size_t config_length, uint8_t *im
  *   0   it is the image of a well-formed table
  *   1   it is not: another length, a byte that no stored table has there, or a table that is not well formed
  */
-uint8_t quermanic_check(const uint8_t *image, size_t image_length);
+uint8_t quermanic_check(const uint8_t *image, quermanic_length image_length);
 
 /*
  * Takes a step: the call, or the tick, whose record is given, from the active task of the table whose image is given.
@@ -84,8 +154,159 @@ uint8_t quermanic_check(const uint8_t *image, size_t image_length);
  * Its number, Z, V, C, the active task (0 when idle) and its run's argument (0 when idle) are those after the step; after 1 all but
  * the number are 0. Grid times are passed over by an accepted 01 with bit 6 only, and 0 after any other step.
  */
-uint8_t quermanic_step(uint8_t *image, size_t image_length, const uint8_t *record, size_t record_length, uint8_t *answer,
-                       size_t answer_length);
+uint8_t quermanic_step(uint8_t *image, quermanic_length image_length, const uint8_t *record, quermanic_length record_length,
+                       uint8_t *answer, quermanic_length answer_length);
+
+/*
+ * What follows is for convenience, and no part of what is proved: builders of each record, and readers of an answer and an image.
+ * A builder writes a record to the start of `record`, which must have room for it (QUERMANIC_LONGEST_RECORD always suffices),
+ * and returns its length. It checks nothing: a number that is out of its range is refused by the step.
+ */
+
+/* 00: the caller's run ends. */
+static inline quermanic_length quermanic_put_terminate(uint8_t *record) {
+    record[0] = QUERMANIC_KIND_TERMINATE;
+    return 1;
+}
+
+/* 01: the caller's run ends, and the next comes after an interval. `base`: QUERMANIC_FROM_LAST_START or the like. */
+static inline quermanic_length quermanic_put_restart(uint8_t *record, uint8_t base, uint8_t unit, uint8_t count) {
+    record[0] = QUERMANIC_KIND_RESTART;
+    record[1] = (uint8_t)(base | unit);
+    record[2] = count;
+    return 3;
+}
+
+/* 02: the caller departs for an interval. */
+static inline quermanic_length quermanic_put_pause(uint8_t *record, uint8_t unit, uint8_t count) {
+    record[0] = QUERMANIC_KIND_PAUSE;
+    record[1] = unit;
+    record[2] = count;
+    return 3;
+}
+
+/* 03: the task's pause ends now. */
+static inline quermanic_length quermanic_put_cancel_pause(uint8_t *record, uint8_t task) {
+    record[0] = QUERMANIC_KIND_CANCEL_PAUSE;
+    record[1] = task;
+    return 2;
+}
+
+/* 04: the task starts, if it is dormant. `option` is a priority, or QUERMANIC_OWN_PRIORITY. */
+static inline quermanic_length quermanic_put_start(uint8_t *record, uint8_t option, uint8_t task) {
+    record[0] = QUERMANIC_KIND_START;
+    record[1] = option;
+    record[2] = task;
+    return 3;
+}
+
+/* 05: the task starts with this argument, or the request is queued. `option` as in 04, and what the caller waits for. */
+static inline quermanic_length quermanic_put_queue(uint8_t *record, uint8_t option, uint8_t task, uint16_t argument) {
+    record[0] = QUERMANIC_KIND_QUEUE;
+    record[1] = option;
+    record[2] = task;
+    record[3] = (uint8_t)(argument >> 8);
+    record[4] = (uint8_t)argument;
+    return 5;
+}
+
+/* 09: the flag is reset, set or tested (QUERMANIC_RESET, _SET, _TEST); the answer's C is its old value. */
+static inline quermanic_length quermanic_put_flag(uint8_t *record, uint8_t operation, uint8_t flag) {
+    record[0] = QUERMANIC_KIND_FLAG;
+    record[1] = operation;
+    record[2] = flag;
+    return 3;
+}
+
+/* 0A: the caller waits for any or all flags of a mask (QUERMANIC_ANY, _ALL; QUERMANIC_MASK_OF). */
+static inline quermanic_length quermanic_put_wait(uint8_t *record, uint8_t mode, uint32_t mask) {
+    record[0] = QUERMANIC_KIND_WAIT;
+    record[1] = mode;
+    record[2] = (uint8_t)(mask >> 24);
+    record[3] = (uint8_t)(mask >> 16);
+    record[4] = (uint8_t)(mask >> 8);
+    record[5] = (uint8_t)mask;
+    return 6;
+}
+
+/* 0B: the flag is set after an interval. */
+static inline quermanic_length quermanic_put_alarm(uint8_t *record, uint8_t unit, uint8_t count, uint8_t flag) {
+    record[0] = QUERMANIC_KIND_ALARM;
+    record[1] = unit;
+    record[2] = count;
+    record[3] = flag;
+    return 4;
+}
+
+/* 80: a tick. */
+static inline quermanic_length quermanic_put_tick(uint8_t *record) {
+    record[0] = QUERMANIC_KIND_TICK;
+    return 1;
+}
+
+/* 40: a configuration begins. Its records stand one behind the other: one 40, one to sixteen 41, one 42. */
+static inline quermanic_length quermanic_put_granule(uint8_t *record, uint8_t granule) {
+    record[0] = QUERMANIC_KIND_GRANULE;
+    record[1] = granule;
+    return 2;
+}
+
+/* 41: the configuration's next task: its own priority, and QUERMANIC_STARTED or QUERMANIC_NOT_STARTED. */
+static inline quermanic_length quermanic_put_task(uint8_t *record, uint8_t own, uint8_t mark) {
+    record[0] = QUERMANIC_KIND_TASK;
+    record[1] = own;
+    record[2] = mark;
+    return 3;
+}
+
+/* 42: the configuration ends. */
+static inline quermanic_length quermanic_put_end(uint8_t *record) {
+    record[0] = QUERMANIC_KIND_END;
+    return 1;
+}
+
+/* A number of so many bytes, the highest first, as answers and images have them. */
+static inline uint64_t quermanic_number_at(const uint8_t *bytes, unsigned count) {
+    uint64_t number = 0;
+
+    while (count-- > 0) {
+        number = number << 8 | *bytes++;
+    }
+    return number;
+}
+
+/* The argument of the active task's run, of an answer. */
+static inline uint16_t quermanic_argument_of(const uint8_t *answer) {
+    return (uint16_t)quermanic_number_at(answer + QUERMANIC_ANSWER_ARGUMENT, 2);
+}
+
+/* The milliseconds since an image's table was made. */
+static inline uint64_t quermanic_clock_of(const uint8_t *image) {
+    return quermanic_number_at(image + QUERMANIC_IMAGE_CLOCK, 8);
+}
+
+/* The flags of an image: flag n is bit n. */
+static inline uint32_t quermanic_flags_of(const uint8_t *image) {
+    return (uint32_t)quermanic_number_at(image + QUERMANIC_IMAGE_FLAGS, 4);
+}
+
+/* The active task of an image, 0 when idle. */
+static inline uint8_t quermanic_active_of(const uint8_t *image) { return image[QUERMANIC_IMAGE_QUEUE]; }
+
+/* The entry of task 1 to 16 of an image. */
+static inline const uint8_t *quermanic_entry_of(const uint8_t *image, uint8_t task) {
+    return image + QUERMANIC_IMAGE_ENTRIES + QUERMANIC_ENTRY_LENGTH * (task - 1);
+}
+
+/* The state of a task: QUERMANIC_STATE_DORMANT and so on. */
+static inline uint8_t quermanic_state_of(const uint8_t *image, uint8_t task) {
+    return quermanic_entry_of(image, task)[QUERMANIC_ENTRY_STATE];
+}
+
+/* The last scheduled start of a task's run, in ms; 0 for a dormant task. */
+static inline uint64_t quermanic_start_of(const uint8_t *image, uint8_t task) {
+    return quermanic_number_at(quermanic_entry_of(image, task) + QUERMANIC_ENTRY_START, 8);
+}
 
 #ifdef __cplusplus
 }

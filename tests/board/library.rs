@@ -1,24 +1,45 @@
-//! The board library's functions, on buffers with guard bytes around those that are written to.
+//! The board library's functions, on buffers with guard bytes around those that are written to. They are linked; where
+//! BOARD_CALLS names a program, they are called through it.
 
-#[cfg_attr(target_arch = "x86_64", path = "linked.rs")]
-#[cfg_attr(not(target_arch = "x86_64"), path = "piped.rs")]
-mod calls;
+#[path = "linked.rs"]
+mod linked;
+#[path = "piped.rs"]
+mod piped;
 
-pub use calls::{check, step as step_in_place};
+pub use piped::spent;
 
 /// A fresh table's number, and the image's bytes after it.
-pub fn fresh(config: &[u8], image: &[u8]) -> (u8, Vec<u8>) {
+pub fn fresh(config: &[u8], image: &[u8]) -> (u32, Vec<u8>) {
     let mut image = Guarded::new(image);
-    let number = calls::fresh(config, image.inside());
+    let number = match piped::program() {
+        Some(program) => program.fresh(config, image.inside()),
+        None => linked::fresh(config, image.inside()),
+    };
     (number, image.open())
 }
 
+/// The number of an image's check.
+pub fn check(image: &[u8]) -> u32 {
+    match piped::program() {
+        Some(program) => program.check(image),
+        None => linked::check(image),
+    }
+}
+
 /// A step's number, and the bytes of image and answer after it.
-pub fn step(image: &[u8], record: &[u8], answer: &[u8]) -> (u8, Vec<u8>, Vec<u8>) {
+pub fn step(image: &[u8], record: &[u8], answer: &[u8]) -> (u32, Vec<u8>, Vec<u8>) {
     let mut image = Guarded::new(image);
     let mut answer = Guarded::new(answer);
-    let number = calls::step(image.inside(), record, answer.inside());
+    let number = step_in_place(image.inside(), record, answer.inside());
     (number, image.open(), answer.open())
+}
+
+/// A step's number; image and answer are left as it left them.
+pub fn step_in_place(image: &mut [u8], record: &[u8], answer: &mut [u8]) -> u32 {
+    match piped::program() {
+        Some(program) => program.step(image, record, answer),
+        None => linked::step(image, record, answer),
+    }
 }
 
 const GUARD: [u8; 16] = [0xC3; 16];

@@ -1,48 +1,50 @@
-//! The board library's functions, linked.
+//! The board library's functions, linked. Lengths are 64 bits on every machine, as the header has them.
 
 #[link(name = "board", kind = "static")]
 extern "C" {
     fn quermanic_fresh(
         config: *const u8,
-        config_length: usize,
+        config_length: u64,
         image: *mut u8,
-        image_length: usize,
+        image_length: u64,
     ) -> u8;
-    fn quermanic_check(image: *const u8, image_length: usize) -> u8;
+    fn quermanic_check(image: *const u8, image_length: u64) -> u8;
     fn quermanic_step(
         image: *mut u8,
-        image_length: usize,
+        image_length: u64,
         record: *const u8,
-        record_length: usize,
+        record_length: u64,
         answer: *mut u8,
-        answer_length: usize,
+        answer_length: u64,
     ) -> u8;
 }
 
-pub fn fresh(config: &[u8], image: &mut [u8]) -> u8 {
-    unsafe {
+pub fn fresh(config: &[u8], image: &mut [u8]) -> u32 {
+    let number = unsafe {
         quermanic_fresh(
             config.as_ptr(),
-            config.len(),
+            config.len() as u64,
             image.as_mut_ptr(),
-            image.len(),
+            image.len() as u64,
         )
-    }
+    };
+    number.into()
 }
 
-pub fn check(image: &[u8]) -> u8 {
-    unsafe { quermanic_check(image.as_ptr(), image.len()) }
+pub fn check(image: &[u8]) -> u32 {
+    unsafe { quermanic_check(image.as_ptr(), image.len() as u64) }.into()
 }
 
-pub fn step(image: &mut [u8], record: &[u8], answer: &mut [u8]) -> u8 {
-    unsafe {
+pub fn step(image: &mut [u8], record: &[u8], answer: &mut [u8]) -> u32 {
+    let number = unsafe {
         quermanic_step(
             image.as_mut_ptr(),
-            image.len(),
+            image.len() as u64,
             record.as_ptr(),
-            record.len(),
+            record.len() as u64,
             answer.as_mut_ptr(),
-            answer.len(),
+            answer.len() as u64,
         )
-    }
+    };
+    number.into()
 }

@@ -1,10 +1,10 @@
 //! The time of one step through the board library, against the same step of the second program.
 
-use crate::bench::cut;
 use crate::executive::{fresh_from_start, step, Table};
 use crate::image::{decode, encode};
 use crate::library::step_in_place;
 use crate::mixes::{median, mixes};
+use crate::short::{records_of, short_mixes};
 use crate::{answer_bytes, ANSWER};
 use std::hint::black_box;
 use std::time::Instant;
@@ -42,13 +42,19 @@ pub fn speed(rounds: usize) -> bool {
     true
 }
 
-fn records_of(mut steps: &[u8]) -> Vec<&[u8]> {
-    let mut records = Vec::new();
-    while let Ok((record, more)) = cut(steps) {
-        records.push(record);
-        steps = more;
+/// So many passes through a short mix in one way, for whoever counts the instructions of the whole; prints the steps of a pass.
+/// `None` where there is no such way or mix.
+pub fn passes(way: &str, mix: &str, passes: u32) -> Option<bool> {
+    let (_, way) = WAYS.iter().find(|(name, _)| *name == way)?;
+    let mixes = short_mixes();
+    let (_, input) = mixes.iter().find(|(name, _)| *name == mix)?;
+    let (table, used) = fresh_from_start(input)?;
+    let records = records_of(&input[used..]);
+    for _ in 0..passes {
+        black_box(way(&table, &records));
     }
-    records
+    println!("{}", records.len());
+    Some(true)
 }
 
 fn by_library(table: &Table, records: &[&[u8]]) -> Vec<u8> {

@@ -3,6 +3,7 @@
 #[path = "../second/bench.rs"]
 #[allow(dead_code)]
 mod bench;
+mod counts;
 #[path = "../second/ending.rs"]
 mod ending;
 #[path = "../second/executive.rs"]
@@ -10,14 +11,17 @@ mod ending;
 mod executive;
 mod image;
 mod library;
+mod listing;
 mod met;
 #[path = "../second/mixes.rs"]
 mod mixes;
 #[path = "../second/runs.rs"]
 mod runs;
+mod short;
 mod speed;
 mod tables;
 
+use counts::Counts;
 use executive::{fresh, fresh_from_start, step_with, well_formed, Answer, Fault, UNITS};
 use image::{decode, encode, LENGTH};
 use met::{Met, Since};
@@ -26,6 +30,9 @@ use std::process::ExitCode;
 use std::time::Instant;
 
 const USAGE: &str = "usage: trial [--steps N] [--seed S] [--fault NAME]
+       trial --instructions [--steps N] [--seed S]
+       trial --listing < input
+       trial --passes WAY MIX N
        trial --speed [--rounds N]";
 
 /// The most steps that are taken of one generated run.
@@ -60,18 +67,28 @@ const WRONGS: [(&str, Wrong); 10] = [
 ];
 
 /// What a step gives: the number returned, and the bytes of image and answer after it.
-type Given = (u8, Vec<u8>, Vec<u8>);
+type Given = (u32, Vec<u8>, Vec<u8>);
 
 struct Trial {
     seed: u64,
     wrong: Wrong,
     met: Met,
+    counts: Counts,
 }
 
 /// A difference in words, with its image and record in hex.
 type Told = Result<(), String>;
 
 impl Trial {
+    fn new(seed: u64, wrong: Wrong) -> Trial {
+        Trial {
+            seed,
+            wrong,
+            met: Met::default(),
+            counts: Counts::default(),
+        }
+    }
+
     /// A pause of every count of every unit, once, from a table with one task.
     fn intervals(&mut self) -> Told {
         let table = fresh(&[0x40, 1, 0x41, 0, 1, 0x42]).expect("a good configuration");
@@ -168,7 +185,7 @@ impl Trial {
     /// An image of whatever content and length: its check, and a step from it.
     fn image(&mut self, image: &[u8], record: &[u8]) -> Told {
         let sound = decode(image).is_some_and(|table| well_formed(&table));
-        let expected = u8::from(!sound ^ (self.wrong == Wrong::Check));
+        let expected = u32::from(!sound ^ (self.wrong == Wrong::Check));
         let given = library::check(image);
         if given != expected {
             return Err(format!(
@@ -187,10 +204,12 @@ impl Trial {
         if given != expected {
             return Err(difference(image, record, &given, &expected));
         }
-        self.met.stepped(given.0, record);
+        let number = u8::try_from(given.0).expect("the model's number is a byte");
+        self.met.stepped(number, record);
         if given.2.len() >= ANSWER {
             self.met.skipped(&given.2[8..ANSWER]);
         }
+        self.counts.add(record, number, library::spent());
         Ok(given.1)
     }
 
@@ -218,7 +237,7 @@ impl Trial {
         }
         said.argument ^= u16::from(self.wrong == Wrong::Answer);
         said.skipped -= u64::from(self.wrong == Wrong::Skipped).min(said.skipped);
-        after.0 = said.number;
+        after.0 = said.number.into();
         after.2[..ANSWER].copy_from_slice(&answer_bytes(&said));
         after
     }
@@ -239,7 +258,7 @@ impl Trial {
                 given.0, expected.0, hex(config), hex(&given.1), hex(&expected.1)
             ));
         }
-        self.met.made(given.0);
+        self.met.made(given.0 as u8);
         Ok(())
     }
 }
@@ -284,22 +303,44 @@ fn difference(image: &[u8], record: &[u8], given: &Given, expected: &Given) -> S
     )
 }
 
+/// The instructions of each step, of the mixes and of a trial, both compared with the model; true if nothing differs.
+fn instructions(steps: u64, seed: u64) -> bool {
+    for (name, input) in short::short_mixes() {
+        let mut trial = Trial::new(seed, Wrong::Nothing);
+        let (table, used) = fresh_from_start(&input).expect("a mix has a configuration");
+        let mut image = encode(&table);
+        for record in short::records_of(&input[used..]) {
+            match trial.step(&image, record, &UNWRITTEN) {
+                Ok(after) => image = after,
+                Err(difference) => {
+                    println!("{name}: {difference}");
+                    return false;
+                }
+            }
+        }
+        if !trial.counts.print(name) {
+            println!("{name}: nothing counts the instructions");
+            return false;
+        }
+    }
+    let mut trial = Trial::new(seed, Wrong::Nothing);
+    walked(&mut trial, steps) && trial.counts.print("the trial")
+}
+
 /// Walks until so many steps are taken; true if nothing differs and everything was met.
-fn trial(steps: u64, seed: u64, wrong: Wrong) -> bool {
+fn walked(trial: &mut Trial, steps: u64) -> bool {
     let begun = Instant::now();
-    let mut trial = Trial {
-        seed,
-        wrong,
-        met: Met::default(),
-    };
-    if wrong == Wrong::Nothing {
+    let seed = trial.seed;
+    if trial.wrong == Wrong::Nothing {
         if let Err(difference) = trial.intervals().and_then(|()| trial.before_days()) {
             println!("{difference}");
             return false;
         }
     }
+    trial.counts = Counts::default();
+    let all = trial.met.steps() + steps;
     let mut index = 0;
-    while trial.met.steps() < steps {
+    while trial.met.steps() < all {
         if let Err(difference) = trial.walk(index) {
             println!("run {index} of seed {seed}: {difference}");
             return false;
@@ -313,7 +354,7 @@ fn trial(steps: u64, seed: u64, wrong: Wrong) -> bool {
 }
 
 /// `--steps N`, `--seed S` and `--fault NAME`, in any order.
-fn trial_by(mut words: &[&str]) -> Option<bool> {
+fn options_of(mut words: &[&str]) -> Option<(u64, u64, Wrong)> {
     let (mut steps, mut seed, mut wrong) = (1_000_000, 1, Wrong::Nothing);
     while let [name, value, rest @ ..] = words {
         match *name {
@@ -324,7 +365,7 @@ fn trial_by(mut words: &[&str]) -> Option<bool> {
         }
         words = rest;
     }
-    words.is_empty().then(|| trial(steps, seed, wrong))
+    words.is_empty().then_some((steps, seed, wrong))
 }
 
 fn main() -> ExitCode {
@@ -337,7 +378,16 @@ fn main() -> ExitCode {
             .ok()
             .filter(|rounds| *rounds > 0)
             .map(speed::speed),
-        words => trial_by(words),
+        ["--passes", way, mix, passes] => passes
+            .parse()
+            .ok()
+            .and_then(|passes| speed::passes(way, mix, passes)),
+        ["--listing"] => Some(listing::listing()),
+        ["--instructions", options @ ..] => options_of(options)
+            .filter(|(_, _, wrong)| *wrong == Wrong::Nothing)
+            .map(|(steps, seed, _)| instructions(steps, seed)),
+        options => options_of(options)
+            .map(|(steps, seed, wrong)| walked(&mut Trial::new(seed, wrong), steps)),
     };
     ending::ending(right, USAGE)
 }

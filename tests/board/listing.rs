@@ -1,0 +1,48 @@
+//! The bench's listing by the board library: standard input to standard output, as `./bench` runs a program.
+
+use crate::bench::{cut, LONGEST_INPUT};
+use crate::executive::fresh_from_start;
+use crate::image::LENGTH;
+use crate::{library, ANSWER};
+use std::io::{Read, Write};
+
+/// False where the input cannot be read or the listing not be written.
+pub fn listing() -> bool {
+    let mut input = Vec::new();
+    std::io::stdin().lock().read_to_end(&mut input).is_ok()
+        && std::io::stdout()
+            .lock()
+            .write_all(of(&input).as_bytes())
+            .is_ok()
+}
+
+fn of(input: &[u8]) -> String {
+    if input.len() > LONGEST_INPUT {
+        return "stop 12\n".to_string();
+    }
+    let used = fresh_from_start(input).map_or(input.len(), |(_, used)| used);
+    let (number, mut image) = library::fresh(&input[..used], &[0; LENGTH]);
+    if number != 0 {
+        return format!("stop {number}\n");
+    }
+    // granule, count and the queue's first place, by docs/TABLE.md
+    let mut out = format!(
+        "granule {} tasks {} active {}\n",
+        image[434], image[433], image[416]
+    );
+    let mut rest = &input[used..];
+    let mut step = 0;
+    while !rest.is_empty() {
+        let (record, more) = match cut(rest) {
+            Ok(parts) => parts,
+            Err(stop) => return out + &format!("stop {stop}\n"),
+        };
+        step += 1;
+        let (number, after, answer) = library::step(&image, record, &[0; ANSWER]);
+        let [_, z, v, c, active] = [0, 1, 2, 3, 4].map(|place| answer[place]);
+        out += &format!("{step} {:02X} {number} {z}{v}{c} {active}\n", record[0]);
+        image = after;
+        rest = more;
+    }
+    out + "end\n"
+}
