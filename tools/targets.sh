@@ -1,5 +1,6 @@
 # The machines that the board library is made for, and how it is made: sourced by tools/target, ./example and the trials there.
-# Whoever sources it has sourced tools/setup.sh and stands in the repository's folder.
+# Whoever sources it has sourced tools/setup.sh and stands in the repository's folder. All but 'target' run in a shell of their own,
+# so that their variables are nobody else's.
 
 targets='cortex-m3 cortex-m0plus riscv32 riscv64 aarch64 aarch64-linux x86-64'
 entries='quermanic_fresh quermanic_check quermanic_step'
@@ -34,25 +35,25 @@ target() {
 
 # compile_module LEVEL FILE.ll FILE WORDS..: a retargeted module, with the kit's own words but for the machine, to an object (-c), or
 # to assembly text (-S -fstack-usage, which leaves beside it, in FILE.su, what the frames take).
-compile_module() {
+compile_module() (
     module=$2 made=$3 level=$1
     shift 3
     "$(kit_tools)/bin/clang" --target=$triple $cpu "-$level" -ffreestanding -ffunction-sections -fdata-sections \
         -mllvm -trap-unreachable -mllvm -no-trap-after-noreturn --no-default-config -no-canonical-prefixes \
         -fno-crash-diagnostics -Werror "$@" -x ir "$module" -o "$made"
-}
+)
 
 # compile_c FILE.c FILE.o [WORDS..]: C of ours for the machine, with no header but ours.
-compile_c() {
+compile_c() (
     c_file=$1 c_object=$2
     shift 2
     "$(kit_tools)/bin/clang" --target=$triple $cpu --no-default-config -O2 -std=gnu11 -Wall -Wextra -Werror -ffreestanding \
         -fno-builtin -fno-strict-aliasing -ffunction-sections -fdata-sections -nostdinc -isystem tools/targets/include -Iinclude \
         "$@" -c "$c_file" -o "$c_object"
-}
+)
 
 # section_sizes FILE.o: prints 'flash N' and 'ram N', the bytes of code and constants, and of variables.
-section_sizes() {
+section_sizes() (
     "$(kit_tools)/bin/ld.lld" -r --print-map "$1" -o /dev/null | awk '
         function number(hex,    n, i) {
             for (i = 1; i <= length(hex); i++) n = 16 * n + index("0123456789abcdef", substr(hex, i, 1)) - 1
@@ -61,12 +62,12 @@ section_sizes() {
         NF == 5 && $5 ~ /^\.(text|rodata|srodata)/ { flash += number($3) }
         NF == 5 && $5 ~ /^\.(data|bss|sdata|sbss)/ { ram += number($3) }
         END { print "flash " flash + 0; print "ram " ram + 0 }'
-}
+)
 
-# make_library NAME OUT [LEVEL [EXTEND]]: the board library for a target, in the folder OUT: libboard.a; figures (a line each:
+# make_library NAME OUT [LEVEL [PLANT]]: the board library for a target, in the folder OUT: libboard.a; figures (a line each:
 # flash, ram, the stack bound of each entry, and what it wants); and quermanic-stack.ld, the bounds for a linker's script.
-# LEVEL is O3 without it. EXTEND 0 plants a fault: see tools/targets/retarget.awk.
-make_library() {
+# LEVEL is O3 without it. PLANT is for the trials: see tools/targets/retarget.awk.
+make_library() (
     target "$1" || return 1
     out=$2 level=${3-O3} tools=$(kit_tools)
     mkdir -p "$out" && rm -f "$out/board.ll" "$out/board.s" "$out/board.su" "$out/board.o" "$out/libboard.a" "$out/figures" || return 1
@@ -74,7 +75,7 @@ make_library() {
     if [ "$1" = x86-64 ]; then # as the kit has it: what it makes of the kept module is its archive
         cp target/module/board.ll "$out/board.ll" && cp target/module/board.object "$out/board.o" || return 1
     else
-        awk -v triple=$triple -v layout=$layout -v exports=3 -v extend="${4-1}" -f tools/targets/retarget.awk \
+        awk -v triple=$triple -v layout=$layout -v exports=3 -v plant="${4-}" -f tools/targets/retarget.awk \
             target/module/board.ll >"$out/board.ll" && compile_module "$level" "$out/board.ll" "$out/board.o" -c || return 1
     fi
     compile_module "$level" "$out/board.ll" "$out/board.s" -S -fstack-usage || return 1
@@ -84,20 +85,20 @@ make_library() {
             awk -v entries="$entries" -v wanted=$memory_stack -v pushed=$pushed -f tools/targets/stack.awk "$out/board.su" "$out/board.s"
     } >"$out/figures" || return 1
     awk '$1 == "stack" { print toupper($2) "_STACK = " $3 ";" }' "$out/figures" >"$out/quermanic-stack.ld"
-}
+)
 
 # native_library: prints the folder of the board library for this machine: the kit's own, or the same module compiled for it.
-native_library() {
+native_library() (
     case $machine in
     x86_64 | amd64) echo target/staticlib ;;
     aarch64) make_library aarch64-linux target/targets/aarch64-linux >&2 && echo target/targets/aarch64-linux ;;
     *) echo "There is no target for this machine, $machine." >&2 && return 1 ;;
     esac
-}
+)
 
 # emulate MACHINE FILE.elf EXPONENT WORDS..: runs firmware on an emulated machine. Its clock counts instructions, 2^EXPONENT ns for
 # each, so that every run is the same. WORDS are for the emulator. It ends where the firmware ends itself.
-emulate() {
+emulate() (
     case $1 in
     cortex-m3) emulator=qemu-system-arm machine_words='-M mps2-an385' ;;
     riscv32) emulator=qemu-system-riscv32 machine_words='-M virt -bios none -m 16M' ;;
@@ -107,4 +108,4 @@ emulate() {
     elf=$2 exponent=$3
     shift 3
     $emulator $machine_words -display none -monitor none -serial none -icount "shift=$exponent,sleep=off" -kernel "$elf" "$@"
-}
+)

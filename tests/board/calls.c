@@ -71,7 +71,8 @@ static uint32_t call(uint8_t kind, struct guarded *image, struct guarded *given,
 }
 
 static void answer_call(uint8_t kind) {
-    uint32_t i, number, before, spent;
+    volatile uint32_t number; /* so that the compiler stores all that is returned, and does not reckon that it is a byte */
+    uint32_t i, before, spent;
 
     for (i = 0; i < 3; i++) {
         buffers[i].length = read_length();

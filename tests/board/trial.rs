@@ -30,6 +30,7 @@ use std::process::ExitCode;
 use std::time::Instant;
 
 const USAGE: &str = "usage: trial [--steps N] [--seed S] [--fault NAME]
+       trial --part [--steps N] [--seed S]
        trial --instructions [--steps N] [--seed S]
        trial --listing < input
        trial --passes WAY MIX N
@@ -324,17 +325,17 @@ fn instructions(steps: u64, seed: u64) -> bool {
         }
     }
     let mut trial = Trial::new(seed, Wrong::Nothing);
-    walked(&mut trial, steps) && trial.counts.print("the trial")
+    walked(&mut trial, steps).is_some() && trial.counts.print("the trial")
 }
 
-/// Walks until so many steps are taken; true if nothing differs and everything was met.
-fn walked(trial: &mut Trial, steps: u64) -> bool {
+/// Walks until so many steps are taken: whether everything was met; `None` where something differs.
+fn walked(trial: &mut Trial, steps: u64) -> Option<bool> {
     let begun = Instant::now();
     let seed = trial.seed;
     if trial.wrong == Wrong::Nothing {
         if let Err(difference) = trial.intervals().and_then(|()| trial.before_days()) {
             println!("{difference}");
-            return false;
+            return None;
         }
     }
     trial.counts = Counts::default();
@@ -343,14 +344,14 @@ fn walked(trial: &mut Trial, steps: u64) -> bool {
     while trial.met.steps() < all {
         if let Err(difference) = trial.walk(index) {
             println!("run {index} of seed {seed}: {difference}");
-            return false;
+            return None;
         }
         index += 1;
     }
     let complete = trial.met.print();
     let seconds = begun.elapsed().as_secs_f64();
     println!("{index} runs of seed {seed} agree, {seconds:.1} s");
-    complete
+    Some(complete)
 }
 
 /// `--steps N`, `--seed S` and `--fault NAME`, in any order.
@@ -383,11 +384,14 @@ fn main() -> ExitCode {
             .ok()
             .and_then(|passes| speed::passes(way, mix, passes)),
         ["--listing"] => Some(listing::listing()),
+        // a part of a trial, too short to meet everything
+        ["--part", options @ ..] => options_of(options)
+            .map(|(steps, seed, wrong)| walked(&mut Trial::new(seed, wrong), steps).is_some()),
         ["--instructions", options @ ..] => options_of(options)
             .filter(|(_, _, wrong)| *wrong == Wrong::Nothing)
             .map(|(steps, seed, _)| instructions(steps, seed)),
         options => options_of(options)
-            .map(|(steps, seed, wrong)| walked(&mut Trial::new(seed, wrong), steps)),
+            .map(|(steps, seed, wrong)| walked(&mut Trial::new(seed, wrong), steps) == Some(true)),
     };
     ending::ending(right, USAGE)
 }
