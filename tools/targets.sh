@@ -96,6 +96,22 @@ native_library() (
     esac
 )
 
+# native_program: prints the bench program for this machine: the kit's own, or the same module compiled and linked for it.
+native_program() (
+    tools/module bench_program >&2 || return 1
+    case $machine in
+    x86_64 | amd64) echo "$PWD/target/bin/bench_program" ;;
+    aarch64)
+        out=target/targets/aarch64-linux
+        need cc gcc && target aarch64-linux && mkdir -p $out &&
+            awk -v triple=$triple -v layout=$layout -v exports=0 -f tools/targets/retarget.awk target/module/bench_program.ll \
+                >$out/bench_program.ll && compile_module O3 $out/bench_program.ll $out/bench_program.o -c &&
+            cc -o $out/bench_program $out/bench_program.o && echo "$PWD/$out/bench_program"
+        ;;
+    *) echo "There is no target for this machine, $machine." >&2 && return 1 ;;
+    esac
+)
+
 # emulate MACHINE FILE.elf EXPONENT WORDS..: runs firmware on an emulated machine. Its clock counts instructions, 2^EXPONENT ns for
 # each, so that every run is the same. WORDS are for the emulator. It ends where the firmware ends itself.
 emulate() (

@@ -66,26 +66,26 @@ impl Program {
     }
 }
 
-/// The default comparison; true if all agree and everything reachable was met.
-pub fn compare(path: &str, runs: u64, seed: u64) -> bool {
+/// The comparison: whether everything reachable was met; `None` where something differs.
+pub fn compare(path: &str, runs: u64, seed: u64) -> Option<bool> {
     let begun = Instant::now();
     let program = Program::new(path, &[]);
     if !paper_agrees(&program) {
-        return false;
+        return None;
     }
     println!("01's listing: agrees");
     let (coverage, differing) = compare_runs(&program, runs, seed);
     if let Some(index) = differing {
         println!("run {index} of seed {seed} differs");
         report(&program, &shortest(&program, run(seed, index)));
-        return false;
+        return None;
     }
     let complete = coverage.print();
     println!(
         "{runs} runs of seed {seed} agree, {:.1} s",
         begun.elapsed().as_secs_f64()
     );
-    complete
+    Some(complete)
 }
 
 /// Document 01's input gives document 01's output, from this program and from the other.

@@ -17,8 +17,9 @@ use std::process::ExitCode;
 const USAGE: &str = "usage: second listing [--no-check] [--fault NAME] < input
        second cards
        second trial
-       second compare PROGRAM [--runs N] [--seed S]
+       second compare PROGRAM [--part] [--runs N] [--seed S]
        second speed PROGRAM [--rounds N]
+       second mix NAME
        second run INDEX [--seed S]";
 
 pub const FAULTS: [(&str, Fault); 5] = [
@@ -36,8 +37,11 @@ fn main() -> ExitCode {
         ["listing", options @ ..] => listing(options),
         ["cards"] => Some(cards::cards()),
         ["trial"] => Some(compare::trial()),
+        // a part of a comparison, too short to meet everything
+        ["compare", program, "--part", options @ ..] => options_of(options, [2_000, 1])
+            .map(|[runs, seed]| compare::compare(program, runs, seed).is_some()),
         ["compare", program, options @ ..] => options_of(options, [20_000, 1])
-            .map(|[runs, seed]| compare::compare(program, runs, seed)),
+            .map(|[runs, seed]| compare::compare(program, runs, seed) == Some(true)),
         ["speed", program] => Some(speed::speed(program, 15)),
         ["speed", program, "--rounds", rounds] => rounds
             .parse()
@@ -45,6 +49,7 @@ fn main() -> ExitCode {
             .filter(|rounds| *rounds > 0)
             .map(|rounds| speed::speed(program, rounds)),
         ["run", index, options @ ..] => print_run(index, options),
+        ["mix", name] => print_mix(name),
         _ => None,
     };
     ending::ending(right, USAGE)
@@ -92,4 +97,11 @@ fn print_run(index: &str, options: &[&str]) -> Option<bool> {
     let [_, seed] = options_of(options, [0, 1])?;
     let bytes = runs::run(seed, index.parse().ok()?);
     Some(std::io::stdout().lock().write_all(&bytes).is_ok())
+}
+
+/// A long input of the speed runs.
+fn print_mix(name: &str) -> Option<bool> {
+    let mixes = mixes::mixes();
+    let (_, bytes) = mixes.iter().find(|(known, _)| *known == name)?;
+    Some(std::io::stdout().lock().write_all(bytes).is_ok())
 }
