@@ -16,7 +16,7 @@
 extern "C" {
 #endif
 
-/* A length in bytes. The code takes 64 bits on every machine; size_t has 32 on some, which would be another interface. */
+/* A length in bytes. The code takes 64 bits on every machine; size_t has 32 on some, and would be wrong there. */
 typedef uint64_t quermanic_length;
 
 /* The bytes of a table's image (docs/TABLE.md). */
@@ -79,14 +79,14 @@ typedef uint64_t quermanic_length;
 #define QUERMANIC_UNIT_DAY 5
 
 /* The parameter of 01: a unit, and one of these. */
-#define QUERMANIC_FROM_LAST_START 0x00 /* the interval counts from the last scheduled start: each missed start is run */
+#define QUERMANIC_FROM_LAST_START 0x00 /* the interval counts from the last scheduled start; each missed start runs */
 #define QUERMANIC_FROM_NOW 0x80        /* the interval counts from now */
 
-/* The option of 04 and 05: a priority 0 to 15, or the target's own; in 05 also what the caller waits for, and no argument. */
+/* The option of 04 and 05: a priority 0 to 15, or the target's own; in 05 also what the caller waits for. */
 #define QUERMANIC_OWN_PRIORITY 0x80
 #define QUERMANIC_WAIT_FOR_END 0x40
 #define QUERMANIC_WAIT_FOR_START 0x20
-#define QUERMANIC_NO_ARGUMENT 0x10
+#define QUERMANIC_NO_ARGUMENT 0x10 /* the argument counts as 0 */
 
 /* The operations of 09. */
 #define QUERMANIC_RESET 0
@@ -132,7 +132,8 @@ typedef uint64_t quermanic_length;
  *
  * After 1 or 2 no byte of `image` is changed. What `image` held before does not matter.
  */
-uint8_t quermanic_fresh(const uint8_t *config, quermanic_length config_length, uint8_t *image, quermanic_length image_length);
+uint8_t quermanic_fresh(const uint8_t *config, quermanic_length config_length, uint8_t *image,
+                        quermanic_length image_length);
 
 /*
  * Checks an image.
@@ -154,13 +155,14 @@ uint8_t quermanic_check(const uint8_t *image, quermanic_length image_length);
  * Its number, Z, V, C, the active task (0 when idle) and its run's argument (0 when idle) are those after the step; after 1 all but
  * the number are 0. Grid times are passed over by an accepted 01 with bit 6 only, and 0 after any other step.
  */
-uint8_t quermanic_step(uint8_t *image, quermanic_length image_length, const uint8_t *record, quermanic_length record_length,
-                       uint8_t *answer, quermanic_length answer_length);
+uint8_t quermanic_step(uint8_t *image, quermanic_length image_length, const uint8_t *record,
+                       quermanic_length record_length, uint8_t *answer, quermanic_length answer_length);
 
 /*
- * What follows is for convenience, and no part of what is proved: builders of each record, and readers of an answer and an image.
- * A builder writes a record to the start of `record`, which must have room for it (QUERMANIC_LONGEST_RECORD always suffices),
- * and returns its length. It checks nothing: a number that is out of its range is refused by the step.
+ * What follows is for convenience, and no part of what is proved: builders of each record, and readers of an answer
+ * and an image. A builder writes a record to the start of `record`, which must have room for it
+ * (QUERMANIC_LONGEST_RECORD always suffices), and returns its length. It checks nothing: a number that is out of its
+ * range is refused by the step.
  */
 
 /* 00: the caller's run ends. */
@@ -200,7 +202,7 @@ static inline quermanic_length quermanic_put_start(uint8_t *record, uint8_t opti
     return 3;
 }
 
-/* 05: the task starts with this argument, or the request is queued. `option` as in 04, and what the caller waits for. */
+/* 05: the task starts with this argument, or the request is queued. `option`: as in 04, and what is waited for. */
 static inline quermanic_length quermanic_put_queue(uint8_t *record, uint8_t option, uint8_t task, uint16_t argument) {
     record[0] = QUERMANIC_KIND_QUEUE;
     record[1] = option;

@@ -1,6 +1,6 @@
-# The machines that the board library is made for, and how it is made: sourced by tools/target, ./example and the trials there.
-# Whoever sources it has sourced tools/setup.sh and stands in the repository's folder. All but 'target' run in a shell of their own,
-# so that their variables are nobody else's.
+# The machines that the board library is made for, and how it is made: sourced by tools/target and by the comparisons.
+# Whoever sources it has sourced tools/setup.sh, and stands in the repository's folder. All but 'target' run in a shell
+# of their own, so that their variables are nobody else's.
 
 targets='cortex-m3 cortex-m0plus riscv32 riscv64 aarch64 aarch64-linux x86-64'
 entries='quermanic_fresh quermanic_check quermanic_step'
@@ -33,23 +33,20 @@ target() {
     esac
 }
 
-# compile_module LEVEL FILE.ll FILE WORDS..: a retargeted module, with the kit's own words but for the machine, to an object (-c), or
-# to assembly text (-S -fstack-usage, which leaves beside it, in FILE.su, what the frames take).
+# retarget NAME EXPORTS [PLANT]: prints a kept module for the machine that 'target' set (tools/targets/retarget.awk).
+retarget() (
+    awk -v triple=$triple -v layout=$layout -v exports="$2" -v plant="${3-}" -f tools/targets/retarget.awk \
+        "target/module/$1.ll"
+)
+
+# compile_module LEVEL FILE.ll FILE WORDS..: a retargeted module, with the kit's own words but for the machine, to an
+# object (-c), or to assembly text (-S -fstack-usage, which leaves beside it, in FILE.su, what the frames take).
 compile_module() (
-    module=$2 made=$3 level=$1
+    level=$1 module=$2 made=$3
     shift 3
     "$(kit_tools)/bin/clang" --target=$triple $cpu "-$level" -ffreestanding -ffunction-sections -fdata-sections \
         -mllvm -trap-unreachable -mllvm -no-trap-after-noreturn --no-default-config -no-canonical-prefixes \
         -fno-crash-diagnostics -Werror "$@" -x ir "$module" -o "$made"
-)
-
-# compile_c FILE.c FILE.o [WORDS..]: C of ours for the machine, with no header but ours.
-compile_c() (
-    c_file=$1 c_object=$2
-    shift 2
-    "$(kit_tools)/bin/clang" --target=$triple $cpu --no-default-config -O2 -std=gnu11 -Wall -Wextra -Werror -ffreestanding \
-        -fno-builtin -fno-strict-aliasing -ffunction-sections -fdata-sections -nostdinc -isystem tools/targets/include -Iinclude \
-        "$@" -c "$c_file" -o "$c_object"
 )
 
 # section_sizes FILE.o: prints 'flash N' and 'ram N', the bytes of code and constants, and of variables.
@@ -64,30 +61,33 @@ section_sizes() (
         END { print "flash " flash + 0; print "ram " ram + 0 }'
 )
 
-# make_library NAME OUT [LEVEL [PLANT]]: the board library for a target, in the folder OUT: libboard.a; figures (a line each:
-# flash, ram, the stack bound of each entry, and what it wants); and quermanic-stack.ld, the bounds for a linker's script.
-# LEVEL is O3 without it. PLANT is for the trials: see tools/targets/retarget.awk.
+# stack_bounds FOLDER: prints 'stack ENTRY BYTES' and 'wants NAME' of the library there: see tools/targets/stack.awk.
+stack_bounds() (
+    awk -v entries="$entries" -v wanted=$memory_stack -v pushed=$pushed -f tools/targets/stack.awk \
+        "$1/board.su" "$1/board.s"
+)
+
+# make_library NAME OUT [LEVEL [PLANT]]: the board library for a target, in the folder OUT: libboard.a; figures (a line
+# each: flash, ram, the stack bound of each entry, and what it wants); and quermanic-stack.ld, the bounds for a
+# linker's script. LEVEL is O3 without it. PLANT is for the trials: see tools/targets/retarget.awk.
 make_library() (
-    target "$1" || return 1
     out=$2 level=${3-O3} tools=$(kit_tools)
-    mkdir -p "$out" && rm -f "$out/board.ll" "$out/board.s" "$out/board.su" "$out/board.o" "$out/libboard.a" "$out/figures" || return 1
-    awk -f tools/targets/clean.awk target/module/board.ll || return 1
+    target "$1" && mkdir -p "$out" && rm -f "$out/libboard.a" "$out/figures" &&
+        awk -f tools/targets/clean.awk target/module/board.ll || return 1
     if [ "$1" = x86-64 ]; then # as the kit has it: what it makes of the kept module is its archive
         cp target/module/board.ll "$out/board.ll" && cp target/module/board.object "$out/board.o" || return 1
     else
-        awk -v triple=$triple -v layout=$layout -v exports=3 -v plant="${4-}" -f tools/targets/retarget.awk \
-            target/module/board.ll >"$out/board.ll" && compile_module "$level" "$out/board.ll" "$out/board.o" -c || return 1
+        retarget board 3 "${4-}" >"$out/board.ll" &&
+            compile_module "$level" "$out/board.ll" "$out/board.o" -c || return 1
     fi
-    compile_module "$level" "$out/board.ll" "$out/board.s" -S -fstack-usage || return 1
-    (cd "$out" && "$tools/bin/llvm-ar" rcD libboard.a board.o) || return 1
-    {
-        section_sizes "$out/board.o" &&
-            awk -v entries="$entries" -v wanted=$memory_stack -v pushed=$pushed -f tools/targets/stack.awk "$out/board.su" "$out/board.s"
-    } >"$out/figures" || return 1
-    awk '$1 == "stack" { print toupper($2) "_STACK = " $3 ";" }' "$out/figures" >"$out/quermanic-stack.ld"
+    compile_module "$level" "$out/board.ll" "$out/board.s" -S -fstack-usage &&
+        (cd "$out" && "$tools/bin/llvm-ar" rcD libboard.a board.o) &&
+        section_sizes "$out/board.o" >"$out/figures" && stack_bounds "$out" >>"$out/figures" &&
+        awk '$1 == "stack" { print toupper($2) "_STACK = " $3 ";" }' "$out/figures" >"$out/quermanic-stack.ld"
 )
 
-# native_library: prints the folder of the board library for this machine: the kit's own, or the same module compiled for it.
+# native_library: prints the folder of the board library for this machine: the kit's own, or the same module compiled
+# for it.
 native_library() (
     case $machine in
     x86_64 | amd64) echo target/staticlib ;;
@@ -96,32 +96,18 @@ native_library() (
     esac
 )
 
-# native_program: prints the bench program for this machine: the kit's own, or the same module compiled and linked for it.
+# native_program: prints the bench program for this machine: the kit's own, or the same module compiled and linked
+# for it.
 native_program() (
     tools/module bench_program >&2 || return 1
     case $machine in
     x86_64 | amd64) echo "$PWD/target/bin/bench_program" ;;
     aarch64)
         out=target/targets/aarch64-linux
-        need cc gcc && target aarch64-linux && mkdir -p $out &&
-            awk -v triple=$triple -v layout=$layout -v exports=0 -f tools/targets/retarget.awk target/module/bench_program.ll \
-                >$out/bench_program.ll && compile_module O3 $out/bench_program.ll $out/bench_program.o -c &&
+        need cc gcc && target aarch64-linux && mkdir -p $out && retarget bench_program 0 >$out/bench_program.ll &&
+            compile_module O3 $out/bench_program.ll $out/bench_program.o -c &&
             cc -o $out/bench_program $out/bench_program.o && echo "$PWD/$out/bench_program"
         ;;
     *) echo "There is no target for this machine, $machine." >&2 && return 1 ;;
     esac
-)
-
-# emulate MACHINE FILE.elf EXPONENT WORDS..: runs firmware on an emulated machine. Its clock counts instructions, 2^EXPONENT ns for
-# each, so that every run is the same. WORDS are for the emulator. It ends where the firmware ends itself.
-emulate() (
-    case $1 in
-    cortex-m3) emulator=qemu-system-arm machine_words='-M mps2-an385' ;;
-    riscv32) emulator=qemu-system-riscv32 machine_words='-M virt -bios none -m 16M' ;;
-    riscv64) emulator=qemu-system-riscv64 machine_words='-M virt -bios none -m 16M' ;;
-    *) return 1 ;;
-    esac
-    elf=$2 exponent=$3
-    shift 3
-    $emulator $machine_words -display none -monitor none -serial none -icount "shift=$exponent,sleep=off" -kernel "$elf" "$@"
 )

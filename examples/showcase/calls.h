@@ -4,7 +4,7 @@
 
 #include "kernel.h"
 
-/* Stops the program in its safe state unless a call was accepted: a refusal that a task does not expect is a fault of it. */
+/* Stops the program in its safe state unless a call was accepted: a task that gets a refusal here has a fault. */
 static inline void must(uint32_t number) {
     if (number != QUERMANIC_ACCEPTED) {
         kernel_stop("a call was refused");
@@ -32,10 +32,11 @@ static inline void pause(uint8_t unit, uint8_t count) {
     must(kernel_call(record, quermanic_put_pause(record, unit, count), answer));
 }
 
-/* 05: a run of another task, at its own priority, at once or when those before it have ended. False where 32 are queued. */
+/* 05: a run of another task, at its own priority, at once or after those before it. False where 32 are queued. */
 static inline int ask_for_run(uint8_t task, uint16_t argument) {
     uint8_t record[QUERMANIC_LONGEST_RECORD], answer[QUERMANIC_ANSWER_LENGTH];
-    const uint32_t number = kernel_call(record, quermanic_put_queue(record, QUERMANIC_OWN_PRIORITY, task, argument), answer);
+    const uint32_t number =
+        kernel_call(record, quermanic_put_queue(record, QUERMANIC_OWN_PRIORITY, task, argument), answer);
 
     if (number != QUERMANIC_POOL_FULL) {
         must(number);

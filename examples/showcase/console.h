@@ -1,4 +1,4 @@
-/* The console: lines of text to whoever watches, here by the emulator's semihosting; on a board it would be a serial port. */
+/* The console: lines of text to whoever watches. Here the emulator's, on a board a serial port. */
 #ifndef CONSOLE_H
 #define CONSOLE_H
 

@@ -3,11 +3,11 @@
  *
  *   the clock   SysTick, every granule, is the tick
  *   a call      SVC: the task hands over the record of the call
- *   the switch  both handlers put r4 to r11 on the stack of the task that they interrupted, take a step, and return on the
- *               stack of the task that the answer names
+ *   the switch  both handlers put r4 to r11 on the stack of the task that they interrupted, take a step, and
+ *               return on the stack of the task that the answer names
  *
- * SVC and SysTick have one priority, the lowest. So neither interrupts the other, and one step at a time is taken: that is all
- * that the library asks for. Interrupts of higher priority may come at any time, and must not call.
+ * SVC and SysTick have one priority, the lowest. So neither interrupts the other, and one step at a time is taken:
+ * that is all that the library asks for. Interrupts of higher priority may come at any time, and must not call.
  */
 #include "kernel.h"
 #include "console.h"
@@ -31,9 +31,9 @@ enum { R4_TO_R11 = 0, R0 = 8, R1 = 9, R2 = 10, LR = 13, PC = 14, STATUS = 15, FR
 enum { IDLE = 0, CONTEXTS = KERNEL_TASKS + 1 };
 
 struct context {
-    uint32_t *sp;         /* its stack's top, while it is not running */
-    uint32_t is_new;      /* its run has not begun yet */
-    uint32_t start;       /* its run's scheduled start */
+    uint32_t *sp;    /* its stack's top, while it is not running */
+    uint32_t is_new; /* its run has not begun yet */
+    uint32_t start;  /* its run's scheduled start */
 };
 
 static const struct program *program;
@@ -106,7 +106,7 @@ static uint32_t *switch_to(const uint8_t *answer) {
     return next->sp;
 }
 
-/* A call: r0 is the record, r1 its length, r2 where the answer goes; r0 is to be the number. 00 and 01 end the run. */
+/* A call: r0 is the record, r1 its length, r2 where the answer goes; r0 is to be the number. 00, 01 end the run. */
 __attribute__((used)) static uint32_t *take_call(uint32_t *sp) {
     const uint8_t *record = (const uint8_t *)sp[R0];
     const uint8_t kind = record[0];
@@ -136,17 +136,17 @@ __attribute__((used)) static uint32_t *take_tick(uint32_t *sp) {
     return switch_to(answer);
 }
 
-/* A handler: what the processor has not put on the task's stack goes there, and comes from the stack that is returned on. */
-#define HANDLER(name, function)                                        \
-    __attribute__((naked)) void name(void) {                           \
-        __asm__ volatile("mrs r0, psp\n"                               \
-                         "stmdb r0!, {r4-r11}\n"                       \
-                         "push {r3, lr}\n"                             \
-                         "bl " #function "\n"                          \
-                         "pop {r3, lr}\n"                              \
-                         "ldmia r0!, {r4-r11}\n"                       \
-                         "msr psp, r0\n"                               \
-                         "bx lr\n");                                   \
+/* A handler: what the processor has not put on the task's stack goes there, and comes from that of the next task. */
+#define HANDLER(name, function)                  \
+    __attribute__((naked)) void name(void) {     \
+        __asm__ volatile("mrs r0, psp\n"         \
+                         "stmdb r0!, {r4-r11}\n" \
+                         "push {r3, lr}\n"       \
+                         "bl " #function "\n"    \
+                         "pop {r3, lr}\n"        \
+                         "ldmia r0!, {r4-r11}\n" \
+                         "msr psp, r0\n"         \
+                         "bx lr\n");             \
     }
 HANDLER(on_svc, take_call)
 HANDLER(on_systick, take_tick)

@@ -1,4 +1,4 @@
-/* The executive on this board: its image, the clock's interrupt, the calls of tasks, and the switch between their stacks. */
+/* The executive on this board: its image, the clock's interrupt, the calls of tasks, and the switch of stacks. */
 #ifndef KERNEL_H
 #define KERNEL_H
 
@@ -10,20 +10,20 @@ enum { KERNEL_TASKS = 4, STACK_WORDS = 256 };
 /* What a run of a task begins with; it gets the run's argument, and never returns: a run ends by call 00 or 01. */
 typedef void (*task_entry)(uint32_t argument);
 
-/* What this board's program is: its configuration, where each task's runs begin, and the milliseconds that a tick stands for. */
+/* What this board's program is. */
 struct program {
     const uint8_t *config;
     quermanic_length config_length;
-    task_entry entry[KERNEL_TASKS];
-    uint32_t granule;
-    void (*on_tick)(uint8_t *image);    /* called before each tick is taken, in the clock's interrupt */
-    void (*safe)(const char *why);      /* brings the plant into its safe state; the program then stops */
+    task_entry entry[KERNEL_TASKS];  /* where each task's runs begin */
+    uint32_t granule;                /* ms that a tick stands for, as the configuration has it */
+    void (*on_tick)(uint8_t *image); /* called before each tick is taken, in the clock's interrupt */
+    void (*safe)(const char *why);   /* brings the plant into its safe state; the program then stops */
 };
 
 /* Makes the table, and runs the program; it does not return. */
 _Noreturn void kernel_run(const struct program *program);
 
-/* A call of the active task, by its record: the number that the step is answered with. Its answer is written to `answer`. */
+/* A call of the active task, by its record: the number of the answer, which is written to `answer`. */
 uint32_t kernel_call(const uint8_t *record, quermanic_length length, uint8_t *answer);
 
 /* Stops the program in its safe state, with status 3. */

@@ -1,5 +1,4 @@
-/* The memory functions that the library wants, for a board without a C library. Most of a step's copies are of whole words, so a
- * board's own must copy by words too: with a loop over bytes a step takes a quarter longer. */
+/* The memory functions that the library wants, for a board without a C library. They copy by blocks of words. */
 #include <stdint.h>
 
 typedef __SIZE_TYPE__ size;
@@ -22,10 +21,12 @@ void *memmove(void *to, const void *from, size count) {
         return to;
     }
     if ((((uintptr_t)t | (uintptr_t)f) & (sizeof(uintptr_t) - 1)) == 0) {
-        for (; count >= sizeof(struct block); count -= sizeof(struct block), t += sizeof(struct block), f += sizeof(struct block)) {
+        for (; count >= sizeof(struct block);
+             count -= sizeof(struct block), t += sizeof(struct block), f += sizeof(struct block)) {
             *(struct block *)t = *(const struct block *)f;
         }
-        for (; count >= sizeof(uintptr_t); count -= sizeof(uintptr_t), t += sizeof(uintptr_t), f += sizeof(uintptr_t)) {
+        for (; count >= sizeof(uintptr_t);
+             count -= sizeof(uintptr_t), t += sizeof(uintptr_t), f += sizeof(uintptr_t)) {
             *(uintptr_t *)t = *(const uintptr_t *)f;
         }
     }
@@ -53,7 +54,7 @@ void *memset(void *to, int value, size count) {
 }
 
 #ifdef __arm__
-/* The names of Arm's run-time ABI for them, which compilers call; the digit is the alignment that the caller knows of. */
+/* The names of Arm's run-time ABI for them, which compilers call; the digit is an alignment that the caller knows. */
 void __aeabi_memcpy(void *to, const void *from, size count) { memmove(to, from, count); }
 void __aeabi_memcpy4(void *to, const void *from, size count) { memmove(to, from, count); }
 void __aeabi_memcpy8(void *to, const void *from, size count) { memmove(to, from, count); }

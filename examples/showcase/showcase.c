@@ -6,8 +6,9 @@
  *   3 fan       runs when it is asked to, for as many tenths of a second as its argument says; requests are queued
  *   4 logger    every two seconds: a line, and whether the door has stood open for long
  *
- * RESTART says what becomes of the starts that humidity misses while the door is open: QUERMANIC_FROM_LAST_START runs them all.
- * DAMAGE, where it is not 0, is the second at which a byte of the table is turned, to show what the showcase then does.
+ * RESTART says what becomes of the starts that humidity misses while the door is open: QUERMANIC_FROM_LAST_START runs
+ * them all. DAMAGE, where it is not 0, is the second at which a byte of the table is turned, to show what the
+ * showcase then does.
  */
 #include "calls.h"
 #include "console.h"
@@ -25,7 +26,7 @@ enum { DOOR_IS_CLOSED, DOOR_IS_LONG_OPEN }; /* the flags */
 enum { GRANULE = 10, END = 16000, TOO_MOIST = 52000 };
 
 static const uint8_t config[] = {
-    QUERMANIC_KIND_GRANULE, GRANULE,                       /* ms */
+    QUERMANIC_KIND_GRANULE, GRANULE,                        /* ms */
     QUERMANIC_KIND_TASK,    7,       QUERMANIC_STARTED,     /* humidity */
     QUERMANIC_KIND_TASK,    9,       QUERMANIC_STARTED,     /* door */
     QUERMANIC_KIND_TASK,    5,       QUERMANIC_NOT_STARTED, /* fan */
@@ -36,7 +37,7 @@ static const uint8_t config[] = {
 static uint32_t humidity_runs, fan_runs;
 static int door_was_open = 1; /* so that the door task says at once that it is closed */
 
-/* A line of the log: the clock in tenths of a second, who, and what; then a number and a text, where there is a text. */
+/* A line of the log: the clock in tenths of a second, who, and what; then, where there is a text, a number and it. */
 static void tell(const char *who, const char *what, uint32_t number, const char *behind) {
     char line[96], *to = put_tenths(line, kernel_clock());
 
@@ -56,7 +57,8 @@ static void humidity(uint32_t argument) {
     world_add_water();
     humidity_runs++;
     is_too_moist = world_moisture() > TOO_MOIST;
-    tell("humidity", "a step of water for second ", kernel_start_of(HUMIDITY) / 1000, is_too_moist ? ", too moist" : "");
+    tell("humidity", "a step of water for second ", kernel_start_of(HUMIDITY) / 1000,
+         is_too_moist ? ", too moist" : "");
     if (is_too_moist && !ask_for_run(FAN, 10)) {
         tell("humidity", "cannot ask for the fan: its requests are too many", 0, 0);
     }

@@ -35,6 +35,15 @@ __attribute__((weak)) void on_systick(void) { on_fault(); }
 
 /* The first is no handler: it is where the handlers' stack begins. */
 __attribute__((section(".vectors"), used)) static void (*const vectors[16])(void) = {
-    (void (*)(void))stack_top, on_reset, on_fault, on_fault, on_fault, on_fault, on_fault, 0, 0, 0, 0, on_svc, on_fault, 0, on_fault,
-    on_systick,
+    [0] = (void (*)(void))stack_top,
+    [1] = on_reset,
+    [2] = on_fault,
+    [3] = on_fault,
+    [4] = on_fault,
+    [5] = on_fault,
+    [6] = on_fault,
+    [11] = on_svc,
+    [12] = on_fault,
+    [14] = on_fault,
+    [15] = on_systick,
 };

@@ -1,4 +1,4 @@
-/* The showcase itself, simulated: a door with a switch, a humidifier, a fan, and the air in between. On a board: its pins. */
+/* The showcase itself, simulated: a door, a humidifier, a fan, and the air in between. On a board: its pins. */
 #ifndef WORLD_H
 #define WORLD_H
 

@@ -1,8 +1,8 @@
-/* The board library's functions as a program, for a trial that cannot link them: it reads calls and writes what they give.
- * A call is a letter (f fresh, c check, s step), the lengths of three buffers, four bytes each, the highest first, and their bytes:
- * the image; the configuration or the record; the answer. What it gives: the number that was returned, as four bytes, so that
- * what a machine leaves above the returned byte is seen; the instructions that it took, four bytes, 0 where nothing counts them;
- * and the bytes of image and answer after it. */
+/* The board library's functions as a program, for a trial that cannot link them: it reads calls and answers them.
+ * A call is a letter (f fresh, c check, s step), the lengths of three buffers, four bytes each, the highest first,
+ * and their bytes: the image; the configuration or the record; the answer. What it gives: the number that was
+ * returned, as four bytes, so that what a machine leaves above the returned byte is seen; the instructions that it
+ * took, four bytes, 0 where nothing counts them; and the bytes of image and answer after it. */
 #include "pipe.h"
 #include "quermanic.h"
 
@@ -32,7 +32,8 @@ static uint32_t read_length(void) {
 }
 
 static void write_number(uint32_t number) {
-    const uint8_t bytes[4] = {(uint8_t)(number >> 24), (uint8_t)(number >> 16), (uint8_t)(number >> 8), (uint8_t)number};
+    const uint8_t bytes[4] = {(uint8_t)(number >> 24), (uint8_t)(number >> 16), (uint8_t)(number >> 8),
+                              (uint8_t)number};
 
     pipe_write(bytes, sizeof bytes);
 }
@@ -54,7 +55,8 @@ static void keep(struct guarded *buffer) {
     uint32_t i;
 
     for (i = 0; i < GUARD; i++) {
-        need(buffer->all[i] == FILL && inside(buffer)[buffer->length + i] == FILL, "calls: the library wrote outside its buffer\n");
+        need(buffer->all[i] == FILL && inside(buffer)[buffer->length + i] == FILL,
+             "calls: the library wrote outside its buffer\n");
     }
 }
 
@@ -66,12 +68,13 @@ static uint32_t call(uint8_t kind, struct guarded *image, struct guarded *given,
         return quermanic_check(inside(image), image->length);
     default:
         need(kind == 's', "calls: no such call\n");
-        return quermanic_step(inside(image), image->length, inside(given), given->length, inside(answer), answer->length);
+        return quermanic_step(inside(image), image->length, inside(given), given->length, inside(answer),
+                              answer->length);
     }
 }
 
 static void answer_call(uint8_t kind) {
-    volatile uint32_t number; /* so that the compiler stores all that is returned, and does not reckon that it is a byte */
+    volatile uint32_t number; /* so that all bits of what is returned are kept, and not reckoned to be a byte's */
     uint32_t i, before, spent;
 
     for (i = 0; i < 3; i++) {

@@ -1,4 +1,4 @@
-/* The header's builders and readers: each record against 01's bytes, and what a board reads of an answer and of an image. */
+/* The header's builders and readers: each record against 01's bytes, and what is read of an answer and an image. */
 #include <stdio.h>
 #include <string.h>
 
@@ -18,26 +18,29 @@ static int is(const uint8_t *record, quermanic_length length, const char *expect
     return length == expected_length && memcmp(record, expected, expected_length) == 0 && record[length] == 0xA5;
 }
 
-#define TRY(what, built, bytes)                                             \
-    do {                                                                    \
-        uint8_t record[QUERMANIC_LONGEST_RECORD + 1];                       \
-        quermanic_length length;                                            \
-        memset(record, 0xA5, sizeof record);                                \
-        length = built;                                                     \
-        tell(what, is(record, length, bytes, sizeof bytes - 1));            \
+#define TRY(what, built, bytes)                                  \
+    do {                                                         \
+        uint8_t record[QUERMANIC_LONGEST_RECORD + 1];            \
+        quermanic_length length;                                 \
+        memset(record, 0xA5, sizeof record);                     \
+        length = built;                                          \
+        tell(what, is(record, length, bytes, sizeof bytes - 1)); \
     } while (0)
 
 static void try_builders(void) {
     TRY("00", quermanic_put_terminate(record), "\x00");
-    TRY("01 from the last start", quermanic_put_restart(record, QUERMANIC_FROM_LAST_START, QUERMANIC_UNIT_SECOND, 7), "\x01\x02\x07");
+    TRY("01 from the last start", quermanic_put_restart(record, QUERMANIC_FROM_LAST_START, QUERMANIC_UNIT_SECOND, 7),
+        "\x01\x02\x07");
     TRY("01 from now", quermanic_put_restart(record, QUERMANIC_FROM_NOW, QUERMANIC_UNIT_HOUR, 255), "\x01\x84\xFF");
     TRY("02", quermanic_put_pause(record, QUERMANIC_UNIT_MINUTE, 9), "\x02\x03\x09");
     TRY("03", quermanic_put_cancel_pause(record, 16), "\x03\x10");
     TRY("04", quermanic_put_start(record, QUERMANIC_OWN_PRIORITY, 3), "\x04\x80\x03");
     TRY("05", quermanic_put_queue(record, QUERMANIC_WAIT_FOR_END | 7, 2, 0x1234), "\x05\x47\x02\x12\x34");
-    TRY("05 without argument", quermanic_put_queue(record, QUERMANIC_WAIT_FOR_START | QUERMANIC_NO_ARGUMENT, 2, 0), "\x05\x30\x02\x00\x00");
+    TRY("05 without argument", quermanic_put_queue(record, QUERMANIC_WAIT_FOR_START | QUERMANIC_NO_ARGUMENT, 2, 0),
+        "\x05\x30\x02\x00\x00");
     TRY("09", quermanic_put_flag(record, QUERMANIC_SET, 31), "\x09\x01\x1F");
-    TRY("0A", quermanic_put_wait(record, QUERMANIC_ALL, QUERMANIC_MASK_OF(31) | QUERMANIC_MASK_OF(0)), "\x0A\x01\x80\x00\x00\x01");
+    TRY("0A", quermanic_put_wait(record, QUERMANIC_ALL, QUERMANIC_MASK_OF(31) | QUERMANIC_MASK_OF(0)),
+        "\x0A\x01\x80\x00\x00\x01");
     TRY("0B", quermanic_put_alarm(record, QUERMANIC_UNIT_10_MS, 3, 4), "\x0B\x01\x03\x04");
     TRY("0B in days", quermanic_put_alarm(record, QUERMANIC_UNIT_DAY, 30, 4), "\x0B\x05\x1E\x04");
     TRY("80", quermanic_put_tick(record), "\x80");
@@ -63,14 +66,17 @@ static void try_readers(void) {
     tell("a fresh table", quermanic_fresh(config, configure(config), image, room) == QUERMANIC_ACCEPTED);
     tell("granule and count", image[QUERMANIC_IMAGE_GRANULE] == 250 && image[QUERMANIC_IMAGE_COUNT] == 2);
     tell("1 ready, 0 queued", image[QUERMANIC_IMAGE_READY] == 1 && image[QUERMANIC_IMAGE_QUEUED] == 0);
-    tell("task 1 is active", quermanic_active_of(image) == 1 && quermanic_state_of(image, 1) == QUERMANIC_STATE_READY);
+    tell("task 1 is active",
+         quermanic_active_of(image) == 1 && quermanic_state_of(image, 1) == QUERMANIC_STATE_READY);
     tell("task 2 is dormant", quermanic_state_of(image, 2) == QUERMANIC_STATE_DORMANT);
-    tell("a tick", quermanic_step(image, room, record, quermanic_put_tick(record), answer, answer_room) == QUERMANIC_ACCEPTED);
+    tell("a tick",
+         quermanic_step(image, room, record, quermanic_put_tick(record), answer, answer_room) == QUERMANIC_ACCEPTED);
     tell("the clock", quermanic_clock_of(image) == 250);
-    tell("a flag", quermanic_step(image, room, record, quermanic_put_flag(record, QUERMANIC_SET, 31), answer, answer_room) == 0);
+    tell("a flag", quermanic_step(image, room, record, quermanic_put_flag(record, QUERMANIC_SET, 31), answer,
+                                  answer_room) == 0);
     tell("the flags", quermanic_flags_of(image) == QUERMANIC_MASK_OF(31));
-    tell("a start with an argument",
-         quermanic_step(image, room, record, quermanic_put_queue(record, 15, 2, 0xBEEF), answer, answer_room) == QUERMANIC_ACCEPTED);
+    tell("a start with an argument", quermanic_step(image, room, record, quermanic_put_queue(record, 15, 2, 0xBEEF),
+                                                    answer, answer_room) == QUERMANIC_ACCEPTED);
     tell("the argument", quermanic_argument_of(answer) == 0xBEEF && answer[QUERMANIC_ANSWER_ACTIVE] == 2);
     tell("the scheduled start", quermanic_start_of(image, 2) == 250 && quermanic_start_of(image, 1) == 0);
 }

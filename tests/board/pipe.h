@@ -1,4 +1,4 @@
-/* How a trial's program talks to the trial, and counts: by the C library (stdio.c), or by an emulator (tests/machines). */
+/* How a trial's program talks and counts: by the C library (stdio.c), or by an emulator (tests/machines). */
 #ifndef PIPE_H
 #define PIPE_H
 
@@ -7,7 +7,7 @@
 /* Reads so many bytes; how many there were, which is fewer at the end of the input only. */
 uint32_t pipe_read(uint8_t *to, uint32_t count);
 
-/* Writes bytes, and sees to it that all that was written goes out. Either ends the program where the other side is gone. */
+/* Writes bytes, and sees to it that all of them go out. Either ends the program where the other side is gone. */
 void pipe_write(const uint8_t *from, uint32_t count);
 void pipe_flush(void);
 

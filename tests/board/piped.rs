@@ -1,5 +1,4 @@
-//! The board library's functions on another machine: called through the program that BOARD_CALLS names (`calls.c`), under an
-//! emulator or on one.
+//! The board library's functions on another machine, called through the program that BOARD_CALLS names (`calls.c`).
 
 use std::io::{Read, Write};
 use std::process::{Child, Command, Stdio};

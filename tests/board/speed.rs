@@ -42,8 +42,8 @@ pub fn speed(rounds: usize) -> bool {
     true
 }
 
-/// So many passes through a short mix in one way, for whoever counts the instructions of the whole; prints the steps of a pass.
-/// `None` where there is no such way or mix.
+/// So many passes through a short mix in one way, for whoever counts the instructions of the whole; prints the steps
+/// of a pass. `None` where there is no such way or mix.
 pub fn passes(way: &str, mix: &str, passes: u32) -> Option<bool> {
     let (_, way) = WAYS.iter().find(|(name, _)| *name == way)?;
     let mixes = short_mixes();

@@ -304,7 +304,7 @@ fn difference(image: &[u8], record: &[u8], given: &Given, expected: &Given) -> S
     )
 }
 
-/// The instructions of each step, of the mixes and of a trial, both compared with the model; true if nothing differs.
+/// The instructions of each step, of the mixes and of a trial, compared with the model; true if nothing differs.
 fn instructions(steps: u64, seed: u64) -> bool {
     for (name, input) in short::short_mixes() {
         let mut trial = Trial::new(seed, Wrong::Nothing);

@@ -1,5 +1,5 @@
-# How the trial's program is built for an emulated machine, and how the trial runs it: sourced by tests/machines/run and tests/speed.
-# Whoever sources it has sourced tools/setup.sh and tools/targets.sh, and stands in the repository's folder.
+# How the trial's program is built for an emulated machine: sourced by tests/machines/run and tests/instructions.
+# Whoever sources it has sourced tools/setup.sh, targets.sh and firmware.sh, and stands in the repository's folder.
 
 machines='cortex-m3 riscv32 riscv64'
 
@@ -14,8 +14,9 @@ need_emulator() {
     esac
 }
 
-# calls_on MACHINE OUT LIBRARY [WORDS..]: builds tests/board/calls.c for a machine, over the library in a folder, with more words for
-# the compiler, into the folder OUT. Leaves there the script 'calls', which runs it: what BOARD_CALLS is to name.
+# calls_on MACHINE OUT LIBRARY [WORDS..]: builds tests/board/calls.c for a machine, over the library in a folder, with
+# more words for the compiler, into the folder OUT. Leaves there the script 'calls', which runs it: what BOARD_CALLS
+# is to name.
 calls_on() (
     on=$1 place=$2 library=$3
     shift 3
@@ -36,7 +37,7 @@ calls_on() (
     "$(kit_tools)/bin/ld.lld" --gc-sections -L "$library" $link $objects -lboard -o "$place/calls.elf" || return 1
     cat >"$place/calls" <<END && chmod +x "$place/calls"
 #!/bin/sh
-. '$PWD/tools/targets.sh'
+. '$PWD/tools/firmware.sh'
 emulate $on '$PWD/$place/calls.elf' $exponent -semihosting-config enable=on,target=native
 END
 )
@@ -44,5 +45,6 @@ END
 # trial_program: builds the Rust trial, over the library for this machine; prints where it is.
 trial_program() (
     folder=$(native_library) && mkdir -p target/board &&
-        rustc -O --edition 2021 -D warnings -L "$folder" -o target/board/trial tests/board/trial.rs && echo target/board/trial
+        rustc -O --edition 2021 -D warnings -L "$folder" -o target/board/trial tests/board/trial.rs &&
+        echo target/board/trial
 )

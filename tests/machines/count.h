@@ -5,7 +5,7 @@
 #include <stdint.h>
 
 #if defined(__arm__)
-/* SysTick counts down, 24 bits wide, at 25 MHz. The emulator is told that an instruction takes 2^10 ns: 25.6 counts. */
+/* SysTick counts down, 24 bits wide, at 25 MHz. The emulator takes 2^10 ns for an instruction: 25.6 counts. */
 #define SYSTICK_CONTROL (*(volatile uint32_t *)0xE000E010u)
 #define SYSTICK_RELOAD (*(volatile uint32_t *)0xE000E014u)
 #define SYSTICK_COUNT (*(volatile uint32_t *)0xE000E018u)

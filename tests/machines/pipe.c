@@ -1,4 +1,4 @@
-/* A trial's program on an emulated machine: by the emulator's standard input and output, in pieces, since each request is slow. */
+/* A trial's program on an emulated machine: by the emulator's standard input and output, in large pieces. */
 #include "pipe.h"
 #include "count.h"
 #include "semihost.h"

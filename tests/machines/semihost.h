@@ -4,7 +4,14 @@
 
 #include <stdint.h>
 
-enum { OPEN = 0x01, WRITE_TEXT = 0x04, WRITE = 0x05, READ = 0x06, EXIT_WITH_STATUS = 0x20, APPLICATION_EXIT = 0x20026 };
+enum {
+    OPEN = 0x01,
+    WRITE_TEXT = 0x04,
+    WRITE = 0x05,
+    READ = 0x06,
+    EXIT_WITH_STATUS = 0x20,
+    APPLICATION_EXIT = 0x20026
+};
 
 #if defined(__arm__)
 static inline uintptr_t semihost(uintptr_t operation, const void *argument) {

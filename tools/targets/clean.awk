@@ -2,7 +2,7 @@
 # Refused, each with its function:
 # - a pointer made a number or a number a pointer, a comparison of pointers, inline assembly, a call through a pointer
 # - an address that is not made by bytes (getelementptr i8)
-# - a slot that is read or written as a pointer and as something else, and a slot of a pointer that is narrower than 8 bytes
+# - a slot that is accessed as a pointer and as something else, and a slot of a pointer that is narrower than 8 bytes
 # - a division but by a power of two, which a processor without division would need a helper for
 # - any other instruction than those that are known to be right; numbers over 64 bits, floats, vectors
 # That a slot is accessed at two widths of numbers is let pass: all targets have the lowest byte first.
@@ -36,7 +36,8 @@ function end_of_function(    slot, part, near, other, width) {
             if (!((part[1], part[2] + near) in number_at)) continue
             other = number_at[part[1], part[2] + near]
             width = substr(other, 2) / 8
-            if (near >= 0 || near + width > 0) refuse(part[1] " + " part[2] " holds a pointer, and " other " is accessed at " near " from it")
+            if (near >= 0 || near + width > 0)
+                refuse(part[1] " + " part[2] " holds a pointer, and " other " is accessed at " near " from it")
         }
     }
     split("", base_of)
@@ -47,8 +48,8 @@ function end_of_function(    slot, part, near, other, width) {
 }
 
 BEGIN {
-    count = split("alloca load store getelementptr call br ret icmp zext sext trunc add sub mul udiv urem and or xor shl lshr " \
-                  "switch unreachable select phi", list, " ")
+    count = split("alloca load store getelementptr call br ret icmp zext sext trunc add sub mul udiv urem and or " \
+                  "xor shl lshr switch unreachable select phi", list, " ")
     for (i = 1; i <= count; i++) known[list[i]] = 1
 }
 
@@ -78,13 +79,18 @@ BEGIN {
 operation ~ /^(i[0-9]+|\])/ { next } # a case of a switch
 { instructions++ }
 !(operation in known) { refuse("an instruction that is not known to be right: " line) }
-line ~ /(^|[^a-zA-Z0-9_.%])(i128|float|double|half|fp128|x86_fp80|<[0-9]+ x)/ { refuse("a number that small processors lack: " line) }
+line ~ /(^|[^a-zA-Z0-9_.%])(i128|float|double|half|fp128|x86_fp80|<[0-9]+ x)/ {
+    refuse("a number that small processors lack: " line)
+}
 operation == "icmp" && word[3] == "ptr" { refuse("a comparison of pointers: " line) }
 line ~ / asm / { refuse("inline assembly: " line) }
 operation == "call" && line !~ /^call [^%]*@/ { refuse("a call through a pointer: " line) }
-operation ~ /^(udiv|urem)$/ && !is_power_of_two(word[count]) { refuse("a division that is not by a power of two: " line) }
+operation ~ /^(udiv|urem)$/ && !is_power_of_two(word[count]) {
+    refuse("a division that is not by a power of two: " line)
+}
 operation == "getelementptr" {
-    if (line !~ /^getelementptr (inbounds |nuw |nusw )*i8, ptr [^ ]+, i64 [^ ]+$/) refuse("an address that is not made by bytes: " line)
+    if (line !~ /^getelementptr (inbounds |nuw |nusw )*i8, ptr [^ ]+, i64 [^ ]+$/)
+        refuse("an address that is not made by bytes: " line)
     else if (word[count] ~ /^[0-9]+$/) {
         base = word[count - 2]
         sub(/,$/, "", base)

@@ -1,9 +1,10 @@
-# An LLVM module for x86-64 as one for another machine: awk -v triple=T -v layout=L -v exports=N [-v plant=FAULT] -f retarget.awk FILE.ll
-# The edits: triple and layout are replaced; two attributes that are of x86-64 go; and each of the N exported functions that
-# return a byte extends it to a whole register (zeroext), which callers on Arm-32 and RISC-V count on and the kit does not say.
-# Each edit must match as often as expected, and nothing of x86-64 may be left: else nothing is to be made of what is printed.
-# For the trials something may be planted: dirty, that the functions leave a bit above the byte that they return, as they may
-# where nothing says that it is extended; or bare, that they do, and that it is not extended, which is the fault to be found.
+# An LLVM module for x86-64 as one for another: awk -v triple=T -v layout=L -v exports=N -f retarget.awk FILE.ll
+# The edits: triple and layout are replaced; two attributes that are of x86-64 go; and each of the N exported functions
+# that return a byte extends it to a whole register (zeroext), which callers on Arm-32 and RISC-V count on and the kit
+# does not say. Each edit must match as often as expected, and nothing of x86-64 may be left: else the status is 1.
+# For the trials something may be planted (-v plant=..): dirty, that the functions leave a bit above the byte that they
+# return, as they may where nothing says that it is extended; or bare, that they do, and that it is not extended, which
+# is the fault to be found.
 
 function refuse(why) {
     print "the module cannot be retargeted: " why > "/dev/stderr"

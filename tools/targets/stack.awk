@@ -1,8 +1,10 @@
-# The deepest stack of each entry of a library, from its frames and its calls: awk -f stack.awk [-v NAME=VALUE..] FILE.su FILE.s
+# The deepest stack of each entry of a library, from its frames and its calls: awk [-v ..] -f stack.awk FILE.su FILE.s
 # FILE.su is what clang's -fstack-usage says of the frames, FILE.s the assembly text that the library is made of.
-# entries: the functions to tell of. wanted: the bytes that a function of another library counts for. pushed: the bytes
-# that a call itself pushes (8 on x86-64). Prints 'stack ENTRY BYTES' for each entry, and 'wants NAME' for each function
-# that the library calls and does not have. It refuses recursion, a call through a register and a frame of no fixed size.
+#   entries   the functions to tell of
+#   wanted    the bytes that a function of another library counts for
+#   pushed    the bytes that a call itself pushes (8 on x86-64)
+# Prints 'stack ENTRY BYTES' for each entry, and 'wants NAME' for each function that the library calls and has not.
+# It refuses recursion, a call through a register and a frame of no fixed size.
 
 function refuse(why) {
     print "the stack has no bound: " why > "/dev/stderr"
@@ -34,7 +36,7 @@ function depth(name,    list, count, i, below, most) {
 }
 
 BEGIN {
-    # a call or a last jump to a name; through a register; a jump through a register, as a switch makes it with its table
+    # a call or a last jump to a name; through a register; a jump through a register, as a switch has with its table
     direct = "^(bl|b|b\\.w|call|callq|tail|jmp|jmpq|j)$"
     through = "^(blx|blr|jalr|bx|br|jr)$"
     jump = "^(br|jr|jmp|jmpq)$"
