@@ -80,6 +80,7 @@ typedef uint64_t quermanic_length;
 
 /* The parameter of 01: a unit, and one of these. */
 #define QUERMANIC_FROM_LAST_START 0x00 /* the interval counts from the last scheduled start; each missed start runs */
+#define QUERMANIC_SKIP_MISSED 0x40     /* as before, but missed starts are passed over; the answer tells how many */
 #define QUERMANIC_FROM_NOW 0x80        /* the interval counts from now */
 
 /* The option of 04 and 05: a priority 0 to 15, or the target's own; in 05 also what the caller waits for. */
@@ -280,6 +281,11 @@ static inline uint64_t quermanic_number_at(const uint8_t *bytes, unsigned count)
 /* The argument of the active task's run, of an answer. */
 static inline uint16_t quermanic_argument_of(const uint8_t *answer) {
     return (uint16_t)quermanic_number_at(answer + QUERMANIC_ANSWER_ARGUMENT, 2);
+}
+
+/* The starts that a 01 with QUERMANIC_SKIP_MISSED passed over, of its answer; 0 of every other. */
+static inline uint64_t quermanic_skipped_of(const uint8_t *answer) {
+    return quermanic_number_at(answer + QUERMANIC_ANSWER_SKIPPED, 8);
 }
 
 /* The milliseconds since an image's table was made. */

@@ -31,9 +31,10 @@ enum { R4_TO_R11 = 0, R0 = 8, R1 = 9, R2 = 10, LR = 13, PC = 14, STATUS = 15, FR
 enum { IDLE = 0, CONTEXTS = KERNEL_TASKS + 1 };
 
 struct context {
-    uint32_t *sp;    /* its stack's top, while it is not running */
-    uint32_t is_new; /* its run has not begun yet */
-    uint32_t start;  /* its run's scheduled start */
+    uint32_t *sp;     /* its stack's top, while it is not running */
+    uint32_t is_new;  /* its run has not begun yet */
+    uint32_t start;   /* its run's scheduled start */
+    uint32_t skipped; /* the starts that were passed over before it */
 };
 
 static const struct program *program;
@@ -51,6 +52,8 @@ _Noreturn void kernel_stop(const char *why) {
 uint32_t kernel_clock(void) { return clock; }
 
 uint32_t kernel_start_of(uint8_t task) { return contexts[task].start; }
+
+uint32_t kernel_skipped_of(uint8_t task) { return contexts[task].skipped; }
 
 uint32_t kernel_check(void) { return quermanic_check(image, sizeof image); }
 
@@ -117,6 +120,7 @@ __attribute__((used)) static uint32_t *take_call(uint32_t *sp) {
     number = step(record, sp[R1], answer);
     if (number == QUERMANIC_ACCEPTED && (kind == QUERMANIC_KIND_TERMINATE || kind == QUERMANIC_KIND_RESTART)) {
         renew(running);
+        contexts[running].skipped = (uint32_t)quermanic_skipped_of(answer);
     } else {
         for (i = 0; i < sizeof answer; i++) {
             ((uint8_t *)sp[R2])[i] = answer[i];

@@ -35,6 +35,9 @@ uint32_t kernel_clock(void);
 /* Of a task's run that is going on: its scheduled start. */
 uint32_t kernel_start_of(uint8_t task);
 
+/* Of the same run: the starts that were passed over before it. */
+uint32_t kernel_skipped_of(uint8_t task);
+
 /* Whether the image is that of a well-formed table: 0, or 1. */
 uint32_t kernel_check(void);
 

@@ -7,8 +7,8 @@
  *   4 logger    every two seconds: a line, and whether the door has stood open for long
  *
  * RESTART says what becomes of the starts that humidity misses while the door is open: QUERMANIC_FROM_LAST_START runs
- * them all. DAMAGE, where it is not 0, is the second at which a byte of the table is turned, to show what the
- * showcase then does.
+ * them all, QUERMANIC_SKIP_MISSED passes them over. DAMAGE, where it is not 0, is the second at which a byte of the
+ * table is turned, to show what the showcase then does.
  */
 #include "calls.h"
 #include "console.h"
@@ -53,6 +53,9 @@ static void humidity(uint32_t argument) {
     int is_too_moist;
 
     (void)argument;
+    if (kernel_skipped_of(HUMIDITY) > 0) {
+        tell("humidity", "starts that were passed over: ", kernel_skipped_of(HUMIDITY), "");
+    }
     wait_for_any(QUERMANIC_MASK_OF(DOOR_IS_CLOSED));
     world_add_water();
     humidity_runs++;

@@ -32,6 +32,8 @@ static void try_builders(void) {
     TRY("01 from the last start", quermanic_put_restart(record, QUERMANIC_FROM_LAST_START, QUERMANIC_UNIT_SECOND, 7),
         "\x01\x02\x07");
     TRY("01 from now", quermanic_put_restart(record, QUERMANIC_FROM_NOW, QUERMANIC_UNIT_HOUR, 255), "\x01\x84\xFF");
+    TRY("01 without the missed", quermanic_put_restart(record, QUERMANIC_SKIP_MISSED, QUERMANIC_UNIT_SECOND, 1),
+        "\x01\x42\x01");
     TRY("02", quermanic_put_pause(record, QUERMANIC_UNIT_MINUTE, 9), "\x02\x03\x09");
     TRY("03", quermanic_put_cancel_pause(record, 16), "\x03\x10");
     TRY("04", quermanic_put_start(record, QUERMANIC_OWN_PRIORITY, 3), "\x04\x80\x03");
@@ -62,6 +64,7 @@ static void try_readers(void) {
     uint8_t config[QUERMANIC_LONGEST_CONFIGURATION], image[QUERMANIC_IMAGE_LENGTH];
     uint8_t record[QUERMANIC_LONGEST_RECORD], answer[QUERMANIC_ANSWER_LENGTH];
     const quermanic_length room = sizeof image, answer_room = sizeof answer;
+    quermanic_length length;
 
     tell("a fresh table", quermanic_fresh(config, configure(config), image, room) == QUERMANIC_ACCEPTED);
     tell("granule and count", image[QUERMANIC_IMAGE_GRANULE] == 250 && image[QUERMANIC_IMAGE_COUNT] == 2);
@@ -79,6 +82,12 @@ static void try_readers(void) {
                                                     answer, answer_room) == QUERMANIC_ACCEPTED);
     tell("the argument", quermanic_argument_of(answer) == 0xBEEF && answer[QUERMANIC_ANSWER_ACTIVE] == 2);
     tell("the scheduled start", quermanic_start_of(image, 2) == 250 && quermanic_start_of(image, 1) == 0);
+    length = quermanic_put_terminate(record);
+    tell("its end", quermanic_step(image, room, record, length, answer, answer_room) == QUERMANIC_ACCEPTED);
+    tell("none skipped", quermanic_skipped_of(answer) == 0);
+    length = quermanic_put_restart(record, QUERMANIC_SKIP_MISSED, QUERMANIC_UNIT_10_MS, 10);
+    tell("a restart", quermanic_step(image, room, record, length, answer, answer_room) == QUERMANIC_ACCEPTED);
+    tell("two starts skipped", quermanic_skipped_of(answer) == 2);
 }
 
 int main(void) {
