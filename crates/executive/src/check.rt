@@ -19,7 +19,7 @@ ghost use Rattle.executive.specs.Check.{upTo, allOf, inBounds, entryInRa
 ghost use Rattle.executive.specs.Broken.{Broken};
 
 // What a request's waiter waits for: its start, or the end of the run that it begins.
-pub enum Link {
+enum Link {
     AtStart,
     AtEnd,
 }

@@ -6,19 +6,19 @@ ghost use Rattle.executive.specs.Worked.{Worked};
 ghost use Rattle.executive.specs.Skipping.{Skipping};
 
 pub mod answers;
-pub mod calls;
-pub mod check;
-pub mod clock;
+mod calls;
+mod check;
+mod clock;
 pub mod configuration;
-pub mod entries;
-pub mod flags;
-pub mod places;
-pub mod pool;
-pub mod queue;
-pub mod refusals;
-pub mod starts;
-pub mod step;
-pub mod waking;
+mod entries;
+mod flags;
+mod places;
+mod pool;
+mod queue;
+mod refusals;
+mod starts;
+mod step;
+mod waking;
 
 // A time of the clock, or a length of time, in milliseconds.
 pub struct Millis(pub u64);
@@ -79,24 +79,24 @@ pub struct Table {
 }
 
 // A step in flight: full once a task had to enter a queue that held 16.
-pub struct Work {
-    pub table: Table,
-    pub full: bool,
+struct Work {
+    table: Table,
+    full: bool,
 }
 
 // What a caller of kind 05 waits for.
-pub enum Wait {
+enum Wait {
     Goes,
     ForStart,
     ForEnd,
 }
 
 // What an accepted call says of itself: Z, V and C (01), and how many grid times it passed over (02).
-pub struct Marks {
-    pub z: bool,
-    pub v: bool,
-    pub c: bool,
-    pub skipped: u64,
+struct Marks {
+    z: bool,
+    v: bool,
+    c: bool,
+    skipped: u64,
 }
 
 // What a step answers: its number, Z, V and C, the active task (0 when idle) and its run's argument; how many grid times a restart passed over.

@@ -11,7 +11,7 @@ ghost use Rattle.executive.specs.Places.{closedAt, foundAt};
 ghost use Rattle.executive.specs.Rests.{placeOf, removed, withRequests};
 
 // Where a request stands in the pool.
-pub enum Found {
+pub(crate) enum Found {
     At(usize),
     Nothing,
 }
