@@ -396,19 +396,19 @@ fn tally(queue: [TaskNo; 16], ready: usize) -> Counts
 }
 
 // Whom a request names.
-fn link_of(q: Request, l: Link) -> u8
-    ensures { λ r. ⌜ r ≡ linkOf l q ⌝ }
+fn link_of(q: Request, l: Link) -> TaskNo
+    ensures { λ r. ⌜ r .0 ≡ linkOf l q ⌝ }
 {
     match l {
-        Link::AtStart => q.start_waiter.0,
-        Link::AtEnd => q.end_waiter.0,
+        Link::AtStart => q.start_waiter,
+        Link::AtEnd => q.end_waiter,
     }
 }
 
 // How many requests name a task as such a waiter.
-fn links_in(pool: [Request; 32], queued: usize, l: Link, k: u8) -> u8
+fn links_in(pool: [Request; 32], queued: usize, l: Link, k: TaskNo) -> u8
     requires { ⌜ queued ≤ 32 ⌝ }
-    ensures { λ r. ⌜ (r ≤ 32) × (r ≡ linksIn l k (take queued pool)) ⌝ }
+    ensures { λ r. ⌜ (r ≤ 32) × (r ≡ linksIn l (k .0) (take queued pool)) ⌝ }
 {
     let mut c: u8 = 0;
     let mut i = queued;
@@ -416,21 +416,21 @@ fn links_in(pool: [Request; 32], queued: usize, l: Link, k: u8) -> u8
         i -= 1;
         let q = pool[i];
         let x = link_of(q, l);
-        c = plus_if(c, k, x);
+        c = plus_if(c, k.0, x.0);
     }
     c
 }
 
 // How many runs name a task as the waiter for their end.
-fn runs_in(tasks: [Task; 16], k: u8) -> u8
-    ensures { λ r. ⌜ (r ≤ 16) × (r ≡ runsOf k tasks) ⌝ }
+fn runs_in(tasks: [Task; 16], k: TaskNo) -> u8
+    ensures { λ r. ⌜ (r ≤ 16) × (r ≡ runsOf (k .0) tasks) ⌝ }
 {
     let mut c: u8 = 0;
     let mut i: usize = 16;
     while 0 < i {
         i -= 1;
         let e = tasks[i];
-        c = plus_if(c, k, e.end_waiter.0);
+        c = plus_if(c, k.0, e.end_waiter.0);
     }
     c
 }
@@ -463,9 +463,9 @@ fn all_exact(tasks: [Task; 16], queue: [TaskNo; 16], ready: usize, count: u8) ->
 }
 
 // Task k, whose entry is e, is named once in the way that it waits, else not at all; its own run does not name it.
-fn waiters_at(e: Task, tasks: [Task; 16], pool: [Request; 32], queued: usize, k: u8) -> bool
-    requires { ⌜ (queued ≤ 32) × (e ≡ taskAt tasks k) ⌝ }
-    ensures { λ r. ⌜ r ≡ waitersAt tasks (take queued pool) k ⌝ }
+fn waiters_at(e: Task, tasks: [Task; 16], pool: [Request; 32], queued: usize, k: TaskNo) -> bool
+    requires { ⌜ (queued ≤ 32) × (e ≡ taskAt tasks (k .0)) ⌝ }
+    ensures { λ r. ⌜ r ≡ waitersAt tasks (take queued pool) (k .0) ⌝ }
 {
     let s = e.state;
     let kind = kind_of(s);
@@ -477,7 +477,7 @@ fn waiters_at(e: Task, tasks: [Task; 16], pool: [Request; 32], queued: usize, k:
     let ends = links_in(pool, queued, Link::AtEnd, k);
     let runs = runs_in(tasks, k);
     let end = plus_if(0, 3, kind);
-    ends + runs == end && k != e.end_waiter.0
+    ends + runs == end && k.0 != e.end_waiter.0
 }
 
 fn all_waiters(tasks: [Task; 16], pool: [Request; 32], queued: usize, count: u8) -> bool
@@ -487,7 +487,7 @@ fn all_waiters(tasks: [Task; 16], pool: [Request; 32], queued: usize, count: u8)
     let mut k: u8 = 0;
     while k < count {
         let e = tasks[k as usize];
-        if !waiters_at(e, tasks, pool, queued, k + 1) {
+        if !waiters_at(e, tasks, pool, queued, TaskNo(k + 1)) {
             return false;
         }
         k += 1;

@@ -29,25 +29,25 @@ fn at(s: &[u8], i: usize) -> u8
 }
 
 // Where the record of task k stands.
-fn place_in(k: u8) -> usize
-    requires { ⌜ 0 < k ⌝ }
-    ensures { λ r. ⌜ r ≡ placeIn k ⌝ }
+fn place_in(k: TaskNo) -> usize
+    requires { ⌜ 0 < k .0 ⌝ }
+    ensures { λ r. ⌜ r ≡ placeIn (k .0) ⌝ }
 {
-    3 * (k as usize) - 1
+    3 * (k.0 as usize) - 1
 }
 
 // The own priority that the record of task k gives.
-fn own_in(s: &[u8], k: u8) -> u8
-    requires { ⌜ 0 < k ⌝ }
-    ensures { λ r. ⌜ r ≡ ownIn (now (s .entry)) k ⌝ }
+fn own_in(s: &[u8], k: TaskNo) -> u8
+    requires { ⌜ 0 < k .0 ⌝ }
+    ensures { λ r. ⌜ r ≡ ownIn (now (s .entry)) (k .0) ⌝ }
 {
     at(s, place_in(k) + 1)
 }
 
 // The mark that the record of task k gives.
-fn mark_in(s: &[u8], k: u8) -> u8
-    requires { ⌜ 0 < k ⌝ }
-    ensures { λ r. ⌜ r ≡ markIn (now (s .entry)) k ⌝ }
+fn mark_in(s: &[u8], k: TaskNo) -> u8
+    requires { ⌜ 0 < k .0 ⌝ }
+    ensures { λ r. ⌜ r ≡ markIn (now (s .entry)) (k .0) ⌝ }
 {
     at(s, place_in(k) + 2)
 }
@@ -58,7 +58,7 @@ fn tasks_in(s: &[u8]) -> u8
 {
     let mut n: u8 = 0;
     while n < 16 {
-        if at(s, place_in(n + 1)) != 0x41 {
+        if at(s, place_in(TaskNo(n + 1))) != 0x41 {
             return n;
         }
         n += 1;
@@ -74,16 +74,16 @@ pub fn length_in(bytes: &[u8]) -> usize
         return 0;
     }
     let n = tasks_in(bytes);
-    if at(bytes, place_in(n + 1)) != 0x42 {
+    if at(bytes, place_in(TaskNo(n + 1))) != 0x42 {
         return 0;
     }
     3 * (n as usize) + 3
 }
 
 // Whether the record of task k has its numbers in range.
-fn task_right(s: &[u8], k: u8) -> bool
-    requires { ⌜ 0 < k ⌝ }
-    ensures { λ r. ⌜ r ≡ taskRight (now (s .entry)) k ⌝ }
+fn task_right(s: &[u8], k: TaskNo) -> bool
+    requires { ⌜ 0 < k .0 ⌝ }
+    ensures { λ r. ⌜ r ≡ taskRight (now (s .entry)) (k .0) ⌝ }
 {
     if own_in(s, k) > 15 {
         return false;
@@ -98,7 +98,7 @@ fn tasks_right(s: &[u8], n: u8) -> bool
 {
     let mut k: u8 = 0;
     while k < n {
-        if !task_right(s, k + 1) {
+        if !task_right(s, TaskNo(k + 1)) {
             return false;
         }
         k += 1;
@@ -152,7 +152,7 @@ fn all_dormant(s: &[u8], n: u8) -> [Task; 16]
     }; 16];
     let mut i: usize = 0;
     while i < n as usize {
-        let own = own_in(s, i as u8 + 1);
+        let own = own_in(s, TaskNo(i as u8 + 1));
         tasks[i] = dormant(own);
         i += 1;
     }
@@ -193,21 +193,21 @@ fn table_of(tasks: [Task; 16], rest: Rest) -> Table
 }
 
 // Task k starts if it is marked: at its own priority, with argument 0 and scheduled start 0.
-fn start_at(w: Work, s: &[u8], k: u8) -> Work
-    requires { ⌜ Flying w × (0 < k) ⌝ }
-    ensures { λ r. ⌜ r ≡ admits (starter (now (s .entry)) k) w ⌝ }
+fn start_at(w: Work, s: &[u8], k: TaskNo) -> Work
+    requires { ⌜ Flying w × (0 < k .0) ⌝ }
+    ensures { λ r. ⌜ r ≡ admits (starter (now (s .entry)) (k .0)) w ⌝ }
 {
     if mark_in(s, k) != 1 {
         return w;
     }
     let q = Request {
-        target: TaskNo(k),
+        target: k,
         priority: own_in(s, k),
         argument: 0,
         start_waiter: TaskNo(0),
         end_waiter: TaskNo(0),
     };
-    w.commence(TaskNo(k), q, Millis(0))
+    w.commence(k, q, Millis(0))
 }
 
 // The marked tasks of 1 to n start, in ascending number.
@@ -218,7 +218,7 @@ fn start_marked(w: Work, s: &[u8], n: u8) -> Work
     let mut v = w;
     let mut k: u8 = 0;
     while k < n {
-        v = start_at(v, s, k + 1);
+        v = start_at(v, s, TaskNo(k + 1));
         k += 1;
     }
     v

@@ -28,8 +28,8 @@ mul-e c = omega arith
 array-copy-out-e : tie.Need-array-copy-out-e Inv-loop μ-loop
 array-copy-out-e c = omega arith
 
-add-waiters-at : tie.Need-add-waiters-at Inv-loop μ-loop
-add-waiters-at c = omega arith
+add-t15 : tie.Need-add-t15 Inv-loop μ-loop
+add-t15 c = omega arith
 
 waiters-at-requires : tie.Need-waiters-at-requires Inv-loop μ-loop
 waiters-at-requires c κs = (c .before .before .before .pre .0, sym (at-next (c .before .before .before .args .t1) (c .before .before .loop .k)))
@@ -63,7 +63,7 @@ all-waiters-spec =
     cast-e
     mul-e
     array-copy-out-e
-    add-waiters-at
+    add-t15
     waiters-at-requires
     returns
     add-k

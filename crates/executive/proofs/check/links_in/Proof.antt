@@ -13,7 +13,7 @@ use Rattle.executive.proofs.check.links_in.Statement.{statement}
 use Rattle.executive.proofs.check.links_in.Tie as tie
 
 abbrev Inv-loop : tie.InvT-loop
-Inv-loop queued l k pool c₀ i₀ c i = (i ≤ queued) × (c + i ≤ queued) × (c ≡ linksIn l k (drop i (take queued pool)))
+Inv-loop queued l k pool c₀ i₀ c i = (i ≤ queued) × (c + i ≤ queued) × (c ≡ linksIn l (k .0) (drop i (take queued pool)))
 
 abbrev μ-loop : tie.MeasureT-loop
 μ-loop queued l k pool c₀ i₀ c i = i
@@ -22,7 +22,7 @@ loop-holds : tie.Need-loop-holds Inv-loop μ-loop
 loop-holds c =
     let s = c in
     let l = s .good .0 .1 .0 .1 in
-    (omega arith, omega arith, tally-start (λ (r : Request). one (eqb (s .args .k) (linkOf (s .args .l) r))) noRequest (s .args .t1) (s .args .queued) (omega arith))
+    (omega arith, omega arith, tally-start (λ (r : Request). one (eqb (s .args .k .0) (linkOf (s .args .l) r))) noRequest (s .args .t1) (s .args .queued) (omega arith))
 
 sub-i : tie.Need-sub-i Inv-loop μ-loop
 sub-i c = omega arith
@@ -47,8 +47,8 @@ loop-again c =
     let s = c .before .before .before .before .before in
     let l = s .good .0 .1 .0 .1 in
     let v = c .before .before .before .before .loop in
-    let b = one-le (eqb (s .args .k) (c .before .link-of .result)) in
-    (omega arith, rw (c .plus-if .ensures) (omega (arith, b)), rw (c .plus-if .ensures, c .before .link-of .ensures) (tally-turn (λ (r : Request). one (eqb (s .args .k) (linkOf (s .args .l) r))) noRequest (s .args .t1) (s .args .queued) (omega arith) (v .i) (v .c) (c .before .before .before .loop-test .taken) (v .inv .0) (v .inv .2)))
+    let b = one-le (eqb (s .args .k .0) (c .before .link-of .result .0)) in
+    (omega arith, rw (c .plus-if .ensures) (omega (arith, b)), rw (c .plus-if .ensures, c .before .link-of .ensures) (tally-turn (λ (r : Request). one (eqb (s .args .k .0) (linkOf (s .args .l) r))) noRequest (s .args .t1) (s .args .queued) (omega arith) (v .i) (v .c) (c .before .before .before .loop-test .taken) (v .inv .0) (v .inv .2)))
 
 returns : tie.Need-returns Inv-loop μ-loop
 returns c =

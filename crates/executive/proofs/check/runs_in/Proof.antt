@@ -13,7 +13,7 @@ use Rattle.executive.proofs.check.runs_in.Statement.{statement}
 use Rattle.executive.proofs.check.runs_in.Tie as tie
 
 abbrev Inv-loop : tie.InvT-loop
-Inv-loop k tasks c₀ i₀ c i = (i ≤ 16) × (c + i ≤ 16) × (c ≡ runsOf k (drop i (take 16 tasks)))
+Inv-loop k tasks c₀ i₀ c i = (i ≤ 16) × (c + i ≤ 16) × (c ≡ runsOf (k .0) (drop i (take 16 tasks)))
 
 abbrev μ-loop : tie.MeasureT-loop
 μ-loop k tasks c₀ i₀ c i = i
@@ -22,7 +22,7 @@ loop-holds : tie.Need-loop-holds Inv-loop μ-loop
 loop-holds c =
     let s = c in
     let l = s .good .0 .1 .0 .1 in
-    (omega arith, omega arith, tally-start (λ (e : Task). one (eqb (s .args .k) (e .«end_waiter» .0))) noTask (s .args .t1) 16 (omega arith))
+    (omega arith, omega arith, tally-start (λ (e : Task). one (eqb (s .args .k .0) (e .«end_waiter» .0))) noTask (s .args .t1) 16 (omega arith))
 
 sub-i : tie.Need-sub-i Inv-loop μ-loop
 sub-i c = omega arith
@@ -44,8 +44,8 @@ loop-again c =
     let s = c .before .before .before .before in
     let l = s .good .0 .1 .0 .1 in
     let v = c .before .before .before .loop in
-    let b = one-le (eqb (s .args .k) (getD (s .args .t1) (v .i - 1) noTask .«end_waiter» .0)) in
-    (omega arith, rw (c .plus-if .ensures) (omega (arith, b)), rw (c .plus-if .ensures) (tally-turn (λ (e : Task). one (eqb (s .args .k) (e .«end_waiter» .0))) noTask (s .args .t1) 16 (omega arith) (v .i) (v .c) (c .before .before .loop-test .taken) (v .inv .0) (v .inv .2)))
+    let b = one-le (eqb (s .args .k .0) (getD (s .args .t1) (v .i - 1) noTask .«end_waiter» .0)) in
+    (omega arith, rw (c .plus-if .ensures) (omega (arith, b)), rw (c .plus-if .ensures) (tally-turn (λ (e : Task). one (eqb (s .args .k .0) (e .«end_waiter» .0))) noTask (s .args .t1) 16 (omega arith) (v .i) (v .c) (c .before .before .loop-test .taken) (v .inv .0) (v .inv .2)))
 
 returns : tie.Need-returns Inv-loop μ-loop
 returns c =

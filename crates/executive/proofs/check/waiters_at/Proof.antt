@@ -37,11 +37,11 @@ add-if2 c = search needs
 
 returns-2 : tie.Need-returns-2
 unfolding waitersAt
-returns-2 c = onward _ _ _ (eq-eqb _ _ (rw (c .before .before .before .before .before .before .before .links-in .ensures .1, c .before .before .before .before .before .before .plus-if .ensures, c .before .before .before .before .before .before .before .before .kind-of .ensures, c .before .before .before .before .before .before .before .before .before .pre .1, add-zero) at (c .before .before .before .before .before .if1 .left))) (onward _ _ _ (eq-eqb _ _ (rw (c .before .before .before .before .links-in2 .ensures .1, c .before .before .before .runs-in .ensures .1, c .before .before .plus-if2 .ensures, c .before .before .before .before .before .before .before .before .kind-of .ensures, c .before .before .before .before .before .before .before .before .before .pre .1, add-zero) at (c .before .if2 .taken))) (rw (c .before .before .before .before .before .before .before .before .before .pre .1)))
+returns-2 c = onward _ _ _ (eq-eqb _ _ (rw (c .before .before .before .before .before .before .before .before .links-in .ensures .1, c .before .before .before .before .before .before .before .plus-if .ensures, c .before .before .before .before .before .before .before .before .before .kind-of .ensures, c .before .before .before .before .before .before .before .before .before .before .pre .1, add-zero) at (c .before .before .before .before .before .before .if1 .left))) (onward _ _ _ (eq-eqb _ _ (rw (c .before .before .before .before .before .links-in2 .ensures .1, c .before .before .before .before .runs-in .ensures .1, c .before .before .before .plus-if2 .ensures, c .before .before .before .before .before .before .before .before .before .kind-of .ensures, c .before .before .before .before .before .before .before .before .before .before .pre .1, add-zero) at (c .before .before .if2 .taken))) (rw (c .before .before .before .before .before .before .before .before .before .before .pre .1)))
 
 returns-3 : tie.Need-returns-3
 unfolding waitersAt
-returns-3 c = shut (ne-eqb _ _ (c .if2 .left)) (beyond (eqb (startsOf (c .before .before .before .before .before .before .before .before .args .k) (take (c .before .before .before .before .before .before .before .before .args .queued) (c .before .before .before .before .before .before .before .before .args .pool))) (is 2 (taskAt (c .before .before .before .before .before .before .before .before .args .tasks) (c .before .before .before .before .before .before .before .before .args .k) .state))) _ (here _ _ (ne-eqb _ _ (rw (c .before .before .before .links-in2 .ensures .1, c .before .before .runs-in .ensures .1, c .before .plus-if2 .ensures, c .before .before .before .before .before .before .before .kind-of .ensures, c .before .before .before .before .before .before .before .before .pre .1, add-zero) at (c .if2 .left)))))
+returns-3 c = shut (ne-eqb _ _ (c .if2 .left)) (beyond (eqb (startsOf (c .before .before .before .before .before .before .before .before .args .k .0) (take (c .before .before .before .before .before .before .before .before .args .queued) (c .before .before .before .before .before .before .before .before .args .pool))) (is 2 (taskAt (c .before .before .before .before .before .before .before .before .args .tasks) (c .before .before .before .before .before .before .before .before .args .k .0) .state))) _ (here _ _ (ne-eqb _ _ (rw (c .before .before .before .links-in2 .ensures .1, c .before .before .runs-in .ensures .1, c .before .plus-if2 .ensures, c .before .before .before .before .before .before .before .kind-of .ensures, c .before .before .before .before .before .before .before .before .pre .1, add-zero) at (c .if2 .left)))))
 
 pub waiters-at-spec : {M : Type 1} → statement M
 waiters-at-spec =

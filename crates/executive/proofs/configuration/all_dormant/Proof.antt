@@ -19,11 +19,11 @@ loop-holds : tie.Need-loop-holds Inv-loop μ-loop
 unfolding pad sleepers
 loop-holds c = (omega arith, refl)
 
-cast-own-in : tie.Need-cast-own-in Inv-loop μ-loop
-cast-own-in c = omega arith
+cast-t12 : tie.Need-cast-t12 Inv-loop μ-loop
+cast-t12 c = omega arith
 
-add-own-in : tie.Need-add-own-in Inv-loop μ-loop
-add-own-in c = omega arith
+add-t13 : tie.Need-add-t13 Inv-loop μ-loop
+add-t13 c = omega arith
 
 own-in-requires : tie.Need-own-in-requires Inv-loop μ-loop
 own-in-requires c κs = omega arith
@@ -56,8 +56,8 @@ all-dormant-spec =
     Inv-loop
     μ-loop
     loop-holds
-    cast-own-in
-    add-own-in
+    cast-t12
+    add-t13
     own-in-requires
     (λ c κs. search needs)
     (λ c. search needs)

@@ -19,8 +19,8 @@ loop-holds : tie.Need-loop-holds Inv-loop μ-loop
 unfolding starters admits
 loop-holds c = (omega arith, c .before .pre .0, refl)
 
-add-start-at : tie.Need-add-start-at Inv-loop μ-loop
-add-start-at c = omega arith
+add-t7 : tie.Need-add-t7 Inv-loop μ-loop
+add-t7 c = omega arith
 
 start-at-requires : tie.Need-start-at-requires Inv-loop μ-loop
 start-at-requires c κs = (c .before .loop .inv .1, omega arith)
@@ -53,7 +53,7 @@ start-marked-spec =
     Inv-loop
     μ-loop
     loop-holds
-    add-start-at
+    add-t7
     start-at-requires
     add-k
     loop-less

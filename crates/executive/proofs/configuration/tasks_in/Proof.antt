@@ -17,8 +17,8 @@ abbrev μ-loop : tie.MeasureT-loop
 loop-holds : tie.Need-loop-holds Inv-loop μ-loop
 loop-holds c = (omega arith, omega arith)
 
-add-place-in : tie.Need-add-place-in Inv-loop μ-loop
-add-place-in c = omega arith
+add-t6 : tie.Need-add-t6 Inv-loop μ-loop
+add-t6 c = omega arith
 
 place-in-requires : tie.Need-place-in-requires Inv-loop μ-loop
 place-in-requires c κs = omega arith
@@ -57,7 +57,7 @@ tasks-in-spec =
     Inv-loop
     μ-loop
     loop-holds
-    add-place-in
+    add-t6
     place-in-requires
     (λ c κs. search needs)
     returns

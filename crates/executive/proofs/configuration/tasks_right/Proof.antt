@@ -20,8 +20,8 @@ loop-holds : tie.Need-loop-holds Inv-loop μ-loop
 unfolding upTo
 loop-holds c = (omega arith, refl)
 
-add-task-right : tie.Need-add-task-right Inv-loop μ-loop
-add-task-right c = omega arith
+add-t5 : tie.Need-add-t5 Inv-loop μ-loop
+add-t5 c = omega arith
 
 task-right-requires : tie.Need-task-right-requires Inv-loop μ-loop
 task-right-requires c κs = omega arith
@@ -57,7 +57,7 @@ tasks-right-spec =
     Inv-loop
     μ-loop
     loop-holds
-    add-task-right
+    add-t5
     task-right-requires
     returns
     add-k
