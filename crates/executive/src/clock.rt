@@ -1,6 +1,7 @@
 // Time: the milliseconds of an interval, the time that a restart aims at, the clock's advance with the alarms that are due.
 use crate::Millis;
 use crate::Rest;
+use records::FlagNo;
 ghost use mathlib.Core.Path.{_≡_};
 ghost use Prim.Native.Nat.{_<_, _≤_, _+_, _*_, _/_, _%_, _^_};
 ghost use Rattle.executive.specs.Numbers.{lastUnit, longest};
@@ -14,12 +15,19 @@ pub(crate) const LAST_UNIT: u8 = 5;
 
 pub(crate) const LONGEST: u64 = 22032000000;
 
-// The word with one bit.
-pub(crate) fn bit_of(n: usize) -> u32
-    requires { ⌜ n < 32 ⌝ }
-    ensures { λ r. ⌜ r ≡ 2 ^ n ⌝ }
+// The word with a flag's bit alone.
+pub(crate) fn bit_of(f: FlagNo) -> u32
+    requires { ⌜ f .0 < 32 ⌝ }
+    ensures { λ r. ⌜ r ≡ 2 ^ (f .0) ⌝ }
 {
-    1u32 << (n as u32)
+    1u32 << (f.0 as u32)
+}
+
+// The granule, which a table holds as a byte, as a length of time.
+pub(crate) fn granule_of(granule: u8) -> Millis
+    ensures { λ r. ⌜ r .0 ≡ granule ⌝ }
+{
+    Millis(granule as u64)
 }
 
 // The milliseconds of one of a unit.
@@ -182,13 +190,14 @@ impl Rest {
         requires { ⌜ self .clock .0 + self .granule ≤ 2 ^ 40 ⌝ }
         ensures { λ r. ⌜ r ≡ advanced self ⌝ }
     {
-        let now = Millis(self.clock.0 + self.granule as u64);
+        let granule = granule_of(self.granule);
+        let now = Millis(self.clock.0 + granule.0);
         let mut alarms = self.alarms;
         let mut flags = self.flags;
         let mut i = next_due(alarms, 0, now);
         while i < 32 {
             alarms[i] = Millis(0);
-            flags = flags | bit_of(i);
+            flags = flags | bit_of(FlagNo(i as u8));
             i = next_due(alarms, i + 1, now);
         }
         self.clock = now;

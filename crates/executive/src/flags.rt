@@ -40,7 +40,7 @@ pub(crate) fn is_set(flags: u32, f: FlagNo) -> bool
     requires { ⌜ f .0 < 32 ⌝ }
     ensures { λ r. ⌜ r ≡ isSet flags (f .0) ⌝ }
 {
-    let bit = clock::bit_of(f.0 as usize);
+    let bit = clock::bit_of(f);
     flags & bit != 0
 }
 
@@ -50,7 +50,7 @@ impl Rest {
         requires { ⌜ f .0 < 32 ⌝ }
         ensures { λ r. ⌜ r ≡ withFlags (flagSet (self .flags) (f .0)) self ⌝ }
     {
-        let bit = clock::bit_of(f.0 as usize);
+        let bit = clock::bit_of(f);
         self.flags = self.flags | bit;
         self
     }
@@ -60,7 +60,7 @@ impl Rest {
         requires { ⌜ f .0 < 32 ⌝ }
         ensures { λ r. ⌜ r ≡ withFlags (flagReset (self .flags) (f .0)) self ⌝ }
     {
-        let bit = clock::bit_of(f.0 as usize);
+        let bit = clock::bit_of(f);
         self.flags = self.flags & (4294967295 - bit);
         self
     }

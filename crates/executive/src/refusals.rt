@@ -179,8 +179,8 @@ impl Table {
         ensures { λ r. ⌜ r ≡ endsTime self call ⌝ }
     {
         if is_tick(call) {
-            let granule = self.rest.granule as u64;
-            let end = self.rest.clock.0 + granule;
+            let granule = clock::granule_of(self.rest.granule);
+            let end = self.rest.clock.0 + granule.0;
             return 1099511627776 < end;
         }
         false

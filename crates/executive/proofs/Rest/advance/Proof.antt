@@ -1,6 +1,6 @@
 use Prim.Native.Nat.{_+_, _-_, _^_, _≤_, _<_}
 use mathlib.Core.Bool.{true}
-use mathlib.Core.Path.{_≡_, sym, _∙_}
+use mathlib.Core.Path.{_≡_, ap, sym, _∙_}
 use native.Mathlib.Omega.{arith}
 use borrow.Author.Needs.{needs}
 use lib.Bits.{bitOr}
@@ -21,21 +21,21 @@ Inv-loop self now alarms₀ flags₀ i₀ alarms flags i =
 abbrev μ-loop : tie.MeasureT-loop
 μ-loop self now alarms₀ flags₀ i₀ alarms flags i = 32 - i
 
-cast-t6 : tie.Need-cast-t6 Inv-loop μ-loop
-cast-t6 c = search needs
+granule-of-requires : tie.Need-granule-of-requires Inv-loop μ-loop
+granule-of-requires c κs = search needs
 
 add-t7 : tie.Need-add-t7 Inv-loop μ-loop
-add-t7 c = omega (arith, c .before .before .pre)
+add-t7 c = omega (arith, c .before .before .granule-of .ensures, c .before .before .before .pre)
 
 next-due-requires : tie.Need-next-due-requires Inv-loop μ-loop
 next-due-requires c κs = search needs
 
 loop-holds : tie.Need-loop-holds Inv-loop μ-loop
 loop-holds c =
-    let s = c .before .before .before .before in
+    let s = c .before .before .before .before .before in
     let a = s .args .self in
     let l : length (a .alarms) ≡ 32 = sym (length-map (a .alarms) _) ∙ s .good .0 .1 .1 .1 .1 .1 .1 .0 .1 .0 .1 in
-    let h = ring-on a (record { 0 = a .clock .0 + a .granule }) (a .alarms) (a .flags) l 0 (c .next-due .result) (omega arith) (c .next-due .ensures) in
+    let h = ring-on a (record { 0 = a .clock .0 + c .before .before .before .before .granule-of .result .0 }) (a .alarms) (a .flags) l 0 (c .next-due .result) (omega arith) (c .next-due .ensures) in
     (h .1, l, h .2, sym (h .3))
 
 mul-alarms : tie.Need-mul-alarms Inv-loop μ-loop
@@ -43,6 +43,9 @@ mul-alarms c = omega arith
 
 array-set-from-alarms : tie.Need-array-set-from-alarms Inv-loop μ-loop
 array-set-from-alarms c = omega arith
+
+cast-t15 : tie.Need-cast-t15 Inv-loop μ-loop
+cast-t15 c = omega arith
 
 bit-of-requires : tie.Need-bit-of-requires Inv-loop μ-loop
 bit-of-requires c κs = search needs
@@ -55,19 +58,19 @@ next-due-requires-2 c κs = search needs
 
 loop-less : tie.Need-loop-less Inv-loop μ-loop
 loop-less c =
-    let s = c .before .before .before .before .before .before .before .before in
+    let s = c .before .before .before .before .before .before .before .before .before in
     let a = s .args .self in
     let v = c .before .before .before .loop in
     let l : length (set (v .alarms) (v .i) never) ≡ 32 = length-set (v .alarms) (v .i) never ∙ v .inv .1 in
-    let h = ring-on a (record { 0 = a .clock .0 + a .granule }) (set (v .alarms) (v .i) never) (v .flags) l (v .i + 1) (c .next-due2 .result) (omega arith) (c .next-due2 .ensures) in
+    let h = ring-on a (record { 0 = a .clock .0 + c .before .before .before .before .before .before .before .before .granule-of .result .0 }) (set (v .alarms) (v .i) never) (v .flags) l (v .i + 1) (c .next-due2 .result) (omega arith) (c .next-due2 .ensures) in
     omega (arith, h .0)
 
 loop-again : tie.Need-loop-again Inv-loop μ-loop
 loop-again c =
-    let s = c .before .before .before .before .before .before .before .before in
+    let s = c .before .before .before .before .before .before .before .before .before in
     let a = s .args .self in
     let v = c .before .before .before .loop in
-    let now : Millis = record { 0 = a .clock .0 + a .granule } in
+    let now : Millis = record { 0 = a .clock .0 + c .before .before .before .before .before .before .before .before .granule-of .result .0 } in
     let l : length (set (v .alarms) (v .i) never) ≡ 32 = length-set (v .alarms) (v .i) never ∙ v .inv .1 in
     let u : v .i < 32 = c .before .before .loop-test .taken in
     let h = ring-on a now (set (v .alarms) (v .i) never) (bitOr (v .flags) (2 ^ (v .i))) l (v .i + 1) (c .next-due2 .result) (omega arith) (c .next-due2 .ensures) in
@@ -76,9 +79,12 @@ loop-again c =
 returns : tie.Need-returns Inv-loop μ-loop
 unfolding advanced
 returns c =
-    let a = c .before .before .before .before .before .before .args .self in
+    let g = c .before .before .before .before .before .before .granule-of in
+    let a = c .before .before .before .before .before .before .before .args .self in
     let v = c .before .loop in
-    sym (each-end rung 32 (v .i) (ringing a (record { 0 = a .clock .0 + a .granule }) (v .alarms) (v .flags)) (c .loop-test .left)) ∙ v .inv .3
+    sym (each-end rung 32 (v .i) (ringing a (record { 0 = a .clock .0 + g .result .0 }) (v .alarms) (v .flags)) (c .loop-test .left))
+    ∙ v .inv .3
+    ∙ ap (λ n. each rung 32 0 (ringing a (record { 0 = a .clock .0 + n }) (a .alarms) (a .flags))) (g .ensures)
 
 pub advance-spec : {M : Type 1} → statement M
 advance-spec =
@@ -86,12 +92,13 @@ advance-spec =
     (tie.spec
     Inv-loop
     μ-loop
-    cast-t6
+    granule-of-requires
     add-t7
     next-due-requires
     loop-holds
     mul-alarms
     array-set-from-alarms
+    cast-t15
     bit-of-requires
     add-next-due
     next-due-requires-2

@@ -7,4 +7,4 @@ returns : tie.Need-returns
 returns c = rw (c .before .bit-of .ensures) refl
 
 pub with-flag-spec : {M : Type 1} → statement M
-with-flag-spec = tie.close (tie.spec (λ c. search needs) (λ c κs. search needs) returns)
+with-flag-spec = tie.close (tie.spec (λ c κs. search needs) returns)

@@ -7,4 +7,4 @@ returns : tie.Need-returns
 returns c = rw (c .before .bit-of .ensures) refl
 
 pub without-flag-spec : {M : Type 1} → statement M
-without-flag-spec = tie.close (tie.spec (λ c. search needs) (λ c κs. search needs) (λ c. search needs) returns)
+without-flag-spec = tie.close (tie.spec (λ c κs. search needs) (λ c. search needs) returns)

@@ -11,7 +11,7 @@ shl-result : tie.Need-shl-result
 shl-result c = search needs
 
 returns : tie.Need-returns
-returns c = simp (one-mul, mod-eq-of-lt (pow-lt {j = 32} (c .pre)))
+returns c = simp (one-mul, mod-eq-of-lt (pow-lt {j = 32} (c .before .pre)))
 
 pub bit-of-spec : {M : Type 1} → statement M
 bit-of-spec = tie.close (tie.spec cast-result shl-result returns)

@@ -9,4 +9,4 @@ unfolding isSet
 returns c = rw (c .bit-of .ensures) refl
 
 pub is-set-spec : {M : Type 1} → statement M
-is-set-spec = tie.close (tie.spec (λ c. search needs) (λ c κs. search needs) returns)
+is-set-spec = tie.close (tie.spec (λ c κs. search needs) returns)
