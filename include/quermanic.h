@@ -42,7 +42,7 @@ typedef uint64_t quermanic_length;
 
 /* The numbers that the functions return, and that an answer carries. */
 #define QUERMANIC_ACCEPTED 0           /* accepted */
-#define QUERMANIC_NOT_WELL_FORMED 1    /* the bytes are not the image of a well-formed table, or a buffer has not an image's length */
+#define QUERMANIC_NOT_WELL_FORMED 1    /* the bytes are not the image of a well-formed table */
 #define QUERMANIC_BAD_CONFIGURATION 2  /* the bytes are no configuration */
 #define QUERMANIC_BAD_LENGTH 3         /* the record is empty, or its length is not its kind's */
 #define QUERMANIC_UNKNOWN_KIND 4       /* the record's first byte is no kind that can be called */
@@ -53,7 +53,8 @@ typedef uint64_t quermanic_length;
 #define QUERMANIC_ALARM_RUNNING 9      /* 0B, and the flag's alarm is running */
 #define QUERMANIC_END_OF_TIME 10       /* a tick would carry the clock past 2^40 ms */
 #define QUERMANIC_QUEUE_FULL 11        /* a task must enter a ready queue that holds 16 */
-#define QUERMANIC_SHORT_ANSWER 20      /* the answer's buffer is shorter than QUERMANIC_ANSWER_LENGTH */
+/* The board's own number, judged before any other: a buffer that is to be written to has not the length it needs. */
+#define QUERMANIC_NO_ROOM 30
 
 /* The kinds: the first byte of a record. */
 #define QUERMANIC_KIND_TERMINATE 0x00    /* the caller's run ends */
@@ -128,10 +129,10 @@ typedef uint64_t quermanic_length;
  * Makes a fresh table from the bytes of a configuration.
  *
  *   0   the image of the fresh table is written to `image`
- *   1   `image_length` is not QUERMANIC_IMAGE_LENGTH
  *   2   the bytes are no configuration
+ *   30  `image_length` is not QUERMANIC_IMAGE_LENGTH
  *
- * After 1 or 2 no byte of `image` is changed. What `image` held before does not matter.
+ * After 2 or 30 no byte of `image` is changed. What `image` held before does not matter.
  */
 uint8_t quermanic_fresh(const uint8_t *config, quermanic_length config_length, uint8_t *image,
                         quermanic_length image_length);
@@ -146,13 +147,13 @@ uint8_t quermanic_check(const uint8_t *image, quermanic_length image_length);
 
 /*
  * Takes a step: the call, or the tick, whose record is given, from the active task of the table whose image is given.
- * Returns the answer's number (0 to 11), or 20.
+ * Returns the answer's number (0 to 11), or 30.
  *
  *   0        `image` now holds the image of the table after the step
  *   1 to 11  refused: no byte of `image` is changed. 1 also where `image_length` is not QUERMANIC_IMAGE_LENGTH
- *   20       `answer_length` is less than QUERMANIC_ANSWER_LENGTH: no byte of `image` or of `answer` is changed
+ *   30       `answer_length` is less than QUERMANIC_ANSWER_LENGTH: no byte of `image` or of `answer` is changed
  *
- * But for 20, the answer is written to the first QUERMANIC_ANSWER_LENGTH bytes of `answer`; the bytes after it keep their content.
+ * But for 30, the answer is written to the first QUERMANIC_ANSWER_LENGTH bytes of `answer`; the bytes after it keep their content.
  * Its number, Z, V, C, the active task (0 when idle) and its run's argument (0 when idle) are those after the step; after 1 all but
  * the number are 0. Grid times are passed over by an accepted 01 with bit 6 only, and 0 after any other step.
  */

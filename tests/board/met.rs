@@ -4,8 +4,8 @@ use crate::executive::{State, Table, FLAGS, TASKS};
 use std::collections::BTreeMap;
 
 /// The numbers that must be met: by steps, and by the making of fresh tables. From a well-formed table 11 never arises.
-const OF_STEPS: [u8; 11] = [0, 1, 3, 4, 5, 6, 7, 8, 9, 10, 20];
-const OF_FRESH: [u8; 3] = [0, 1, 2];
+const OF_STEPS: [u8; 11] = [0, 1, 3, 4, 5, 6, 7, 8, 9, 10, 30];
+const OF_FRESH: [u8; 3] = [0, 2, 30];
 /// What waits for a time.
 const TIMED: [&str; 3] = ["paused task", "due task", "alarm"];
 /// The longest interval that is no day's: 255 hours.

@@ -78,10 +78,10 @@ static void try_refusals(void) {
     memset(unwritten, 0xA5, sizeof unwritten);
     tell("an unknown kind: 4", refused(4, whole, unknown, sizeof unknown, no_kind, room));
     tell("an empty record: 3", refused(3, whole, tick, 0, no_record, room));
-    tell("a short answer's buffer: 20", refused(20, whole, tick, sizeof tick, unwritten, room - 1));
+    tell("a short answer's buffer: 30", refused(30, whole, tick, sizeof tick, unwritten, room - 1));
     tell("an image of a wrong length: 1", refused(1, whole - 1, tick, sizeof tick, no_table, room));
     tell("the check of a wrong length: 1", quermanic_check(image, whole - 1) == 1);
-    tell("a fresh table into a wrong length: 1", quermanic_fresh(config, sizeof config, image, whole - 1) == 1);
+    tell("a fresh table into a wrong length: 30", quermanic_fresh(config, sizeof config, image, whole - 1) == 30);
     tell("a configuration without its end: 2", quermanic_fresh(config, sizeof config - 1, image, whole) == 2);
     tell("the image is well formed still", quermanic_check(image, whole) == 0);
     image[1] ^= 0x80; /* task 1's state: no state's number */

@@ -39,6 +39,8 @@ const USAGE: &str = "usage: trial [--steps N] [--seed S] [--fault NAME]
 /// The most steps that are taken of one generated run.
 const LONGEST_WALK: usize = 400;
 const ANSWER: usize = 16;
+/// The board's own number: a buffer that is to be written to has not the length it needs.
+const NO_ROOM: u32 = 30;
 /// What stands in the answer's buffer before a step.
 const UNWRITTEN: [u8; ANSWER + 4] = [0xA5; ANSWER + 4];
 
@@ -216,7 +218,7 @@ impl Trial {
 
     /// What the model gives for a step.
     fn expected(&self, image: &[u8], record: &[u8], answer: &[u8]) -> Given {
-        let mut after = (20, image.to_vec(), answer.to_vec());
+        let mut after = (NO_ROOM, image.to_vec(), answer.to_vec());
         if answer.len() < ANSWER {
             return after;
         }
@@ -248,7 +250,7 @@ impl Trial {
         let length = rng.pick(&[0, LENGTH - 1, LENGTH, LENGTH, LENGTH, LENGTH + 1]);
         let before: Vec<u8> = (0..length).map(|_| rng.byte()).collect();
         let expected = match fresh(config).filter(|_| self.wrong != Wrong::Fresh) {
-            _ if length != LENGTH => (1, before.clone()),
+            _ if length != LENGTH => (NO_ROOM, before.clone()),
             Some(table) => (0, encode(&table)),
             None => (2, before.clone()),
         };

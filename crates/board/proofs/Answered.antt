@@ -16,8 +16,8 @@ use Rattle.executive.proofs.Assured.{decided}
 use Rattle.executive.specs.Steps.{noTable, stepOf}
 use Rattle.executive.specs.Fresh.{freshOf}
 use Rattle.board.specs.Blocks.{written}
-use Rattle.board.specs.Image.{imageLength, imageOf, loadOf, isImageOf, isImage, FitsTable}
-use Rattle.board.specs.Entries.{noRoom, checkNumber, CheckedImage, Holds, freshNumber, freshImage, answerLength, answerBytes, answerTo, imageAfter, stepNumber, stepImage, stepAnswer}
+use Rattle.board.specs.Image.{noRoom, imageLength, imageOf, loadOf, isImageOf, isImage, FitsTable}
+use Rattle.board.specs.Entries.{checkNumber, CheckedImage, Holds, freshNumber, freshImage, answerLength, answerBytes, answerTo, imageAfter, stepNumber, stepImage, stepAnswer}
 use Rattle.board.proofs.Alike.{decide, never}
 use Rattle.board.proofs.Trips.{load-store, stored}
 

@@ -16,7 +16,7 @@ use Rattle.executive.specs.Steps.{noTable, stepOf}
 use Rattle.executive.specs.Fresh.{freshOf}
 use Rattle.executive.specs.Demands.{after, Overtaking}
 use Rattle.board.specs.Blocks.{written}
-use Rattle.board.specs.Image.{imageLength, imageOf, loadOf, isImage}
+use Rattle.board.specs.Image.{noRoom, imageLength, imageOf, loadOf, isImage}
 
 -- ---- the check: 0 exactly where the bytes are the image of a well-formed table, else 1
 unfoldable pub checkNumber : List ℕ → ℕ
@@ -34,10 +34,6 @@ pub record CheckedImage (s : List ℕ) (n : ℕ) : Type 0 where
 pub record Holds (s : List ℕ) (t : Table) : Type 0 where
   pub image : isImage s ≡ true
   pub loads : loadOf s ≡ t
-
--- ---- the board's own number, judged before any of 01's: a buffer that is to be written to has not the length it needs
-abbrev pub noRoom : ℕ
-noRoom = 30
 
 -- ---- a fresh table from configuration bytes: 30 where the buffer has not the image's length, else the number of
 -- making it; written only with 0

@@ -161,9 +161,13 @@ imageOf t =
     ++ (row alarmBytes (t .rest .alarms)
     ++ row requestBytes (t .rest .pool))))
 
--- storing into a buffer: 0 and the image, or 1 where the buffer has not its length, and then it stays as it was
+-- the board's own number, judged before any of 01's: a buffer that is to be written to has not the length it needs
+abbrev pub noRoom : ℕ
+noRoom = 30
+
+-- storing into a buffer: 0 and the image, or 30 where the buffer has not its length, and then it stays as it was
 unfoldable pub storeNumber : List ℕ → ℕ
-storeNumber o = pick (eqb (length o) imageLength) 0 1
+storeNumber o = pick (eqb (length o) imageLength) 0 noRoom
 
 unfoldable pub storeBytes : Table → List ℕ → List ℕ
 storeBytes t o = pick (eqb (length o) imageLength) (imageOf t) o

@@ -10,7 +10,7 @@ pub mod promises;
 pub mod storing;
 
 // The board's own number: a buffer that is to be written to has not the length it needs. It is judged before any other number.
-const NO_ROOM: u8 = 30;
+pub(crate) const NO_ROOM: u8 = 30;
 
 // Makes a fresh table from configuration bytes: 0 and its image written; 30 where the buffer has not the image's length, 2 where they
 // are no configuration, and then no byte is changed.

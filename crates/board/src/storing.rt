@@ -1,4 +1,5 @@
 // Storing: from a table to its image, in a lent buffer.
+use crate::NO_ROOM;
 use crate::numbers;
 use executive::Millis;
 use executive::Mode;
@@ -175,12 +176,12 @@ pub(crate) fn put_table(out: &mut [u8], table: Table)
     put_pool(out, pool);
 }
 
-// Stores a table: 0 and its image in out, or 1 where out has not the image's length, and no byte is changed.
+// Stores a table: 0 and its image in out, or 30 where out has not the image's length, and no byte is changed.
 pub fn store(table: Table, out: &mut [u8]) -> u8
     ensures { λ r. ⌜ Stores table (now (out .entry)) (now (out .exit)) r ⌝ }
 {
     if out.len() != 896 {
-        return 1;
+        return NO_ROOM;
     }
     put_table(out, table);
     0
