@@ -32,10 +32,12 @@ next-due-requires c κs = search needs
 
 loop-holds : tie.Need-loop-holds Inv-loop μ-loop
 loop-holds c =
+    let g = c .before .before .before .before .granule-of .result in
     let s = c .before .before .before .before .before in
     let a = s .args .self in
+    let now : Millis = record { 0 = a .clock .0 + g .0 } in
     let l : length (a .alarms) ≡ 32 = sym (length-map (a .alarms) _) ∙ s .good .0 .1 .1 .1 .1 .1 .1 .0 .1 .0 .1 in
-    let h = ring-on a (record { 0 = a .clock .0 + c .before .before .before .before .granule-of .result .0 }) (a .alarms) (a .flags) l 0 (c .next-due .result) (omega arith) (c .next-due .ensures) in
+    let h = ring-on a now (a .alarms) (a .flags) l 0 (c .next-due .result) (omega arith) (c .next-due .ensures) in
     (h .1, l, h .2, sym (h .3))
 
 mul-alarms : tie.Need-mul-alarms Inv-loop μ-loop
@@ -58,23 +60,29 @@ next-due-requires-2 c κs = search needs
 
 loop-less : tie.Need-loop-less Inv-loop μ-loop
 loop-less c =
-    let s = c .before .before .before .before .before .before .before .before .before in
-    let a = s .args .self in
+    let g = c .before .before .before .before .before .before .before .before .granule-of .result in
+    let a = c .before .before .before .before .before .before .before .before .before .args .self in
     let v = c .before .before .before .loop in
-    let l : length (set (v .alarms) (v .i) never) ≡ 32 = length-set (v .alarms) (v .i) never ∙ v .inv .1 in
-    let h = ring-on a (record { 0 = a .clock .0 + c .before .before .before .before .before .before .before .before .granule-of .result .0 }) (set (v .alarms) (v .i) never) (v .flags) l (v .i + 1) (c .next-due2 .result) (omega arith) (c .next-due2 .ensures) in
+    let n = c .next-due2 in
+    let now : Millis = record { 0 = a .clock .0 + g .0 } in
+    let left = set (v .alarms) (v .i) never in
+    let l : length left ≡ 32 = length-set (v .alarms) (v .i) never ∙ v .inv .1 in
+    let h = ring-on a now left (v .flags) l (v .i + 1) (n .result) (omega arith) (n .ensures) in
     omega (arith, h .0)
 
 loop-again : tie.Need-loop-again Inv-loop μ-loop
 loop-again c =
-    let s = c .before .before .before .before .before .before .before .before .before in
-    let a = s .args .self in
+    let g = c .before .before .before .before .before .before .before .before .granule-of .result in
+    let a = c .before .before .before .before .before .before .before .before .before .args .self in
     let v = c .before .before .before .loop in
-    let now : Millis = record { 0 = a .clock .0 + c .before .before .before .before .before .before .before .before .granule-of .result .0 } in
-    let l : length (set (v .alarms) (v .i) never) ≡ 32 = length-set (v .alarms) (v .i) never ∙ v .inv .1 in
+    let n = c .next-due2 in
+    let now : Millis = record { 0 = a .clock .0 + g .0 } in
+    let left = set (v .alarms) (v .i) never in
+    let l : length left ≡ 32 = length-set (v .alarms) (v .i) never ∙ v .inv .1 in
     let u : v .i < 32 = c .before .before .loop-test .taken in
-    let h = ring-on a now (set (v .alarms) (v .i) never) (bitOr (v .flags) (2 ^ (v .i))) l (v .i + 1) (c .next-due2 .result) (omega arith) (c .next-due2 .ensures) in
-    (h .1, l, h .2, rw (c .before .bit-of .ensures) (sym (h .3) ∙ sym (ring-turn a now (v .alarms) (v .flags) (v .i) u (v .inv .2 u)) ∙ v .inv .3))
+    let h = ring-on a now left (bitOr (v .flags) (2 ^ (v .i))) l (v .i + 1) (n .result) (omega arith) (n .ensures) in
+    let t = ring-turn a now (v .alarms) (v .flags) (v .i) u (v .inv .2 u) in
+    (h .1, l, h .2, rw (c .before .bit-of .ensures) (sym (h .3) ∙ sym t ∙ v .inv .3))
 
 returns : tie.Need-returns Inv-loop μ-loop
 unfolding advanced
@@ -82,7 +90,8 @@ returns c =
     let g = c .before .before .before .before .before .before .granule-of in
     let a = c .before .before .before .before .before .before .before .args .self in
     let v = c .before .loop in
-    sym (each-end rung 32 (v .i) (ringing a (record { 0 = a .clock .0 + g .result .0 }) (v .alarms) (v .flags)) (c .loop-test .left))
+    let now : Millis = record { 0 = a .clock .0 + g .result .0 } in
+    sym (each-end rung 32 (v .i) (ringing a now (v .alarms) (v .flags)) (c .loop-test .left))
     ∙ v .inv .3
     ∙ ap (λ n. each rung 32 0 (ringing a (record { 0 = a .clock .0 + n }) (a .alarms) (a .flags))) (g .ensures)
 

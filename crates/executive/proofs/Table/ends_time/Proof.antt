@@ -5,7 +5,9 @@ use Rattle.executive.proofs.Table.ends_time.Tie as tie
 
 returns : tie.Need-returns
 unfolding endsTime
-returns c = simp (← c .before .before .before .before .is-tick .ensures, c .before .before .before .if1 .taken, c .before .before .granule-of .ensures)
+returns c =
+    let m = c .before .before .before in
+    simp (← m .before .is-tick .ensures, m .if1 .taken, c .before .before .granule-of .ensures)
 
 returns-2 : tie.Need-returns-2
 unfolding endsTime

@@ -2,7 +2,7 @@ use lib.ListN.{take, drop}
 use mathlib.Core.Path.{_≡_}
 use native.Mathlib.Omega.{arith}
 use borrow.Author.Needs.{needs}
-use Prim.Native.Nat.{_≤_, _+_}
+use Prim.Native.Nat.{ℕ, _≤_, _+_}
 use Rattle.executive.specs.Check.{linkOf, linksIn}
 use Rattle.executive.proofs.Tally.{one-le, tally-start, tally-turn}
 use lib.Dec.{eqb}
@@ -20,9 +20,10 @@ abbrev μ-loop : tie.MeasureT-loop
 
 loop-holds : tie.Need-loop-holds Inv-loop μ-loop
 loop-holds c =
-    let s = c in
-    let l = s .good .0 .1 .0 .1 in
-    (omega arith, omega arith, tally-start (λ (r : Request). one (eqb (s .args .k .0) (linkOf (s .args .l) r))) noRequest (s .args .t1) (s .args .queued) (omega arith))
+    let a = c .args in
+    let l = c .good .0 .1 .0 .1 in
+    let f : Request → ℕ = λ r. one (eqb (a .k .0) (linkOf (a .l) r)) in
+    (omega arith, omega arith, tally-start f noRequest (a .t1) (a .queued) (omega arith))
 
 sub-i : tie.Need-sub-i Inv-loop μ-loop
 sub-i c = omega arith
@@ -45,10 +46,17 @@ loop-less c = omega arith
 loop-again : tie.Need-loop-again Inv-loop μ-loop
 loop-again c =
     let s = c .before .before .before .before .before in
+    let a = s .args in
     let l = s .good .0 .1 .0 .1 in
     let v = c .before .before .before .before .loop in
-    let b = one-le (eqb (s .args .k .0) (c .before .link-of .result .0)) in
-    (omega arith, rw (c .plus-if .ensures) (omega (arith, b)), rw (c .plus-if .ensures, c .before .link-of .ensures) (tally-turn (λ (r : Request). one (eqb (s .args .k .0) (linkOf (s .args .l) r))) noRequest (s .args .t1) (s .args .queued) (omega arith) (v .i) (v .c) (c .before .before .before .loop-test .taken) (v .inv .0) (v .inv .2)))
+    let u = c .before .before .before .loop-test .taken in
+    let b = one-le (eqb (a .k .0) (c .before .link-of .result .0)) in
+    let f : Request → ℕ = λ r. one (eqb (a .k .0) (linkOf (a .l) r)) in
+    let t = tally-turn f noRequest (a .t1) (a .queued) (omega arith) (v .i) (v .c) u (v .inv .0) (v .inv .2) in (
+      omega arith,
+      rw (c .plus-if .ensures) (omega (arith, b)),
+      rw (c .plus-if .ensures, c .before .link-of .ensures) t,
+    )
 
 returns : tie.Need-returns Inv-loop μ-loop
 returns c =

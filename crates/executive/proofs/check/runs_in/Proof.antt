@@ -1,7 +1,7 @@
 use lib.ListN.{take, drop, getD}
 use mathlib.Core.Path.{_≡_}
 use native.Mathlib.Omega.{arith}
-use Prim.Native.Nat.{_≤_, _-_, _+_}
+use Prim.Native.Nat.{ℕ, _≤_, _-_, _+_}
 use Rattle.executive.proofs.Tally.{one-le, tally-start, tally-turn}
 use lib.Dec.{eqb}
 use Rattle.executive.specs.Queue.{one}
@@ -20,9 +20,10 @@ abbrev μ-loop : tie.MeasureT-loop
 
 loop-holds : tie.Need-loop-holds Inv-loop μ-loop
 loop-holds c =
-    let s = c in
-    let l = s .good .0 .1 .0 .1 in
-    (omega arith, omega arith, tally-start (λ (e : Task). one (eqb (s .args .k .0) (e .«end_waiter» .0))) noTask (s .args .t1) 16 (omega arith))
+    let a = c .args in
+    let l = c .good .0 .1 .0 .1 in
+    let f : Task → ℕ = λ e. one (eqb (a .k .0) (e .«end_waiter» .0)) in
+    (omega arith, omega arith, tally-start f noTask (a .t1) 16 (omega arith))
 
 sub-i : tie.Need-sub-i Inv-loop μ-loop
 sub-i c = omega arith
@@ -42,10 +43,14 @@ loop-less c = omega arith
 loop-again : tie.Need-loop-again Inv-loop μ-loop
 loop-again c =
     let s = c .before .before .before .before in
+    let a = s .args in
     let l = s .good .0 .1 .0 .1 in
     let v = c .before .before .before .loop in
-    let b = one-le (eqb (s .args .k .0) (getD (s .args .t1) (v .i - 1) noTask .«end_waiter» .0)) in
-    (omega arith, rw (c .plus-if .ensures) (omega (arith, b)), rw (c .plus-if .ensures) (tally-turn (λ (e : Task). one (eqb (s .args .k .0) (e .«end_waiter» .0))) noTask (s .args .t1) 16 (omega arith) (v .i) (v .c) (c .before .before .loop-test .taken) (v .inv .0) (v .inv .2)))
+    let u = c .before .before .loop-test .taken in
+    let b = one-le (eqb (a .k .0) (getD (a .t1) (v .i - 1) noTask .«end_waiter» .0)) in
+    let f : Task → ℕ = λ e. one (eqb (a .k .0) (e .«end_waiter» .0)) in
+    let t = tally-turn f noTask (a .t1) 16 (omega arith) (v .i) (v .c) u (v .inv .0) (v .inv .2) in
+    (omega arith, rw (c .plus-if .ensures) (omega (arith, b)), rw (c .plus-if .ensures) t)
 
 returns : tie.Need-returns Inv-loop μ-loop
 returns c =

@@ -37,11 +37,31 @@ add-if2 c = search needs
 
 returns-2 : tie.Need-returns-2
 unfolding waitersAt
-returns-2 c = onward _ _ _ (eq-eqb _ _ (rw (c .before .before .before .before .before .before .before .before .links-in .ensures .1, c .before .before .before .before .before .before .before .plus-if .ensures, c .before .before .before .before .before .before .before .before .before .kind-of .ensures, c .before .before .before .before .before .before .before .before .before .before .pre .1, add-zero) at (c .before .before .before .before .before .before .if1 .left))) (onward _ _ _ (eq-eqb _ _ (rw (c .before .before .before .before .before .links-in2 .ensures .1, c .before .before .before .before .runs-in .ensures .1, c .before .before .before .plus-if2 .ensures, c .before .before .before .before .before .before .before .before .before .kind-of .ensures, c .before .before .before .before .before .before .before .before .before .before .pre .1, add-zero) at (c .before .before .if2 .taken))) (rw (c .before .before .before .before .before .before .before .before .before .before .pre .1)))
+returns-2 c =
+    let m = c .before .before .before .before .before in
+    let n = m .before .before .before in
+    let k = n .before .kind-of .ensures in
+    let e = n .before .before .pre .1 in
+    let one = m .before .before .plus-if .ensures in
+    let starts = rw (n .links-in .ensures .1, one, k, e, add-zero) at (m .before .if1 .left) in
+    let runs = c .before .before .before .before .runs-in .ensures .1 in
+    let want = c .before .before .before .plus-if2 .ensures in
+    let ends = rw (m .links-in2 .ensures .1, runs, want, k, e, add-zero) at (c .before .before .if2 .taken) in
+    onward _ _ _ (eq-eqb _ _ starts) (onward _ _ _ (eq-eqb _ _ ends) (rw e))
 
 returns-3 : tie.Need-returns-3
 unfolding waitersAt
-returns-3 c = shut (ne-eqb _ _ (c .if2 .left)) (beyond (eqb (startsOf (c .before .before .before .before .before .before .before .before .args .k .0) (take (c .before .before .before .before .before .before .before .before .args .queued) (c .before .before .before .before .before .before .before .before .args .pool))) (is 2 (taskAt (c .before .before .before .before .before .before .before .before .args .tasks) (c .before .before .before .before .before .before .before .before .args .k .0) .state))) _ (here _ _ (ne-eqb _ _ (rw (c .before .before .before .links-in2 .ensures .1, c .before .before .runs-in .ensures .1, c .before .plus-if2 .ensures, c .before .before .before .before .before .before .before .kind-of .ensures, c .before .before .before .before .before .before .before .before .pre .1, add-zero) at (c .if2 .left)))))
+returns-3 c =
+    let m = c .before .before .before in
+    let n = m .before .before .before in
+    let k = n .before .kind-of .ensures in
+    let s = n .before .before in
+    let a = s .args in
+    let starts = eqb (startsOf (a .k .0) (take (a .queued) (a .pool))) (is 2 (taskAt (a .tasks) (a .k .0) .state)) in
+    let runs = c .before .before .runs-in .ensures .1 in
+    let want = c .before .plus-if2 .ensures in
+    let ends = rw (m .links-in2 .ensures .1, runs, want, k, s .pre .1, add-zero) at (c .if2 .left) in
+    shut (ne-eqb _ _ (c .if2 .left)) (beyond starts _ (here _ _ (ne-eqb _ _ ends)))
 
 pub waiters-at-spec : {M : Type 1} → statement M
 waiters-at-spec =
