@@ -125,7 +125,7 @@ impl Table {
         only_z(met)
     }
 
-    // Kind 0B: C as in 09; count 0 acts as a set, with its Z.
+    // Kind 0B: as 09, where count 0 is a set and any other count a mere look at the flag.
     fn alarm_marks(self, count: u8, f: FlagNo) -> Marks
         requires { ⌜ f .0 < 32 ⌝ }
         ensures { λ r. ⌜ r ≡ marksOf self (Call.Alarm 0 count f) ⌝ }
@@ -133,9 +133,9 @@ impl Table {
         let fs = self.rest.flags;
         let old = flags::is_set(fs, f);
         if count == 0 {
-            return marked(old, false, old);
+            return flag_marks(1, old);
         }
-        marked(false, false, old)
+        flag_marks(2, old)
     }
 
     // The marks of a call that is accepted.

@@ -7,11 +7,11 @@ use Rattle.executive.proofs.Table.alarm_marks.Tie as tie
 
 returns : tie.Need-returns
 unfolding marksOf
-returns c = rw (c .marked .ensures, c .before .before .is-set .ensures, c .before .if1 .taken) refl
+returns c = rw (c .flag-marks .ensures, c .before .before .is-set .ensures, c .before .if1 .taken) refl
 
 returns-2 : tie.Need-returns-2
 unfolding marksOf
-returns-2 c = rw (c .marked2 .ensures, c .before .before .is-set .ensures, ne-eqb _ _ (c .before .if1 .left)) refl
+returns-2 c = rw (c .flag-marks2 .ensures, c .before .before .is-set .ensures, ne-eqb _ _ (c .before .if1 .left)) refl
 
 pub alarm-marks-spec : {M : Type 1} → statement M
 alarm-marks-spec = tie.close (tie.spec (λ c κs. search needs) (λ c κs. search needs) returns (λ c κs. search needs) returns-2)
