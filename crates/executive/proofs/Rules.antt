@@ -14,7 +14,7 @@ use Rattle.executive.specs.declared.State.the-variants.{Dormant, Ready, 
 use Rattle.executive.specs.declared.Task.{Task}
 use Rattle.executive.specs.declared.Request.{Request}
 use Rattle.executive.specs.declared.Table.{Table}
-use Rattle.executive.specs.Numbers.{highest, longest}
+use Rattle.executive.specs.Numbers.{mostTasks, mostQueued, highest, mostGranule, endOfTime, longest}
 use Rattle.executive.specs.Queue.{pick, one, count}
 use Rattle.executive.specs.Table.{nobody, never, noTask, noRequest, pad, line, requests, taskAt, items}
 use Rattle.executive.specs.Plans.{met}
@@ -30,20 +30,20 @@ use Rattle.executive.proofs.Descent.{falls-tasks, falls-desc, desc-fall
 -- ---- every number is in range
 module _ (n g : ℕ) (c : Millis) (r q : ℕ) where
   pub record Bounds : Type 0 where
-    pub count : (1 ≤ n) × (n ≤ 16)
-    pub granule : (1 ≤ g) × (g ≤ 255)
-    pub clock : c .0 ≤ 1099511627776
-    pub ready : r ≤ 16
-    pub queued : q ≤ 32
+    pub count : (1 ≤ n) × (n ≤ mostTasks)
+    pub granule : (1 ≤ g) × (g ≤ mostGranule)
+    pub clock : c .0 ≤ endOfTime
+    pub ready : r ≤ mostTasks
+    pub queued : q ≤ mostQueued
 
   pub bounds-get : inBounds n g c r q ≡ true → Bounds
   bounds-get e =
       let a1 = split (leb 1 n) _ e in
-      let a2 = split (leb n 16) _ (a1 .1) in
+      let a2 = split (leb n mostTasks) _ (a1 .1) in
       let a3 = split (leb 1 g) _ (a2 .1) in
-      let a4 = split (leb g 255) _ (a3 .1) in
-      let a5 = split (leb (c .0) 1099511627776) _ (a4 .1) in
-      let a6 = split (leb r 16) _ (a5 .1) in
+      let a4 = split (leb g mostGranule) _ (a3 .1) in
+      let a5 = split (leb (c .0) endOfTime) _ (a4 .1) in
+      let a6 = split (leb r mostTasks) _ (a5 .1) in
       record {
         count = (leb-true _ _ (a1 .0), leb-true _ _ (a2 .0));
         granule = (leb-true _ _ (a3 .0), leb-true _ _ (a4 .0));
@@ -54,8 +54,9 @@ module _ (n g : ℕ) (c : Millis) (r q : ℕ) where
 
   pub bounds-make : Bounds → inBounds n g c r q ≡ true
   bounds-make b =
-      rw (le-leb 1 n (b .count .0), le-leb n 16 (b .count .1), le-leb 1 g (b .granule .0), le-leb g 255 (b .granule .1), le-leb (c .0) 1099511627776 (b .clock), le-leb r 16 (b .ready), le-leb q 32 (b .queued))
-      refl
+      rw (le-leb 1 n (b .count .0), le-leb n mostTasks (b .count .1), le-leb 1 g (b .granule .0))
+      (rw (le-leb g mostGranule (b .granule .1), le-leb (c .0) endOfTime (b .clock))
+      (rw (le-leb r mostTasks (b .ready), le-leb q mostQueued (b .queued)) refl))
 
 module _ (n : ℕ) where
   blank-in-range : entryInRange n noTask ≡ true

@@ -10,8 +10,8 @@ use crate::pool;
 use crate::pool::Found;
 use records::TaskNo;
 ghost use mathlib.Core.Path.{_≡_};
-ghost use Prim.Native.Nat.{_<_, _≤_, _+_, _^_};
-ghost use Rattle.executive.specs.Numbers.{lastUnit};
+ghost use Prim.Native.Nat.{_<_, _≤_, _+_};
+ghost use Rattle.executive.specs.Numbers.{lastUnit, endOfTime};
 ghost use Rattle.executive.specs.Table.{Fit, Standing, Out, depart, carry};
 ghost use Rattle.executive.specs.Entries.{withState};
 ghost use Rattle.executive.specs.Plans.{isPaused, endPlan, restartPlan, pausePlan, cancelPlan, tickPlan};
@@ -103,7 +103,7 @@ impl Table {
 
     // Kind 02, its interval in range.
     pub(crate) fn pause(mut self, unit: u8, count: u8) -> Work
-        requires { ⌜ Fit self × (0 < self .ready) × (self .rest .clock .0 ≤ 2 ^ 40) × (unit ≤ lastUnit) ⌝ }
+        requires { ⌜ Fit self × (0 < self .ready) × (self .rest .clock .0 ≤ endOfTime) × (unit ≤ lastUnit) ⌝ }
         ensures { λ r. ⌜ r ≡ carry (pausePlan self unit count) self ⌝ }
     {
         if count == 0 {
@@ -145,7 +145,7 @@ impl Table {
 
     // Kind 80.
     pub(crate) fn tick(mut self) -> Work
-        requires { ⌜ Fit self × (self .rest .clock .0 + self .rest .granule ≤ 2 ^ 40) ⌝ }
+        requires { ⌜ Fit self × (self .rest .clock .0 + self .rest .granule ≤ endOfTime) ⌝ }
         ensures { λ r. ⌜ r ≡ carry (tickPlan self) self ⌝ }
     {
         let old = self.rest;

@@ -51,7 +51,7 @@ fn in_bounds(count: u8, granule: u8, clock: Millis, ready: u8, queued: u8) -> bo
     if granule < 1 {
         return false;
     }
-    if 1099511627776 < clock.0 {
+    if clock::END_OF_TIME < clock.0 {
         return false;
     }
     if 16 < ready {

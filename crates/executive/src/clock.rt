@@ -4,16 +4,18 @@ use crate::Rest;
 use records::FlagNo;
 ghost use mathlib.Core.Path.{_≡_};
 ghost use Prim.Native.Nat.{_<_, _≤_, _+_, _*_, _/_, _%_, _^_};
-ghost use Rattle.executive.specs.Numbers.{lastUnit, longest};
+ghost use Rattle.executive.specs.Numbers.{lastUnit, endOfTime, longest};
 ghost use Rattle.executive.specs.Time.{units, interval, nextOnGrid, skipsMissed, aimAt, skippedOf};
 ghost use lib.ListN.{drop, getD};
 ghost use Rattle.executive.specs.Places.{nextOf};
 ghost use Rattle.executive.specs.Rests.{isDue, advanced};
 
-// The last unit of an interval, and the longest interval in ms.
+// The last unit of an interval, and the longest interval in ms; the last time that the clock may show.
 pub(crate) const LAST_UNIT: u8 = 5;
 
 pub(crate) const LONGEST: u64 = 22032000000;
+
+pub(crate) const END_OF_TIME: u64 = 1099511627776;
 
 // The word with a flag's bit alone.
 pub(crate) fn bit_of(f: FlagNo) -> u32
@@ -82,7 +84,7 @@ struct Parts {
 // Long division by shifts and subtractions: the length's bits come down one by one, from the highest that it can have, and the
 // interval is taken off where it fits. Always 41 turns.
 fn split(length: Millis, every: Millis) -> Parts
-    requires { ⌜ (0 < every .0) × (length .0 ≤ 2 ^ 40) × (every .0 ≤ longest) ⌝ }
+    requires { ⌜ (0 < every .0) × (length .0 ≤ endOfTime) × (every .0 ≤ longest) ⌝ }
     ensures { λ r. ⌜ (r .times ≡ length .0 / every .0) × (r .rest ≡ length .0 % every .0) ⌝ }
 {
     let mut times: u64 = 0;
@@ -113,7 +115,7 @@ fn skips_missed(param: u8, count: u8) -> bool
 
 // The first time on a restart's grid that is after now.
 fn next_on_grid(start: Millis, now: Millis, every: Millis) -> Millis
-    requires { ⌜ (start .0 ≤ now .0) × (now .0 ≤ 2 ^ 40) × (0 < every .0) × (every .0 ≤ longest) ⌝ }
+    requires { ⌜ (start .0 ≤ now .0) × (now .0 ≤ endOfTime) × (0 < every .0) × (every .0 ≤ longest) ⌝ }
     ensures { λ r. ⌜ r ≡ nextOnGrid start now every ⌝ }
 {
     let length = Millis(now.0 - start.0);
@@ -123,7 +125,7 @@ fn next_on_grid(start: Millis, now: Millis, every: Millis) -> Millis
 
 // How many grid times a restart passes over.
 pub(crate) fn skipped_of(start: Millis, now: Millis, param: u8, count: u8) -> u64
-    requires { ⌜ (start .0 ≤ now .0) × (now .0 ≤ 2 ^ 40) ⌝ }
+    requires { ⌜ (start .0 ≤ now .0) × (now .0 ≤ endOfTime) ⌝ }
     ensures { λ r. ⌜ r ≡ skippedOf start now param count ⌝ }
 {
     let unit = param % 8;
@@ -141,7 +143,7 @@ pub(crate) fn skipped_of(start: Millis, now: Millis, param: u8, count: u8) -> u6
 
 // The time that a restart aims at.
 pub(crate) fn aim_at(start: Millis, now: Millis, param: u8, count: u8) -> Millis
-    requires { ⌜ (start .0 ≤ now .0) × (now .0 ≤ 2 ^ 40) ⌝ }
+    requires { ⌜ (start .0 ≤ now .0) × (now .0 ≤ endOfTime) ⌝ }
     ensures { λ r. ⌜ r ≡ aimAt start now param count ⌝ }
 {
     let unit = param % 8;
@@ -187,7 +189,7 @@ fn next_due(alarms: [Millis; 32], from: usize, now: Millis) -> usize
 impl Rest {
     // The clock gains a granule, and the due alarms ring: each sets its flag and is cleared. Only they are touched.
     pub(crate) fn advance(mut self) -> Rest
-        requires { ⌜ self .clock .0 + self .granule ≤ 2 ^ 40 ⌝ }
+        requires { ⌜ self .clock .0 + self .granule ≤ endOfTime ⌝ }
         ensures { λ r. ⌜ r ≡ advanced self ⌝ }
     {
         let granule = granule_of(self.granule);

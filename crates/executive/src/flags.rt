@@ -8,8 +8,8 @@ use crate::Work;
 use crate::clock;
 use records::FlagNo;
 ghost use mathlib.Core.Path.{_≡_};
-ghost use Prim.Native.Nat.{_<_, _≤_, _^_};
-ghost use Rattle.executive.specs.Numbers.{lastUnit};
+ghost use Prim.Native.Nat.{_<_, _≤_};
+ghost use Rattle.executive.specs.Numbers.{lastUnit, endOfTime};
 ghost use Rattle.executive.specs.Table.{Fit, carry};
 ghost use Rattle.executive.specs.Rests.{isSet, flagSet, flagReset, withFlags, withAlarm};
 ghost use Rattle.executive.specs.Plans.{modeOf, met, setPlan, resetPlan, flagPlan, waitPlan, alarmPlan};
@@ -149,7 +149,7 @@ impl Table {
 
     // Kind 0B, its interval in range.
     pub(crate) fn alarm(mut self, unit: u8, count: u8, f: FlagNo) -> Work
-        requires { ⌜ Fit self × Times self × (f .0 < 32) × (self .rest .clock .0 ≤ 2 ^ 40) × (unit ≤ lastUnit) ⌝ }
+        requires { ⌜ Fit self × Times self × (f .0 < 32) × (self .rest .clock .0 ≤ endOfTime) × (unit ≤ lastUnit) ⌝ }
         ensures { λ r. ⌜ r ≡ carry (alarmPlan self unit count f) self ⌝ }
     {
         if count == 0 {

@@ -7,10 +7,10 @@ use records::Call;
 use records::FlagNo;
 use records::TaskNo;
 ghost use mathlib.Core.Path.{_≡_};
-ghost use Prim.Native.Nat.{_≤_, _^_};
+ghost use Prim.Native.Nat.{_≤_};
 ghost use lib.Dec.{ltb, eqb};
 ghost use lib.ListN.{getD};
-ghost use Rattle.executive.specs.Numbers.{lastUnit};
+ghost use Rattle.executive.specs.Numbers.{lastUnit, endOfTime};
 ghost use Rattle.executive.specs.Table.{never};
 ghost use Rattle.executive.specs.Refusals.{_or_, isTick, noSuchTask, nobodyActive, badBody, namesCaller, alarmRunning, poolFull, endsTime, earlyOf};
 
@@ -175,20 +175,20 @@ impl Table {
 
     // 10: a tick would carry the clock past 2^40.
     fn ends_time(self, call: Call) -> bool
-        requires { ⌜ self .rest .clock .0 ≤ 2 ^ 40 ⌝ }
+        requires { ⌜ self .rest .clock .0 ≤ endOfTime ⌝ }
         ensures { λ r. ⌜ r ≡ endsTime self call ⌝ }
     {
         if is_tick(call) {
             let granule = clock::granule_of(self.rest.granule);
             let end = self.rest.clock.0 + granule.0;
-            return 1099511627776 < end;
+            return clock::END_OF_TIME < end;
         }
         false
     }
 
     // The number of the first refusal, in 01's order; 0 where there is none. Number 11 is left: it is judged on what the call comes to.
     pub(crate) fn refusal(self, call: Call) -> u8
-        requires { ⌜ self .rest .clock .0 ≤ 2 ^ 40 ⌝ }
+        requires { ⌜ self .rest .clock .0 ≤ endOfTime ⌝ }
         ensures { λ r. ⌜ r ≡ earlyOf self call ⌝ }
     {
         if self.nobody_active(call) {
