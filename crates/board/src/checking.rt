@@ -1,4 +1,5 @@
 // Whether some bytes are an image: byte for byte the image of the table that they load to.
+use crate::IMAGE;
 use crate::storing;
 use executive::Table;
 ghost use mathlib.Core.Path.{_≡_};
@@ -27,10 +28,10 @@ fn same_bytes(a: &[u8], b: &[u8]) -> bool
 pub(crate) fn is_image_of(bytes: &[u8], table: Table) -> bool
     ensures { λ r. ⌜ r ≡ isImageOf (now (bytes .entry)) table ⌝ }
 {
-    if bytes.len() != 896 {
+    if bytes.len() != IMAGE {
         return false;
     }
-    let mut image = [0u8; 896];
+    let mut image = [0u8; IMAGE];
     storing::put_table(&mut image, table);
     same_bytes(&image, bytes)
 }

@@ -12,13 +12,16 @@ pub mod storing;
 // The board's own number: a buffer that is to be written to has not the length it needs. It is judged before any other number.
 pub(crate) const NO_ROOM: u8 = 30;
 
+// The length of an image in bytes.
+pub(crate) const IMAGE: usize = 896;
+
 // Makes a fresh table from configuration bytes: 0 and its image written; 30 where the buffer has not the image's length, 2 where they
 // are no configuration, and then no byte is changed.
 #[no_mangle]
 pub extern "C" fn quermanic_fresh(config: &[u8], image: &mut [u8]) -> u8
     ensures { λ r. ⌜ MakesImage (now (config .entry)) (now (image .entry)) (now (image .exit)) r ⌝ }
 {
-    if image.len() != 896 {
+    if image.len() != IMAGE {
         return NO_ROOM;
     }
     let fresh = configuration::fresh(config);

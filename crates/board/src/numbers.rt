@@ -4,6 +4,7 @@ ghost use Prim.Native.Nat.{_+_, _≤_, _<_};
 ghost use lib.ListN.{getD};
 ghost use Rattle.records.specs.Numbers.{numberOf, part, bytesIn};
 ghost use Rattle.board.specs.Blocks.{written, Number, Room};
+ghost use Rattle.board.specs.Image.{imageLength};
 
 // The byte at a place, and 0 past the end.
 fn byte_at(bytes: &[u8], at: usize) -> u64
@@ -17,7 +18,7 @@ fn byte_at(bytes: &[u8], at: usize) -> u64
 
 // The number of w bytes from a place on, the first byte the highest.
 pub(crate) fn number_at(bytes: &[u8], at: usize, w: usize) -> u64
-    requires { ⌜ (at ≤ 896) × (w ≤ 8) ⌝ }
+    requires { ⌜ (at ≤ imageLength) × (w ≤ 8) ⌝ }
     ensures { λ r. ⌜ Number (now (bytes .entry)) at w r ⌝ }
 {
     let mut n: u64 = 0;
@@ -30,28 +31,28 @@ pub(crate) fn number_at(bytes: &[u8], at: usize, w: usize) -> u64
 }
 
 pub(crate) fn byte_in(bytes: &[u8], at: usize) -> u8
-    requires { ⌜ at ≤ 896 ⌝ }
+    requires { ⌜ at ≤ imageLength ⌝ }
     ensures { λ r. ⌜ r ≡ numberOf (part 1 at (now (bytes .entry))) ⌝ }
 {
     number_at(bytes, at, 1) as u8
 }
 
 pub(crate) fn pair_in(bytes: &[u8], at: usize) -> u16
-    requires { ⌜ at ≤ 896 ⌝ }
+    requires { ⌜ at ≤ imageLength ⌝ }
     ensures { λ r. ⌜ r ≡ numberOf (part 2 at (now (bytes .entry))) ⌝ }
 {
     number_at(bytes, at, 2) as u16
 }
 
 pub(crate) fn word_in(bytes: &[u8], at: usize) -> u32
-    requires { ⌜ at ≤ 896 ⌝ }
+    requires { ⌜ at ≤ imageLength ⌝ }
     ensures { λ r. ⌜ r ≡ numberOf (part 4 at (now (bytes .entry))) ⌝ }
 {
     number_at(bytes, at, 4) as u32
 }
 
 pub(crate) fn long_in(bytes: &[u8], at: usize) -> u64
-    requires { ⌜ at ≤ 896 ⌝ }
+    requires { ⌜ at ≤ imageLength ⌝ }
     ensures { λ r. ⌜ r ≡ numberOf (part 8 at (now (bytes .entry))) ⌝ }
 {
     number_at(bytes, at, 8)

@@ -1,4 +1,5 @@
 // What is promised of the image and of the entry points' definitions.
+use crate::IMAGE;
 use crate::loading;
 use crate::storing;
 use executive::Table;
@@ -9,7 +10,7 @@ ghost use Rattle.board.specs.Promises.{Promises};
 pub fn there_and_back(table: Table) -> Table
     ensures { λ r. ⌜ ComesBack table r ⌝ }
 {
-    let mut image = [0u8; 896];
+    let mut image = [0u8; IMAGE];
     storing::put_table(&mut image, table);
     loading::load(&image)
 }

@@ -1,4 +1,5 @@
 // Storing: from a table to its image, in a lent buffer.
+use crate::IMAGE;
 use crate::NO_ROOM;
 use crate::numbers;
 use executive::Millis;
@@ -180,7 +181,7 @@ pub(crate) fn put_table(out: &mut [u8], table: Table)
 pub fn store(table: Table, out: &mut [u8]) -> u8
     ensures { λ r. ⌜ Stores table (now (out .entry)) (now (out .exit)) r ⌝ }
 {
-    if out.len() != 896 {
+    if out.len() != IMAGE {
         return NO_ROOM;
     }
     put_table(out, table);
