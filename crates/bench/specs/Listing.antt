@@ -33,7 +33,8 @@ wholeOf s = cond (ltb (length s) (stepLength s)) 0 (stepLength s)
 unfoldable pub lastOf : List ℕ → List ℕ
 lastOf s = cond (eqb (length s) 0) endOf (cond (eqb (stepLength s) 0) (stopOf 4) (stopOf 3))
 
--- the lines of some steps, the first of them numbered n, at a table. Each step takes a byte or more, so as many turns as bytes are enough
+-- the lines of some steps, the first of them numbered n, at a table. Each step takes a byte or more, so as many
+-- turns as bytes are enough
 unfoldable pub stepsOf : ℕ → ℕ → Table → List ℕ → List ℕ
 stepsOf zero n t s = lastOf s
 stepsOf (suc turns) n t s =

@@ -7,7 +7,8 @@ mod lines;
 pub mod listing;
 mod steps;
 
-// What is told next: the header, with the task that is active in the fresh table; a step; a stop with its number; nothing.
+// What is told next: the header, with the task that is active in the fresh table; a step; a stop with its number;
+// nothing.
 pub enum Next {
     Header(TaskNo),
     Step,
@@ -15,7 +16,8 @@ pub enum Next {
     Nothing,
 }
 
-// Where a listing stands: what is told next, where in the input the next step begins, that step's number, and the table.
+// Where a listing stands: what is told next, where in the input the next step begins, that step's number, and the
+// table.
 pub struct Run {
     pub next: Next,
     pub at: usize,
@@ -23,7 +25,8 @@ pub struct Run {
     pub table: Table,
 }
 
-// What filling a buffer answers: how many bytes of it are text, whether there is more to tell, and where the listing stands.
+// What filling a buffer answers: how many bytes of it are text, whether there is more to tell, and where the
+// listing stands.
 pub struct Filled {
     pub used: usize,
     pub more: bool,

@@ -1,4 +1,5 @@
-// The bench program: reads an input from standard input, at most one byte more than an input may have, and writes its listing to standard output.
+// The bench program: reads an input from standard input, at most one byte more than an input may have, and writes
+// its listing to standard output.
 use bench::listing;
 use libc::STDIN_FILENO;
 use libc::STDOUT_FILENO;

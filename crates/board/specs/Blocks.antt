@@ -1,4 +1,5 @@
--- Equal blocks that stand one after the other in a row of bytes, and bytes written over a part of a buffer. Nothing here knows of the table.
+-- Equal blocks that stand one after the other in a row of bytes, and bytes written over a part of a buffer. Nothing
+-- here knows of the table.
 use Prim.Native.Nat.{ℕ, zero, suc, _+_, _≤_, _<_, _^_}
 use Prim.{Unit}
 use mathlib.Core.Path.{_≡_}

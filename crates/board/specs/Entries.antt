@@ -63,7 +63,8 @@ activeAt = 4
 abbrev pub answerBytes : Answer → List ℕ
 answerBytes a = lay answerWidths (a .number ∷ one (a .z) ∷ one (a .v) ∷ one (a .c) ∷ a .active .0 ∷ 0 ∷ a .argument ∷ a .skipped ∷ [])
 
--- the executive's own answer (bytes that are no image are no well-formed table), and the image of its own table where the step is accepted; a refusal keeps every byte
+-- the executive's own answer (bytes that are no image are no well-formed table), and the image of its own table
+-- where the step is accepted; a refusal keeps every byte
 unfoldable pub answerTo : List ℕ → List ℕ → Answer
 answerTo s call = pick (isImage s) (stepOf (loadOf s) call .answer) noTable
 
@@ -80,7 +81,8 @@ stepImage s call o = pick (ltb (length o) answerLength) s (imageAfter s call)
 unfoldable pub stepAnswer : List ℕ → List ℕ → List ℕ → List ℕ
 stepAnswer s call o = pick (ltb (length o) answerLength) o (written o 0 (answerBytes (answerTo s call)))
 
--- the contract: n is what the step of call at the image s answers, the buffer o lent for the answer; s then is p, o is q
+-- the contract: n is what the step of call at the image s answers, the buffer o lent for the answer; s then is p, o
+-- is q
 pub record StepsImage (s call o p q : List ℕ) (n : ℕ) : Type 0 where
   pub number : n ≡ stepNumber s call o
   pub image : p ≡ stepImage s call o

@@ -47,7 +47,8 @@ maskOf (Flags m mask) = mask
 maskOf AwaitStart = 0
 maskOf AwaitEnd = 0
 
--- the state of three numbers; a byte that is no state's is a wait for any flag of no mask, which no well-formed table holds
+-- the state of three numbers; a byte that is no state's is a wait for any flag of no mask, which no well-formed
+-- table holds
 unfoldable pub stateOf : ℕ → ℕ → ℕ → State
 stateOf tag time mask =
     pick (eqb tag 0) Dormant

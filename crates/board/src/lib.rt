@@ -9,13 +9,15 @@ pub mod numbers;
 pub mod promises;
 pub mod storing;
 
-// The board's own number: a buffer that is to be written to has not the length it needs. It is judged before any other number.
+// The board's own number: a buffer that is to be written to has not the length it needs. It is judged before any
+// other number.
 pub(crate) const NO_ROOM: u8 = 30;
 
 // The length of an image in bytes.
 pub(crate) const IMAGE: usize = 896;
 
-// Makes a fresh table from configuration bytes: 0 and its image written; 30 where the buffer has not the image's length, 2 where they
+// Makes a fresh table from configuration bytes: 0 and its image written; 30 where the buffer has not the image's
+// length, 2 where they
 // are no configuration, and then no byte is changed.
 #[no_mangle]
 pub extern "C" fn quermanic_fresh(config: &[u8], image: &mut [u8]) -> u8
@@ -46,7 +48,8 @@ pub extern "C" fn quermanic_check(image: &[u8]) -> u8
     table.check()
 }
 
-// Takes a step: the answer's number, and the answer at the start of its buffer. Accepted (0), the image is rewritten; refused, none of
+// Takes a step: the answer's number, and the answer at the start of its buffer. Accepted (0), the image is
+// rewritten; refused, none of
 // its bytes is changed. Where the answer's buffer is shorter than 16 bytes: 30, and no byte of any buffer is changed.
 #[no_mangle]
 pub extern "C" fn quermanic_step(image: &mut [u8], call: &[u8], answer: &mut [u8]) -> u8

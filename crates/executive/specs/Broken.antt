@@ -14,7 +14,8 @@ use Rattle.executive.specs.declared.Request.{Request}
 use Rattle.executive.specs.declared.Table.{Table}
 use Rattle.executive.specs.Numbers.{mostTasks, mostQueued, flagCount, longest}
 use Rattle.executive.specs.Table.{nobody, never, noTask, noRequest, pad, putAt}
-use Rattle.executive.specs.Check.{numbersRight, queueRight, timesRight, startedRight, masksRight, busyRight, waitersRight, dormantRight, poolRight, isWellFormed}
+use Rattle.executive.specs.Check.{numbersRight, queueRight, timesRight, startedRight, masksRight, busyRight, waitersRight, dormantRight}
+use Rattle.executive.specs.Check.{poolRight, isWellFormed}
 
 -- ---- the sound table: seven tasks, the clock at 1,000 ms, flag 0 set
 abbrev pub no : ℕ → TaskNo
@@ -26,7 +27,8 @@ now = 1000
 abbrev pub entry : State → ℕ → ℕ → ℕ → TaskNo → Task
 entry s p a start w = record { own = 4; state = s; priority = p; argument = a; start = record { 0 = start }; «end_waiter» = w }
 
--- 1 and 2 are ready, 2 before 1; 3 waits for the end of 1's run; 4 is paused; 5 waits for flags 0 and 1; 6 waits for a queued request; 7 is dormant
+-- 1 and 2 are ready, 2 before 1; 3 waits for the end of 1's run; 4 is paused; 5 waits for flags 0 and 1; 6 waits
+-- for a queued request; 7 is dormant
 abbrev pub entries : List Task
 entries =
     pad mostTasks noTask (

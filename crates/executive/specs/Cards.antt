@@ -125,7 +125,8 @@ pub record Cards : Type 0 where
   pub p2 : (numbers (two 100) (pause 1 ∷ pause 99 ∷ tick ∷ []) ≡ 0 ∷ 0 ∷ 0 ∷ [])
       × (line (after (two 100) (pause 1 ∷ pause 99 ∷ [])) ≡ [])
       × (line (after (two 100) (pause 1 ∷ pause 99 ∷ tick ∷ [])) ≡ task 1 ∷ task 2 ∷ [])
-  -- 30 seconds is 30,000 ms; 255 hours is 918,000,000 ms. 30 days are 2,592,000,000 ms; 255 days, the largest interval, 22,032,000,000 ms (02).
+  -- 30 seconds is 30,000 ms; 255 hours is 918,000,000 ms. 30 days are 2,592,000,000 ms; 255 days, the largest
+  -- interval, 22,032,000,000 ms (02).
   pub p3 : (interval 2 30 .0 ≡ 30000) × (interval 4 255 .0 ≡ 918000000)
       × (interval 5 30 .0 ≡ 2592000000) × (interval 5 255 .0 ≡ 22032000000) × (longest ≡ 22032000000)
   -- Scheduled start 0, every 5 minutes, ended at 420,000: enters at once, scheduled start 300,000.

@@ -206,7 +206,8 @@ pub record Decided : Type 0 where
   pub once : (t : Table) (r s : ℕ) → Checked t r → Checked t s → r ≡ s
 
 -- ---- the rules as the code takes them, fewer passes and another order (`Passes` says that it is the same test)
--- all rules on one entry of n tasks, at the clock c with the flags fs; all rules on one request, and those that do not look at its target's entry
+-- all rules on one entry of n tasks, at the clock c with the flags fs; all rules on one request, and those that do
+-- not look at its target's entry
 abbrev pub entryRight : ℕ → ℕ → ℕ → Task → Bool
 entryRight n c fs e = entryInRange n e and taskTimely c e and isStarted c e and taskUnmet fs e and sleepsRight e
 

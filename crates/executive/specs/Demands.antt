@@ -1,4 +1,5 @@
--- The founder's demands, said of `stepOf`, the definition that the code is proved to take: for any well-formed table and any records, refused ones included.
+-- The founder's demands, said of `stepOf`, the definition that the code is proved to take: for any well-formed
+-- table and any records, refused ones included.
 -- That each call gives the answer and the table that 01's rules define is the code's own contract, `r ≡ stepOf t s`.
 use mathlib.Core.Path.{_≡_}
 use mathlib.Core.Logic.{_↔_, _≢_}
@@ -73,7 +74,8 @@ pub record Chosen (t : Table) (k : ℕ) : Type 0 where
   pub highest : (j : ℕ) → IsReady t j → taskAt (t .tasks) j .priority ≤ taskAt (t .tasks) k .priority
   pub first : (j : ℕ) → IsReady t j → taskAt (t .tasks) j .priority ≡ taskAt (t .tasks) k .priority → j ≢ k → ahead k (view t) < ahead j (view t)
 
--- the active task k of table t is so chosen, and it is nobody exactly if no task is ready, by the states and by the queue
+-- the active task k of table t is so chosen, and it is nobody exactly if no task is ready, by the states and by the
+-- queue
 pub record Dispatched (t : Table) (k : ℕ) : Type 0 where
   pub head : activeOf (view t) ≡ k
   pub chosen : 0 < k → Chosen t k
@@ -86,8 +88,10 @@ abbrev pub NotYet : ℕ → Table → List (List ℕ) → Type 0
 NotYet k t [] = Unit {0}
 NotYet k t (s ∷ ss) = (activeOf (view t) ≢ k) × NotYet k (stepOf t s .table) ss
 
--- at the end of the steps task k, which was not active before, is ready at the same priority; those ahead of it and the departures since are together
--- those ahead at the start and the entries since at a priority strictly above its own; it is active at the first moment that nobody is ahead of it, and not before
+-- at the end of the steps task k, which was not active before, is ready at the same priority; those ahead of it and
+-- the departures since are together
+-- those ahead at the start and the entries since at a priority strictly above its own; it is active at the first
+-- moment that nobody is ahead of it, and not before
 pub record Overtaking (t : Table) (k : ℕ) (ss : List (List ℕ)) : Type 0 where
   pub still-ready : IsReady (after t ss) k
   pub same-priority : taskAt (after t ss .tasks) k .priority ≡ taskAt (t .tasks) k .priority
@@ -130,7 +134,8 @@ pub record Demands : Type 0 where
       → Dispatched (stepOf (after t ss) s .table) (stepOf (after t ss) s .answer .active .0)
   -- 3
   pub overtaking : (t : Table) (k : ℕ) (ss : List (List ℕ)) → WellFormed t → AllBytes ss → IsReady t k → NotYet k t ss → Overtaking t k ss
-  -- the departures and entries counted are all that changes the queue: in the queue after and departed is in the queue before and entered, for each task
+  -- the departures and entries counted are all that changes the queue: in the queue after and departed is in the
+  -- queue before and entered, for each task
   pub accounted : (t : Table) (k : ℕ) (ss : List (List ℕ)) → WellFormed t → AllBytes ss → 0 < k
       → count k (view (after t ss)) + departedOf k t ss ≡ count k (view t) + enteredOf k (history t ss)
   -- no entry or departure is invented: the queue after is the moves played on the queue before, and each that enters
@@ -145,7 +150,8 @@ pub record Demands : Type 0 where
   -- an accepted record
   pub restarts : (t : Table) (p n : ℕ) → WellFormed t → 0 < t .ready
       → aimAt (taskAt (t .tasks) (caller t .0) .start) (t .rest .clock) p n .0 ≤ t .rest .clock .0 → Restarts (restartPlan t p n) t
-  pub begins-again : (t : Table) → WellFormed t → 0 < t .ready → placeOf (caller t .0) (requests (t .rest)) < length (requests (t .rest)) → Restarts (endPlan t) t
+  pub begins-again : (t : Table) → WellFormed t → 0 < t .ready
+      → placeOf (caller t .0) (requests (t .rest)) < length (requests (t .rest)) → Restarts (endPlan t) t
   pub restarts-by : (t : Table) (p n : ℕ) → stepOf t (0x01 ∷ p ∷ n ∷ []) .answer .number ≡ 0
       → aimAt (taskAt (t .tasks) (caller t .0) .start) (t .rest .clock) p n .0 ≤ t .rest .clock .0
       → RestartsBy (0x01 ∷ p ∷ n ∷ []) t

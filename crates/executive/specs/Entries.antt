@@ -22,7 +22,8 @@ sleeping e = record { own = e .own; state = Dormant; priority = 0; argument = 0;
 abbrev pub begun : Request → Millis → Task → Task
 begun r now e = record { own = e .own; state = Ready; priority = r .priority; argument = r .argument; start = now; «end_waiter» = r .«end_waiter» }
 
--- the entry of a task that is due to restart; priority and argument are kept (H), and nobody waits for the end of the run that is over
+-- the entry of a task that is due to restart; priority and argument are kept (H), and nobody waits for the end of
+-- the run that is over
 abbrev pub dueAt : Millis → Task → Task
 dueAt at e = record { own = e .own; state = Due at; priority = e .priority; argument = e .argument; start = e .start; «end_waiter» = nobody }
 
@@ -38,4 +39,11 @@ aimed AwaitEnd s = s
 
 -- the entry of a task whose wait is over
 abbrev pub risen : Task → Task
-risen e = record { own = e .own; state = Ready; priority = e .priority; argument = e .argument; start = aimed (e .state) (e .start); «end_waiter» = e .«end_waiter» }
+risen e = record {
+  own = e .own;
+  state = Ready;
+  priority = e .priority;
+  argument = e .argument;
+  start = aimed (e .state) (e .start);
+  «end_waiter» = e .«end_waiter»;
+}

@@ -39,7 +39,8 @@ tasksFrom s (suc n) k = pick (eqb (getD s (placeIn k) 0) 0x41) (suc (tasksFrom s
 unfoldable pub tasksIn : List ℕ → ℕ
 tasksIn s = tasksFrom s mostTasks 1
 
--- the length of the configuration that some bytes begin with, up to its 42; 0 where they begin with none. Ranges are not looked at
+-- the length of the configuration that some bytes begin with, up to its 42; 0 where they begin with none. Ranges
+-- are not looked at
 unfoldable pub configurationIn : List ℕ → ℕ
 configurationIn s = pick (eqb (getD s 0 0) 0x40 and eqb (getD s (placeIn (tasksIn s + 1)) 0) 0x42) (3 * tasksIn s + 3) 0
 

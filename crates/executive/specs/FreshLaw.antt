@@ -89,7 +89,8 @@ pub record FreshLaw : Type 0 where
   -- the answer's active task is the first of those with highest priority, and nobody exactly if none is started
   pub dispatched : (s : List ℕ) → Bytes s → isConfiguration s ≡ true
       → Dispatched (freshOf s .table) (freshOf s .answer .active .0)
-  -- a configuration is no longer than the bytes that begin with it; whatever follows it, it is found again by its length
+  -- a configuration is no longer than the bytes that begin with it; whatever follows it, it is found again by its
+  -- length
   pub within : (s : List ℕ) → configurationIn s ≤ length s
   pub ends : (s r : List ℕ) → isConfiguration s ≡ true → configurationIn (s ++ r) ≡ length s
   -- the listing's configuration: number 0, task 1 is active, three tasks

@@ -1,4 +1,5 @@
--- The rules of the calls (01, "Rules of the calls"), a plan for each kind: who departs, who enters in which order, what the rest of the table is afterwards.
+-- The rules of the calls (01, "Rules of the calls"), a plan for each kind: who departs, who enters in which order,
+-- what the rest of the table is afterwards.
 -- Rulings that 01 marks H are marked H here.
 use Prim.Native.Nat.{ℕ, suc, _+_, _/_, _%_}
 use mathlib.Core.Bool.{Bool, true, false, not}
@@ -69,8 +70,10 @@ raising k = record { who = k; change = risen }
 abbrev pub nothing : Table → Plan
 nothing t = record { out = stays; ins = []; rest = t .rest }
 
--- ---- 00: the caller departs; whoever waits for this run's end enters; the earliest request for the caller, if one is queued, is taken from the pool
--- and the caller enters with its priority and argument, scheduled start now; whoever waited for that start enters (H). The caller c, the requests rs,
+-- ---- 00: the caller departs; whoever waits for this run's end enters; the earliest request for the caller, if one
+-- is queued, is taken from the pool
+-- and the caller enters with its priority and argument, scheduled start now; whoever waited for that start enters
+-- (H). The caller c, the requests rs,
 -- the earliest of them for c at place i
 abbrev pub endBy : Table → TaskNo → List Request → ℕ → Plan
 endBy t c rs i =
@@ -85,7 +88,8 @@ endBy t c rs i =
 unfoldable pub endPlan : Table → Plan
 endPlan t = endBy t (headOf (line t)) (requests (t .rest)) (placeOf (headOf (line t) .0) (requests (t .rest)))
 
--- ---- 01: the caller departs and its end-waiter enters. It is due at the time aimed at; if that is at or before the clock, it enters at once, and
+-- ---- 01: the caller departs and its end-waiter enters. It is due at the time aimed at; if that is at or before
+-- the clock, it enters at once, and
 -- entering makes that time its scheduled start
 abbrev pub restartBy : Table → TaskNo → Millis → Plan
 restartBy t c aim = record {
@@ -189,7 +193,11 @@ risers f k (e ∷ es) = rises f k e ++ risers f (suc k) es
 
 -- ---- 09: after a set, all tasks whose condition now holds enter in ascending number. Flags never reset themselves (H)
 unfoldable pub setPlan : Table → FlagNo → Plan
-setPlan t f = record { out = stays; ins = risers (holds (flagSet (t .rest .flags) (f .0))) 1 (t .tasks); rest = withFlags (flagSet (t .rest .flags) (f .0)) (t .rest) }
+setPlan t f = record {
+  out = stays;
+  ins = risers (holds (flagSet (t .rest .flags) (f .0))) 1 (t .tasks);
+  rest = withFlags (flagSet (t .rest .flags) (f .0)) (t .rest);
+}
 
 unfoldable pub resetPlan : Table → FlagNo → Plan
 resetPlan t f = record { out = stays; ins = []; rest = withFlags (flagReset (t .rest .flags) (f .0)) (t .rest) }
@@ -222,7 +230,8 @@ over c fs (Flags m mask) = met fs m mask
 over c fs AwaitStart = false
 over c fs AwaitEnd = false
 
--- the clock gains one granule and due alarms set their flags; then, in ascending task number, each paused or due task whose time is at or before the
+-- the clock gains one granule and due alarms set their flags; then, in ascending task number, each paused or due
+-- task whose time is at or before the
 -- clock, and each whose flag condition holds, enters (H)
 unfoldable pub tickPlan : Table → Plan
 tickPlan t = record { out = stays; ins = risers (over (advanced (t .rest) .clock .0) (advanced (t .rest) .flags)) 1 (t .tasks); rest = advanced (t .rest) }

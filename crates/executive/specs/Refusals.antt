@@ -1,4 +1,5 @@
--- The numbers an answer can carry (01): one list, in 01's order, of each number and when it is given. The first whose condition holds is the answer's.
+-- The numbers an answer can carry (01): one list, in 01's order, of each number and when it is given. The first
+-- whose condition holds is the answer's.
 use Prim.Native.Nat.{ℕ, _+_, _/_, _%_}
 use mathlib.Core.Bool.{Bool, true, false, not}
 use mathlib.Core.List.{List, [], _∷_}
@@ -18,7 +19,8 @@ use Rattle.executive.specs.declared.Table.{Table}
 use Rattle.executive.specs.Numbers.{lastUnit, mostQueued, endOfTime}
 use Rattle.executive.specs.Queue.{pick}
 use Rattle.executive.specs.Table.{never, Plan, carry}
-use Rattle.executive.specs.Plans.{caller, stateAt, isDormant, nothing, endPlan, restartPlan, pausePlan, cancelPlan, startOnlyPlan, askPlan, flagPlan, waitPlan, alarmPlan, tickPlan}
+use Rattle.executive.specs.Plans.{caller, stateAt, isDormant, nothing, endPlan, restartPlan, pausePlan, cancelPlan, startOnlyPlan, askPlan}
+use Rattle.executive.specs.Plans.{flagPlan, waitPlan, alarmPlan, tickPlan}
 use Rattle.executive.specs.Check.{_and_, isWellFormed}
 
 infixr 25 _or_
@@ -89,7 +91,8 @@ isTick call.End = false
 unfoldable pub nobodyActive : Table → Call → Bool
 nobodyActive t c = not (isTick c) and eqb (t .ready) 0
 
--- ---- 6: task not 1 to the task count; flag over 31; unit over 5 in 02 or 0B; operation over 2; mode over 1; mask 0; in 01 both bits 7 and 6 (02); in 04 any of bits 6..4; in 05 both bits 6 and 5
+-- ---- 6: task not 1 to the task count; flag over 31; unit over 5 in 02 or 0B; operation over 2; mode over 1; mask
+-- 0; in 01 both bits 7 and 6 (02); in 04 any of bits 6..4; in 05 both bits 6 and 5
 abbrev pub noSuchTask : Table → TaskNo → Bool
 noSuchTask t k = eqb (k .0) 0 or ltb (t .rest .count) (k .0)
 
@@ -192,7 +195,8 @@ unfoldable pub firstOf : List Refusal → ℕ
 firstOf [] = 0
 firstOf (r ∷ rs) = pick (r .given) (r .number) (firstOf rs)
 
--- ---- for the code, which judges 11 on what the call comes to: the number of the first of all but the last of a call's refusals
+-- ---- for the code, which judges 11 on what the call comes to: the number of the first of all but the last of a
+-- call's refusals
 abbrev pub butLast : List Refusal → List Refusal
 butLast [] = []
 butLast (r ∷ []) = []

@@ -1,4 +1,5 @@
--- What is neither a task's entry nor the queue: the pool, the flags, the alarms and the clock, and what a step makes of them.
+-- What is neither a task's entry nor the queue: the pool, the flags, the alarms and the clock, and what a step
+-- makes of them.
 use Prim.Native.Nat.{ℕ, zero, suc, _+_, _-_, _^_}
 use mathlib.Core.Bool.{Bool, false, not}
 use mathlib.Core.List.{List, [], _∷_, _++_}
@@ -16,7 +17,8 @@ use Rattle.executive.specs.Table.{never, noRequest, pad}
 abbrev pub withRequests : List Request → Rest → Rest
 withRequests p r = record { count = r .count; granule = r .granule; clock = r .clock; flags = r .flags; alarms = r .alarms; pool = pad mostQueued noRequest p; queued = length p }
 
--- the place of the earliest request for task k; the number of requests where there is none. The requests without the one at a place
+-- the place of the earliest request for task k; the number of requests where there is none. The requests without
+-- the one at a place
 unfoldable pub placeOf : ℕ → List Request → ℕ
 placeOf k [] = 0
 placeOf k (r ∷ rs) = pick (eqb k (r .target .0)) 0 (suc (placeOf k rs))

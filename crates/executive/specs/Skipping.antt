@@ -1,4 +1,5 @@
--- What a restart that skips the starts it missed promises (02): the next time on its grid, how many were passed over, and nothing elsewhere.
+-- What a restart that skips the starts it missed promises (02): the next time on its grid, how many were passed
+-- over, and nothing elsewhere.
 use Prim.Native.Nat.{ℕ, _+_, _*_, _/_, _%_, _≤_, _<_}
 use mathlib.Core.Path.{_≡_}
 use mathlib.Core.Logic.{_↔_, _≢_}
@@ -19,7 +20,8 @@ use Rattle.executive.specs.Demands.{after}
 use Rattle.executive.specs.Cards.{atTime, restart, state, scheduled}
 use Rattle.executive.specs.Cards as cards
 
--- the grid times are start + m * every, m at least 1. aim is the least of them after now, and k of them are at or before it
+-- the grid times are start + m * every, m at least 1. aim is the least of them after now, and k of them are at or
+-- before it
 pub record NextOnGrid (start now every aim k : ℕ) : Type 0 where
   pub on-grid : aim ≡ start + (k + 1) * every
   pub after : now < aim

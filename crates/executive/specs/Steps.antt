@@ -71,7 +71,8 @@ answerOf n m t = record {
 unfoldable pub accepted : Table → Call → Outcome
 accepted t c = record { answer = answerOf 0 (marksOf t c) (carry (planOf t c) t .table); table = carry (planOf t c) t .table }
 
--- V is 1 for 4, 6 and 7; after 1 active and argument are 0, after the others the kept table's. Every refusal keeps the table as given
+-- V is 1 for 4, 6 and 7; after 1 active and argument are 0, after the others the kept table's. Every refusal keeps
+-- the table as given
 abbrev pub hasV : ℕ → Bool
 hasV n = eqb n 4 or eqb n 6 or eqb n 7
 

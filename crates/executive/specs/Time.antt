@@ -15,7 +15,8 @@ units = 1 ∷ 10 ∷ 1000 ∷ 60000 ∷ 3600000 ∷ 86400000 ∷ []
 unfoldable pub interval : ℕ → ℕ → Millis
 interval unit n = record { 0 = n * getD units unit 0 }
 
--- the grid times of a restart: last scheduled start plus a whole number of intervals, at least one. So many of them are at or before now
+-- the grid times of a restart: last scheduled start plus a whole number of intervals, at least one. So many of them
+-- are at or before now
 unfoldable pub missed : Millis → Millis → Millis → ℕ
 missed start now every = (now .0 - start .0) / every .0
 
@@ -27,7 +28,8 @@ nextOnGrid start now every = record { 0 = start .0 + (missed start now every + 1
 abbrev pub skipsMissed : ℕ → ℕ → Bool
 skipsMissed p n = pick (eqb (p / 64 % 4) 1) (ltb 0 n) false
 
--- kind 01: bits 2..0 of the parameter are the unit, bit 7 the base. Units 6 and 7: now. With bit 6 the first grid time after now;
+-- kind 01: bits 2..0 of the parameter are the unit, bit 7 the base. Units 6 and 7: now. With bit 6 the first grid
+-- time after now;
 -- else last scheduled start plus interval (bit 7 clear) or now plus interval (set)
 unfoldable pub aimAt : Millis → Millis → ℕ → ℕ → Millis
 aimAt start now p n =

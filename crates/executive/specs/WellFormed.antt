@@ -1,4 +1,5 @@
--- A well-formed table (01, "A table is well formed when"): a field for each of its rules, in 01's order. Rules on links and names are counts.
+-- A well-formed table (01, "A table is well formed when"): a field for each of its rules, in 01's order. Rules on
+-- links and names are counts.
 use mathlib.Core.Path.{_≡_}
 use mathlib.Core.Bool.{false, not}
 use mathlib.Core.List.{List, [], _∷_}
@@ -34,7 +35,8 @@ kindOf (Flags m mask) = 6
 abbrev pub is : ℕ → State → ℕ
 is n s = one (eqb n (kindOf s))
 
--- how many requests name task k: as their target, as the waiter for their start, as the waiter for the end of the run that they begin
+-- how many requests name task k: as their target, as the waiter for their start, as the waiter for the end of the
+-- run that they begin
 abbrev pub targetsOf : ℕ → List Request → ℕ
 targetsOf k p = sumOf (λ (r : Request). one (eqb k (r .target .0))) p
 
@@ -48,7 +50,8 @@ endsOf k p = sumOf (λ (r : Request). one (eqb k (r .«end_waiter» .0))) p
 abbrev pub runsOf : ℕ → List Task → ℕ
 runsOf k ts = sumOf (λ (e : Task). one (eqb k (e .«end_waiter» .0))) ts
 
--- how many requests have a priority over 15; a task number over n; their own target for a waiter; two waiters; a dormant target
+-- how many requests have a priority over 15; a task number over n; their own target for a waiter; two waiters; a
+-- dormant target
 abbrev pub steepOf : List Request → ℕ
 steepOf p = sumOf (λ (r : Request). one (ltb highest (r .priority))) p
 
@@ -123,7 +126,8 @@ Unmet fs (Paused at) = Unit {0}
 Unmet fs (Due at) = Unit {0}
 Unmet fs (Flags m mask) = (0 < mask) × (met fs m mask ≡ false)
 
--- ---- each request or run that names a waiter names a different task in the matching state; each such state is named once.
+-- ---- each request or run that names a waiter names a different task in the matching state; each such state is
+-- named once.
 -- A request names one waiter at most
 pub record Waiters (ts : List Task) (p : List Request) : Type 0 where
   pub starts : (k : ℕ) → 0 < k → startsOf k p ≡ is (kindOf AwaitStart) (taskAt ts k .state)

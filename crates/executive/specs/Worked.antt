@@ -1,4 +1,5 @@
--- Demand 3 worked out on one history: a waiting task is overtaken by higher ones and then becomes active. So what is shown of all histories is not empty.
+-- Demand 3 worked out on one history: a waiting task is overtaken by higher ones and then becomes active. So what
+-- is shown of all histories is not empty.
 use mathlib.Core.Path.{_≡_}
 use mathlib.Core.Bool.{true}
 use mathlib.Core.List.{List, [], _∷_}
@@ -19,7 +20,8 @@ configuration = 0x40 ∷ 0x0A ∷ 0x41 ∷ 5 ∷ 1 ∷ 0x41 ∷ 5 ∷ 1 ∷ 0x41
 abbrev pub table : Table
 table = freshOf configuration .table
 
--- 1 starts 3; 3 pauses for 15 ms; two ticks, and 3 is back; 3 asks for a pause in unit 6, which is refused; 3 terminates; 1 terminates
+-- 1 starts 3; 3 pauses for 15 ms; two ticks, and 3 is back; 3 asks for a pause in unit 6, which is refused; 3
+-- terminates; 1 terminates
 abbrev pub records : List (List ℕ)
 records =
     (0x04 ∷ 0x80 ∷ 3 ∷ [])

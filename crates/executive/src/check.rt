@@ -1,4 +1,5 @@
-// The check of a table (01, "A table is well formed when"): the rules on one entry and on one request each in one pass; number 0 exactly for a well-formed table, else 1.
+// The check of a table (01, "A table is well formed when"): the rules on one entry and on one request each in one
+// pass; number 0 exactly for a well-formed table, else 1.
 use crate::Millis;
 use crate::Mode;
 use crate::Request;
@@ -15,7 +16,10 @@ ghost use lib.ListN.{drop, take};
 ghost use Rattle.executive.specs.Queue.{one};
 ghost use Rattle.executive.specs.Table.{taskAt};
 ghost use Rattle.executive.specs.WellFormed.{kindOf, is, runsOf};
-ghost use Rattle.executive.specs.Check.{upTo, allOf, inBounds, entryInRange, isZero, isBlank, requestInRange, isNobody, falls, exactAt, isStored, isTimely, alarmRight, isUnmet, waitersAt, namesOthers, sleepsRight, isFree, entryRight, requestFits, requestRight, isQuiet, isLone, lineRight, askedRight, linkOf, linksIn, isWellFormed, Checked, Decided, Tallies};
+ghost use Rattle.executive.specs.Check.{upTo, allOf, inBounds, entryInRange, isZero, isBlank, requestInRange, isNobody, falls, exactAt};
+ghost use Rattle.executive.specs.Check.{isStored, isTimely, alarmRight, isUnmet, waitersAt, namesOthers, sleepsRight, isFree, entryRight};
+ghost use Rattle.executive.specs.Check.{requestFits, requestRight, isQuiet, isLone, lineRight, askedRight, linkOf, linksIn, isWellFormed};
+ghost use Rattle.executive.specs.Check.{Checked, Decided, Tallies};
 ghost use Rattle.executive.specs.Broken.{Broken};
 
 // What a request's waiter waits for: its start, or the end of the run that it begins.
@@ -152,7 +156,8 @@ fn is_unmet(s: State, flags: u32) -> bool
     }
 }
 
-// The rules on one entry alone: its numbers, its stored time, its last scheduled start, its wait mask, its zeros while it is dormant.
+// The rules on one entry alone: its numbers, its stored time, its last scheduled start, its wait mask, its zeros
+// while it is dormant.
 fn entry_right(e: Task, count: u8, now: Millis, flags: u32) -> bool
     ensures { λ r. ⌜ r ≡ entryRight count (now .0) flags e ⌝ }
 {
@@ -435,7 +440,8 @@ fn runs_in(tasks: [Task; 16], k: TaskNo) -> u8
     c
 }
 
-// Whether a task that stands n times in the queue stands there as often as its state says: once if it is ready, else never.
+// Whether a task that stands n times in the queue stands there as often as its state says: once if it is ready,
+// else never.
 fn exact_at(s: State, n: u8) -> bool
     ensures { λ r. ⌜ r ≡ eqb n (is 1 s) ⌝ }
 {
@@ -549,7 +555,8 @@ fn all_lone(pool: [Request; 32], queued: usize) -> bool
     true
 }
 
-// Each task is named once in the way that it waits, else not at all. Where nobody waits and nobody is named there is nothing to count.
+// Each task is named once in the way that it waits, else not at all. Where nobody waits and nobody is named there
+// is nothing to count.
 fn waiters_right(tasks: [Task; 16], pool: [Request; 32], queued: usize, count: u8) -> bool
     requires { ⌜ (queued ≤ 32) × (count ≤ 16) ⌝ }
     ensures { λ r. ⌜ r ≡ upTo (waitersAt tasks (take queued pool)) count ⌝ }
@@ -585,13 +592,15 @@ fn pool_right(tasks: [Task; 16], pool: [Request; 32], queued: usize, count: u8) 
     waiters_right(tasks, pool, queued, count) && free_from(pool, queued)
 }
 
-// What is shown of the check: it decides the rules, with one answer for each table; and it refuses tables that are broken in one rule each.
+// What is shown of the check: it decides the rules, with one answer for each table; and it refuses tables that are
+// broken in one rule each.
 fn check_shown()
     ensures { λ r. ⌜ Decided × Broken ⌝ }
 {}
 
 impl Table {
-    // The table keeps every rule: the numbers, the entries, the alarms, the ready queue, the pool. Each array is taken out once.
+    // The table keeps every rule: the numbers, the entries, the alarms, the ready queue, the pool. Each array is
+    // taken out once.
     pub(crate) fn is_well_formed(self) -> bool
         ensures { λ r. ⌜ r ≡ isWellFormed self ⌝ }
     {

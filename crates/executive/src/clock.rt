@@ -1,4 +1,5 @@
-// Time: the milliseconds of an interval, the time that a restart aims at, the clock's advance with the alarms that are due.
+// Time: the milliseconds of an interval, the time that a restart aims at, the clock's advance with the alarms that
+// are due.
 use crate::Millis;
 use crate::Rest;
 use records::FlagNo;
@@ -47,7 +48,8 @@ fn unit_of(unit: u8) -> u64
     }
 }
 
-// So many of a unit added up, bit by bit of the count: the unit is doubled from turn to turn, and counts where the bit is set.
+// So many of a unit added up, bit by bit of the count: the unit is doubled from turn to turn, and counts where the
+// bit is set.
 // A loop, since the compiler makes a product again of a sum of shifts by constants.
 fn added_up(unit: u64, count: u8) -> u64
     requires { ⌜ count * unit ≤ longest ⌝ }
@@ -81,7 +83,8 @@ struct Parts {
     rest: u64,
 }
 
-// Long division by shifts and subtractions: the length's bits come down one by one, from the highest that it can have, and the
+// Long division by shifts and subtractions: the length's bits come down one by one, from the highest that it can
+// have, and the
 // interval is taken off where it fits. Always 41 turns.
 fn split(length: Millis, every: Millis) -> Parts
     requires { ⌜ (0 < every .0) × (length .0 ≤ endOfTime) × (every .0 ≤ longest) ⌝ }

@@ -16,7 +16,8 @@ ghost use Rattle.executive.specs.Table.{Flying, pad, noTask, admits};
 ghost use Rattle.executive.specs.Check.{upTo};
 ghost use Rattle.executive.specs.Cards.{Cards};
 ghost use Rattle.executive.specs.FreshLaw.{FreshLaw};
-ghost use Rattle.executive.specs.Fresh.{placeIn, ownIn, markIn, tasksIn, taskRight, isConfiguration, blankRest, withTasks, dormantAt, sleepers, starter, starters, madeBy, Makes, Measures};
+ghost use Rattle.executive.specs.Fresh.{placeIn, ownIn, markIn, tasksIn, taskRight, isConfiguration, blankRest, withTasks, dormantAt, sleepers};
+ghost use Rattle.executive.specs.Fresh.{starter, starters, madeBy, Makes, Measures};
 
 // The byte at a place, and 0 past the end.
 fn at(s: &[u8], i: usize) -> u8

@@ -79,7 +79,8 @@ impl Rest {
 }
 
 impl Table {
-    // Kind 09, operation 1, and kind 0B with count 0: all tasks whose condition now holds enter. No stored time has come, so nobody else does.
+    // Kind 09, operation 1, and kind 0B with count 0: all tasks whose condition now holds enter. No stored time has
+    // come, so nobody else does.
     pub(crate) fn set(self, f: FlagNo) -> Work
         requires { ⌜ Fit self × Times self × (f .0 < 32) ⌝ }
         ensures { λ r. ⌜ r ≡ carry (setPlan self f) self ⌝ }

@@ -40,7 +40,8 @@ pub enum State {
     AwaitEnd,
 }
 
-// A task's entry: its own priority; its run's current priority and argument; who waits for its end; its state; its last scheduled start. In this order an entry is 32 bytes long.
+// A task's entry: its own priority; its run's current priority and argument; who waits for its end; its state; its
+// last scheduled start. In this order an entry is 32 bytes long.
 pub struct Task {
     pub own: u8,
     pub priority: u8,
@@ -99,7 +100,8 @@ struct Marks {
     skipped: u64,
 }
 
-// What a step answers: its number, Z, V and C, the active task (0 when idle) and its run's argument; how many grid times a restart passed over.
+// What a step answers: its number, Z, V and C, the active task (0 when idle) and its run's argument; how many grid
+// times a restart passed over.
 pub struct Answer {
     pub number: u8,
     pub z: bool,
@@ -122,7 +124,8 @@ pub struct Fresh {
     pub table: Table,
 }
 
-// The founder's demands, the queue's law, one history worked out and the restart that skips, of every step: nothing to run, a contract that keeps the theorems in place.
+// The founder's demands, the queue's law, one history worked out and the restart that skips, of every step: nothing
+// to run, a contract that keeps the theorems in place.
 fn promised()
     ensures { λ r. ⌜ Demands × QueueLaw × Worked × Skipping ⌝ }
 {}

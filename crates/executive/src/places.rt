@@ -19,7 +19,8 @@ const NO_TASK: Task = Task {
     end_waiter: TaskNo(0),
 };
 
-// The place of a task's entry; 16, which is no place, for a number that no task can have. Whoever reads or writes by a number that the table holds asks here.
+// The place of a task's entry; 16, which is no place, for a number that no task can have. Whoever reads or writes
+// by a number that the table holds asks here.
 pub(crate) fn entry_place(k: TaskNo) -> usize
     ensures { λ r. ⌜ r ≡ entryPlace (k .0) ⌝ }
 {

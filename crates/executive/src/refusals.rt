@@ -186,7 +186,8 @@ impl Table {
         false
     }
 
-    // The number of the first refusal, in 01's order; 0 where there is none. Number 11 is left: it is judged on what the call comes to.
+    // The number of the first refusal, in 01's order; 0 where there is none. Number 11 is left: it is judged on
+    // what the call comes to.
     pub(crate) fn refusal(self, call: Call) -> u8
         requires { ⌜ self .rest .clock .0 ≤ endOfTime ⌝ }
         ensures { λ r. ⌜ r ≡ earlyOf self call ⌝ }

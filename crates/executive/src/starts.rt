@@ -11,7 +11,8 @@ ghost use mathlib.Core.Path.{_≡_};
 ghost use mathlib.Core.Bool.{false};
 ghost use Prim.Native.Nat.{_<_};
 ghost use Rattle.executive.specs.Table.{Fit, taskAt, depart, carry};
-ghost use Rattle.executive.specs.Plans.{caller, stateAt, isDormant, levelOf, waitOf, argumentOf, atOnce, outOf, startWaiterOf, endWaiterOf, asks, startPlan, queuePlan, startOnlyPlan, askPlan};
+ghost use Rattle.executive.specs.Plans.{caller, stateAt, isDormant, levelOf, waitOf, argumentOf, atOnce, outOf, startWaiterOf, endWaiterOf};
+ghost use Rattle.executive.specs.Plans.{asks, startPlan, queuePlan, startOnlyPlan, askPlan};
 
 // The priority that an option of 04 or 05 asks for: the target's own (bit 7), or bits 3..0.
 pub(crate) fn level_of(option: u8, own: u8) -> u8

@@ -89,7 +89,8 @@ impl Table {
         }
     }
 
-    // A call at a well-formed table: refused with the first number that is given, or accepted. Number 11 is judged on what the call comes to.
+    // A call at a well-formed table: refused with the first number that is given, or accepted. Number 11 is judged
+    // on what the call comes to.
     pub(crate) fn perform(self, call: Call) -> Outcome
         requires { ⌜ WellFormed self ⌝ }
         ensures { λ r. ⌜ r ≡ performed self call ⌝ }

@@ -1,4 +1,5 @@
--- The table of records, and what is read from it: a kind's first byte, its body, its length, and the kind of a first byte.
+-- The table of records, and what is read from it: a kind's first byte, its body, its length, and the kind of a
+-- first byte.
 use Prim.Native.Nat.{ℕ, _+_}
 use mathlib.Core.Path.{_≡_}
 use mathlib.Core.List.{List, [], _∷_}

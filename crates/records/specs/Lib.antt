@@ -1,4 +1,5 @@
--- The definitions: numbers as bytes, the table of records, calls, reading, writing, the round trips, and what is promised of them all.
+-- The definitions: numbers as bytes, the table of records, calls, reading, writing, the round trips, and what is
+-- promised of them all.
 pub mod Numbers
 pub mod Kinds
 pub mod Calls

@@ -26,7 +26,8 @@ againOf s o = againBy (readOf s) s o
 unfoldable pub againOutOf : List ℕ → List ℕ → List ℕ
 againOutOf s o = againOutBy (readOf s) s o
 
--- ---- the contracts: writing c and reading it answers g; reading s and writing it to the buffer o answers w, o then is p
+-- ---- the contracts: writing c and reading it answers g; reading s and writing it to the buffer o answers w, o
+-- then is p
 abbrev pub ComesBack : Call → Got → Type 0
 ComesBack c g = g ≡ got.Call c
 

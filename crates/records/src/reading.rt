@@ -78,7 +78,8 @@ fn call_of(kind: Kind, bytes: &[u8]) -> Got
     }
 }
 
-// The call that a record holds. Refused: 3 where it is empty, 4 where its first byte is no carried kind, 3 where its length is not its kind's.
+// The call that a record holds. Refused: 3 where it is empty, 4 where its first byte is no carried kind, 3 where
+// its length is not its kind's.
 pub fn read(bytes: &[u8]) -> Got
     ensures { λ r. ⌜ Reads (now (bytes .entry)) r ⌝ }
 {

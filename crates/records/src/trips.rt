@@ -17,7 +17,8 @@ pub fn there_and_back(call: Call) -> Got
     }
 }
 
-// Reads a record and writes its call: the same bytes stand at out's start. Refused, and no byte changed, where the one or the other is.
+// Reads a record and writes its call: the same bytes stand at out's start. Refused, and no byte changed, where the
+// one or the other is.
 pub fn back_and_there(bytes: &[u8], out: &mut [u8]) -> Written
     ensures { λ r. ⌜ WritesAgain (now (bytes .entry)) (now (out .entry)) (now (out .exit)) r ⌝ }
 {

@@ -57,7 +57,8 @@ fn put(bytes: [u8; 6], n: usize, out: &mut [u8])
     }
 }
 
-// Puts a call's record at the start of out, whose bytes after it keep their content. Refused with 20 where out is shorter than the record: then no byte changes.
+// Puts a call's record at the start of out, whose bytes after it keep their content. Refused with 20 where out is
+// shorter than the record: then no byte changes.
 pub fn write(call: Call, out: &mut [u8]) -> Written
     ensures { λ r. ⌜ Writes call (now (out .entry)) (now (out .exit)) r ⌝ }
 {
