@@ -15,11 +15,14 @@ ghost use Rattle.bench.specs.Glyphs.{Adds};
 ghost use Rattle.bench.specs.Lines.{headerOf};
 ghost use Rattle.bench.specs.Pieces.{firstOf, Starts, isMore, after, withNext, Fills, FillsFrom, Promise};
 
+// The longest input that is read, in bytes.
+pub const MOST_BYTES: usize = 65536;
+
 // What is told first, of an input of that length whose configuration gave that number and that active task.
 fn first(length: usize, number: u8, active: TaskNo) -> Next
     ensures { λ r. ⌜ r ≡ firstOf length number active ⌝ }
 {
-    if 65536 < length {
+    if MOST_BYTES < length {
         return Next::Stop(12);
     }
     if number == 0 {

@@ -4,9 +4,12 @@ use bench::listing;
 use libc::STDIN_FILENO;
 use libc::STDOUT_FILENO;
 
+// The bytes of a listing that are written at a time.
+const PIECE: usize = 65536;
+
 // Writes the listing of an input, a buffer at a time.
 fn tell(input: &[u8]) {
-    let mut out = [0u8; 65536];
+    let mut out = [0u8; PIECE];
     let mut run = listing::start(input);
     loop {
         let filled = listing::fill(input, run, &mut out);
@@ -20,7 +23,7 @@ fn tell(input: &[u8]) {
 }
 
 fn main() {
-    let mut input = [0u8; 65537];
+    let mut input = [0u8; listing::MOST_BYTES + 1];
     let n = io::read_full(STDIN_FILENO, &mut input);
     tell(&input[..n]);
 }
