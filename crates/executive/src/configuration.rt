@@ -1,13 +1,13 @@
 // The table that a configuration makes: one 40, then 1 to 16 of 41, then 42, and nothing more (01, "Records").
 use crate::Fresh;
 use crate::Millis;
-use crate::Request;
 use crate::Rest;
-use crate::State;
 use crate::Table;
 use crate::Task;
 use crate::Work;
 use crate::answers;
+use crate::places::NO_TASK;
+use crate::pool::NO_REQUEST;
 use records::TaskNo;
 ghost use mathlib.Core.Path.{_≡_};
 ghost use Prim.Native.Nat.{_<_, _≤_};
@@ -128,14 +128,9 @@ fn is_configuration(s: &[u8]) -> bool
 fn dormant(own: u8) -> Task
     ensures { λ r. ⌜ r ≡ dormantAt own ⌝ }
 {
-    Task {
-        own,
-        state: State::Dormant,
-        priority: 0,
-        argument: 0,
-        start: Millis(0),
-        end_waiter: TaskNo(0),
-    }
+    let mut e = NO_TASK;
+    e.own = own;
+    e
 }
 
 // The entries of n dormant tasks, each with its own priority, and blank entries after them.
@@ -143,14 +138,7 @@ fn all_dormant(s: &[u8], n: u8) -> [Task; 16]
     requires { ⌜ n ≤ 16 ⌝ }
     ensures { λ r. ⌜ r ≡ pad 16 noTask (sleepers (now (s .entry)) n 1) ⌝ }
 {
-    let mut tasks = [Task {
-        own: 0,
-        state: State::Dormant,
-        priority: 0,
-        argument: 0,
-        start: Millis(0),
-        end_waiter: TaskNo(0),
-    }; 16];
+    let mut tasks = [NO_TASK; 16];
     let mut i: usize = 0;
     while i < n as usize {
         let own = own_in(s, TaskNo(i as u8 + 1));
@@ -170,13 +158,7 @@ fn blank_rest(n: u8, granule: u8) -> Rest
         clock: Millis(0),
         flags: 0,
         alarms: [Millis(0); 32],
-        pool: [Request {
-            target: TaskNo(0),
-            priority: 0,
-            argument: 0,
-            start_waiter: TaskNo(0),
-            end_waiter: TaskNo(0),
-        }; 32],
+        pool: [NO_REQUEST; 32],
         queued: 0,
     }
 }
@@ -201,13 +183,10 @@ fn start_at(w: Work, s: &[u8], k: TaskNo) -> Work
     if mark_in(s, k) != 1 {
         return w;
     }
-    let q = Request {
-        target: k,
-        priority: own_in(s, k),
-        argument: 0,
-        start_waiter: TaskNo(0),
-        end_waiter: TaskNo(0),
-    };
+    let own = own_in(s, k);
+    let mut q = NO_REQUEST;
+    q.target = k;
+    q.priority = own;
     w.commence(k, q, Millis(0))
 }
 

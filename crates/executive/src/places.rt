@@ -10,7 +10,8 @@ ghost use lib.ListN.{set};
 ghost use Rattle.executive.specs.Table.{taskAt, putAt, entryPlace};
 ghost use Rattle.executive.specs.Plans.{stateAt};
 
-const NO_TASK: Task = Task {
+// The blank entry.
+pub(crate) const NO_TASK: Task = Task {
     own: 0,
     state: State::Dormant,
     priority: 0,

@@ -10,6 +10,15 @@ ghost use Rattle.executive.specs.Table.{Neat, noRequest, requests};
 ghost use Rattle.executive.specs.Places.{closedAt, foundAt};
 ghost use Rattle.executive.specs.Rests.{placeOf, removed, withRequests};
 
+// The blank request.
+pub(crate) const NO_REQUEST: Request = Request {
+    target: TaskNo(0),
+    priority: 0,
+    argument: 0,
+    start_waiter: TaskNo(0),
+    end_waiter: TaskNo(0),
+};
+
 // Where a request stands in the pool.
 pub(crate) enum Found {
     At(usize),
@@ -42,13 +51,7 @@ pub(crate) fn dropped_at(pool: [Request; 32], at: usize) -> [Request; 32]
         p[i] = pool[i + 1];
         i += 1;
     }
-    p[31] = Request {
-        target: TaskNo(0),
-        priority: 0,
-        argument: 0,
-        start_waiter: TaskNo(0),
-        end_waiter: TaskNo(0),
-    };
+    p[31] = NO_REQUEST;
     p
 }
 
