@@ -15,7 +15,7 @@ use Rattle.executive.specs.declared.Task.{Task}
 use Rattle.executive.specs.declared.Work.{Work}
 use Rattle.executive.specs.Entries.{risen}
 use Rattle.executive.specs.Places.{nextOf}
-use Rattle.executive.specs.Rests.{isDue, each, rung}
+use Rattle.executive.specs.Rests.{remade, isDue, each, rung}
 use Rattle.executive.specs.Plans.{rises, risers}
 use Rattle.executive.specs.Table.{never, noTask, taskAt, Flying, admit, admits}
 use Rattle.executive.proofs.Flight.{each-turn, turned, turned-drop, turn, admits-flying}
@@ -76,7 +76,7 @@ module _ {A : Type 0} (t : A → Bool) (d : A) (l : List A) where
 
 -- ---- the alarms
 abbrev pub ringing : Rest → Millis → List Millis → ℕ → Rest
-ringing b now alarms flags = record { count = b .count; granule = b .granule; clock = now; flags = flags; alarms = alarms; pool = b .pool; queued = b .queued }
+ringing b now alarms flags = remade now flags alarms (b .pool) (b .queued) b
 
 module _ (b : Rest) (now : Millis) (alarms : List Millis) (flags : ℕ) where
   rung-not : (i : ℕ) → isDue (now .0) (getD alarms i never) ≡ false → rung (ringing b now alarms flags) i ≡ ringing b now alarms flags

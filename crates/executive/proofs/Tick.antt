@@ -17,7 +17,7 @@ use Rattle.executive.specs.Entries.{aimed}
 use Rattle.executive.specs.Plans.{over, risers, tickPlan}
 use Rattle.executive.specs.Numbers.{flagCount, endOfTime, longest}
 use Rattle.executive.specs.Queue.{pick}
-use Rattle.executive.specs.Rests.{withClock, each, isDue, rung, advanced}
+use Rattle.executive.specs.Rests.{remade, withFlags, flagSet, withAlarm, withClock, each, isDue, rung, advanced}
 use Rattle.executive.specs.Table.{never, requests}
 use Rattle.executive.specs.WellFormed.{is}
 use Rattle.executive.proofs.Formed.{Calm, Rested, Formed}
@@ -29,12 +29,12 @@ use Rattle.executive.proofs.Rising.{Tells, Done, all-risen}
 
 -- what an alarm leaves alone: anything but the flags and the alarms
 module _ {B : Type 0} (g : Rest → B)
-    (alone : (r : Rest) (fs : ℕ) (al : List Millis) → g (record { count = r .count; granule = r .granule; clock = r .clock; flags = fs; alarms = al; pool = r .pool; queued = r .queued }) ≡ g r) where
+    (alone : (r : Rest) (fs : ℕ) (al : List Millis) → g (remade (r .clock) fs al (r .pool) (r .queued) r) ≡ g r) where
   rung-alone : (r : Rest) (i : ℕ) → g (rung r i) ≡ g r
   unfolding rung
   rung-alone r i = go (isDue (r .clock .0) (getD (r .alarms) i never))
     where
-      go : (x : Bool) → g (pick x (record { count = r .count; granule = r .granule; clock = r .clock; flags = bitOr (r .flags) (2 ^ i); alarms = set (r .alarms) i never; pool = r .pool; queued = r .queued }) r) ≡ g r
+      go : (x : Bool) → g (pick x (withFlags (flagSet (r .flags) i) (withAlarm i never r)) r) ≡ g r
       go true = alone r (bitOr (r .flags) (2 ^ i)) (set (r .alarms) i never)
       go false = refl
 
@@ -109,7 +109,7 @@ rung-kept r k h = go (isDue (r .clock .0) (getD (r .alarms) k never)) refl
     same at = record { sized = h .sized; passed = up (λ (i : ℕ). 0 < getD (r .alarms) i never .0 → r .clock .0 < getD (r .alarms) i never .0) (h .passed) at; near = h .near }
 
     go : (x : Bool) → isDue (r .clock .0) (getD (r .alarms) k never) ≡ x
-        → Rung (pick x (record { count = r .count; granule = r .granule; clock = r .clock; flags = bitOr (r .flags) (2 ^ k); alarms = set (r .alarms) k never; pool = r .pool; queued = r .queued }) r) (k + 1)
+        → Rung (pick x (withFlags (flagSet (r .flags) k) (withAlarm k never r)) r) (k + 1)
     go true e = record {
       sized = length-set (r .alarms) k never ∙ h .sized;
       passed = up (λ (i : ℕ). 0 < getD (set (r .alarms) k never) i never .0 → r .clock .0 < getD (set (r .alarms) k never) i never .0)

@@ -13,9 +13,21 @@ use Rattle.executive.specs.Numbers.{flagCount, mostQueued}
 use Rattle.executive.specs.Queue.{pick}
 use Rattle.executive.specs.Table.{never, noRequest, pad}
 
+-- ---- made anew: the clock, the flags, the alarms, the pool and the number of its requests; all else as it was
+abbrev pub remade : Millis → ℕ → List Millis → List Request → ℕ → Rest → Rest
+remade c fs al p n r = record {
+  count = r .count;
+  granule = r .granule;
+  clock = c;
+  flags = fs;
+  alarms = al;
+  pool = p;
+  queued = n;
+}
+
 -- ---- the pool
 abbrev pub withRequests : List Request → Rest → Rest
-withRequests p r = record { count = r .count; granule = r .granule; clock = r .clock; flags = r .flags; alarms = r .alarms; pool = pad mostQueued noRequest p; queued = length p }
+withRequests p r = remade (r .clock) (r .flags) (r .alarms) (pad mostQueued noRequest p) (length p) r
 
 -- the place of the earliest request for task k; the number of requests where there is none. The requests without
 -- the one at a place
@@ -28,7 +40,7 @@ removed i rs = take i rs ++ drop (suc i) rs
 
 -- ---- the flags: flag n is bit n
 abbrev pub withFlags : ℕ → Rest → Rest
-withFlags fs r = record { count = r .count; granule = r .granule; clock = r .clock; flags = fs; alarms = r .alarms; pool = r .pool; queued = r .queued }
+withFlags fs r = remade (r .clock) fs (r .alarms) (r .pool) (r .queued) r
 
 unfoldable pub isSet : ℕ → ℕ → Bool
 isSet fs n = not (eqb (bitAnd fs (2 ^ n)) 0)
@@ -42,11 +54,11 @@ flagReset fs n = bitAnd fs (4294967295 - 2 ^ n)
 
 -- ---- the alarms: the one of flag n is at place n; 0 where it is not running
 abbrev pub withAlarm : ℕ → Millis → Rest → Rest
-withAlarm n at r = record { count = r .count; granule = r .granule; clock = r .clock; flags = r .flags; alarms = set (r .alarms) n at; pool = r .pool; queued = r .queued }
+withAlarm n at r = remade (r .clock) (r .flags) (set (r .alarms) n at) (r .pool) (r .queued) r
 
 -- ---- the clock
 abbrev pub withClock : Millis → Rest → Rest
-withClock c r = record { count = r .count; granule = r .granule; clock = c; flags = r .flags; alarms = r .alarms; pool = r .pool; queued = r .queued }
+withClock c r = remade c (r .flags) (r .alarms) (r .pool) (r .queued) r
 
 -- a step for each of n numbers, ascending from k
 unfoldable pub each : {A : Type 0} → (A → ℕ → A) → ℕ → ℕ → A → A
@@ -61,7 +73,7 @@ isDue c a = pick (eqb (a .0) 0) false (leb (a .0) c)
 unfoldable pub rung : Rest → ℕ → Rest
 rung r i =
     pick (isDue (r .clock .0) (getD (r .alarms) i never))
-    (record { count = r .count; granule = r .granule; clock = r .clock; flags = bitOr (r .flags) (2 ^ i); alarms = set (r .alarms) i never; pool = r .pool; queued = r .queued })
+    (withFlags (flagSet (r .flags) i) (withAlarm i never r))
     r
 
 -- the clock gains one granule; due alarms set their flags and are cleared
