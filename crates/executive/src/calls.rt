@@ -56,10 +56,7 @@ impl Table {
         let waiter = old.end_waiter;
         let gone = entries::asleep(old);
         let t = self.depart(gone);
-        let w = Work {
-            table: t,
-            full: false,
-        };
+        let w = t.begin();
         let w1 = w.wake(waiter);
         let rest = self.rest;
         let pool = rest.pool;
@@ -90,10 +87,7 @@ impl Table {
         let aim = clock::aim_at(start, now, param, count);
         let gone = entries::due(old, aim);
         let t = self.depart(gone);
-        let w = Work {
-            table: t,
-            full: false,
-        };
+        let w = t.begin();
         let w1 = w.wake(waiter);
         if aim.0 <= now.0 {
             return w1.raise(k);
@@ -107,10 +101,7 @@ impl Table {
         ensures { λ r. ⌜ r ≡ carry (pausePlan self unit count) self ⌝ }
     {
         if count == 0 {
-            return Work {
-                table: self,
-                full: false,
-            };
+            return self.begin();
         }
         let queue = self.queue;
         let tasks = self.tasks;
@@ -119,10 +110,7 @@ impl Table {
         let until = Millis(self.rest.clock.0 + wait.0);
         let e = entries::with_state(old, State::Paused(until));
         let t = self.depart(e);
-        Work {
-            table: t,
-            full: false,
-        }
+        t.begin()
     }
 
     // Kind 03: only a paused task enters, not a due one.
@@ -133,10 +121,7 @@ impl Table {
         let tasks = self.tasks;
         let e = places::task_at(tasks, k);
         let s = e.state;
-        let w = Work {
-            table: self,
-            full: false,
-        };
+        let w = self.begin();
         if is_paused(s) {
             return w.raise(k);
         }
@@ -152,10 +137,7 @@ impl Table {
         let rest = old.advance();
         let now = rest.clock;
         let flags = rest.flags;
-        let w = Work {
-            table: self,
-            full: false,
-        };
+        let w = self.begin();
         let w1 = w.rise_all(now, flags);
         w1.with_rest(rest)
     }

@@ -225,10 +225,8 @@ pub fn fresh(bytes: &[u8]) -> Fresh
     let n = tasks_in(bytes);
     let tasks = all_dormant(bytes, n);
     let rest = blank_rest(n, at(bytes, 1));
-    let w = Work {
-        table: table_of(tasks, rest),
-        full: false,
-    };
+    let blank = table_of(tasks, rest);
+    let w = blank.begin();
     let v = start_marked(w, bytes, n);
     made(0, v.table)
 }

@@ -89,10 +89,7 @@ impl Table {
         let rest = old.with_flag(f);
         let now = old.clock;
         let flags = rest.flags;
-        let w = Work {
-            table: self,
-            full: false,
-        };
+        let w = self.begin();
         let w1 = w.rise_all(now, flags);
         w1.with_rest(rest)
     }
@@ -104,10 +101,7 @@ impl Table {
     {
         let old = self.rest;
         let rest = old.without_flag(f);
-        let w = Work {
-            table: self,
-            full: false,
-        };
+        let w = self.begin();
         w.with_rest(rest)
     }
 
@@ -122,10 +116,7 @@ impl Table {
         if operation == 1 {
             return self.set(f);
         }
-        Work {
-            table: self,
-            full: false,
-        }
+        self.begin()
     }
 
     // Kind 0A: the caller departs, unless its condition holds already.
@@ -136,16 +127,10 @@ impl Table {
         let m = mode_of(mode);
         let flags = self.rest.flags;
         if is_met(flags, m, mask) {
-            return Work {
-                table: self,
-                full: false,
-            };
+            return self.begin();
         }
         let t = self.depart_as(State::Flags(m, mask));
-        Work {
-            table: t,
-            full: false,
-        }
+        t.begin()
     }
 
     // Kind 0B, its interval in range.
@@ -160,10 +145,7 @@ impl Table {
         let old = self.rest;
         let at = Millis(old.clock.0 + wait.0);
         let rest = old.with_alarm(f, at);
-        let w = Work {
-            table: self,
-            full: false,
-        };
+        let w = self.begin();
         w.with_rest(rest)
     }
 }

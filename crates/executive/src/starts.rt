@@ -120,10 +120,7 @@ impl Table {
         let rest = self.rest;
         let now = rest.clock;
         let k = q.target;
-        let w = Work {
-            table: t,
-            full: false,
-        };
+        let w = t.begin();
         w.commence(k, q, now)
     }
 
@@ -135,10 +132,7 @@ impl Table {
         let t = self.go_out(wt);
         let rest = self.rest;
         let more = rest.with_request(q);
-        let w = Work {
-            table: t,
-            full: false,
-        };
+        let w = t.begin();
         w.with_rest(more)
     }
 
@@ -154,10 +148,7 @@ impl Table {
             let q = self.request(Wait::Goes, option, k, 0);
             return self.start(q, Wait::Goes);
         }
-        Work {
-            table: self,
-            full: false,
-        }
+        self.begin()
     }
 
     // Kind 05, with room in the pool for a busy target's request.

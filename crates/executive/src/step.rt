@@ -64,10 +64,7 @@ impl Table {
         requires { ⌜ WellFormed self × (earlyOf self call ≡ 0) ⌝ }
         ensures { λ r. ⌜ r ≡ carry (planOf self call) self ⌝ }
     {
-        let same = Work {
-            table: self,
-            full: false,
-        };
+        let same = self.begin();
         match call {
             Call::Terminate => self.terminate(),
             Call::Restart { parameter, count } => self.restart(parameter, count),

@@ -16,13 +16,22 @@ returns c = rw (c .set .ensures, c .before .if1 .taken) refl
 
 add-t11 : tie.Need-add-t11
 add-t11 c =
-    let s = c .before .before .before .before .before in
+    let c4 = c .before .before .before .before in
+    let s = c4 .before in
     let b : c .before .before .before .millis-of .result .0 ≤ longest = rw (c .before .before .before .millis-of .ensures) (interval-most (s .args .unit) (s .args .count) (omega arith)) in
     omega (arith, s .pre .3)
 
 returns-2 : tie.Need-returns-2
 unfolding alarmPlan carry depart admits
-returns-2 c = rw (ne-eqb _ _ (c .before .before .before .before .before .before .if1 .left), c .with-rest .ensures, c .before .with-alarm .ensures, c .before .before .before .before .before .millis-of .ensures) refl
+returns-2 c =
+    let c4 = c .before .before .before .before in
+    rw (
+      ne-eqb _ _ (c4 .before .before .before .if1 .left),
+      c .with-rest .ensures,
+      c .before .begin .ensures,
+      c .before .before .with-alarm .ensures,
+      c4 .before .before .millis-of .ensures,
+    ) refl
 
 pub alarm-spec : {M : Type 1} → statement M
 alarm-spec =
@@ -32,6 +41,7 @@ alarm-spec =
     returns
     (λ c κs. search needs)
     add-t11
+    (λ c κs. search needs)
     (λ c κs. search needs)
     (λ c κs. search needs)
     returns-2)

@@ -16,7 +16,14 @@ with-rest-requires c κs = search needs
 
 returns : tie.Need-returns
 unfolding queuePlan carry admits
-returns c = rw (c .with-rest .ensures, c .before .with-request .ensures, c .before .before .before .go-out .ensures) refl
+returns c =
+    let c4 = c .before .before .before .before in
+    rw (
+      c .with-rest .ensures,
+      c .before .begin .ensures,
+      c .before .before .with-request .ensures,
+      c4 .go-out .ensures,
+    ) refl
 
 pub ask-spec : {M : Type 1} → statement M
-ask-spec = tie.close (tie.spec go-out-requires with-request-requires with-rest-requires returns)
+ask-spec = tie.close (tie.spec go-out-requires with-request-requires (λ c κs. search needs) with-rest-requires returns)

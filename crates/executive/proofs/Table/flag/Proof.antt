@@ -16,7 +16,20 @@ returns-2 c = rw (c .set .ensures, c .before .if2 .taken) refl
 
 returns-3 : tie.Need-returns-3
 unfolding flagPlan
-returns-3 c = rw (ne-eqb _ _ (c .before .if1 .left), ne-eqb _ _ (c .if2 .left)) (unchanged (c .before .before .args .self))
+returns-3 c =
+    rw (
+      c .begin .ensures,
+      ne-eqb _ _ (c .before .before .if1 .left),
+      ne-eqb _ _ (c .before .if2 .left),
+    ) (unchanged (c .before .before .before .args .self))
 
 pub flag-spec : {M : Type 1} → statement M
-flag-spec = tie.close (tie.spec (λ c κs. search needs) returns (λ c κs. search needs) returns-2 returns-3)
+flag-spec =
+    tie.close
+    (tie.spec
+    (λ c κs. search needs)
+    returns
+    (λ c κs. search needs)
+    returns-2
+    (λ c κs. search needs)
+    returns-3)

@@ -13,7 +13,7 @@ use Rattle.executive.proofs.Table.pause.Tie as tie
 
 returns : tie.Need-returns
 unfolding pausePlan carry depart admits
-returns c = rw (c .if1 .taken) refl
+returns c = rw (c .begin .ensures, c .before .if1 .taken) refl
 
 array-copy-out-task-at : tie.Need-array-copy-out-task-at
 array-copy-out-task-at c = search needs
@@ -39,13 +39,16 @@ depart-requires c κs = search needs
 returns-2 : tie.Need-returns-2
 unfolding pausePlan carry depart departed admits
 returns-2 c =
-    let s = c .before .before .before .before .before .before .before .before .before .before in
+    let c4 = c .before .before .before .before in
+    let c8 = c4 .before .before .before .before in
+    let s = c8 .before .before .before in
     rw (
-      ne-eqb (s .args .count) 0 (c .before .before .before .before .before .before .before .before .before .if1 .left),
-      c .depart .ensures,
-      c .before .with-state .ensures,
-      c .before .before .before .before .millis-of .ensures,
-      c .before .before .before .before .before .task-at .ensures,
+      ne-eqb (s .args .count) 0 (c8 .before .before .if1 .left),
+      c .begin2 .ensures,
+      c .before .depart .ensures,
+      c .before .before .with-state .ensures,
+      c4 .before .millis-of .ensures,
+      c4 .before .before .task-at .ensures,
       head-line (s .args .self) (s .pre .0) nobody (s .pre .1),
     ) refl
 
@@ -53,6 +56,7 @@ pub pause-spec : {M : Type 1} → statement M
 pause-spec =
     tie.close
     (tie.spec
+    (λ c κs. search needs)
     returns
     array-copy-out-task-at
     task-at-requires
@@ -60,4 +64,5 @@ pause-spec =
     add-t15
     with-state-requires
     depart-requires
+    (λ c κs. search needs)
     returns-2)

@@ -7,7 +7,7 @@ use Rattle.executive.proofs.Table.reset.Tie as tie
 
 returns : tie.Need-returns
 unfolding resetPlan carry depart admits
-returns c = rw (c .with-rest .ensures, c .before .without-flag .ensures) refl
+returns c = rw (c .with-rest .ensures, c .before .begin .ensures, c .before .before .without-flag .ensures) refl
 
 pub reset-spec : {M : Type 1} → statement M
-reset-spec = tie.close (tie.spec (λ c κs. search needs) (λ c κs. search needs) returns)
+reset-spec = tie.close (tie.spec (λ c κs. search needs) (λ c κs. search needs) (λ c κs. search needs) returns)

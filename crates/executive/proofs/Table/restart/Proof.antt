@@ -23,22 +23,57 @@ depart-requires : tie.Need-depart-requires
 depart-requires c κs = c .before .before .before .before .before .before .before .before .before .before .pre .0 .fit
 
 wake-requires : tie.Need-wake-requires
-wake-requires c κs = rw (c .depart .ensures) (begin-flying _ (departed-fit _ (c .before .before .before .before .before .before .before .before .before .before .before .pre .0 .fit) _))
+wake-requires c κs =
+    let c4 = c .before .before .before .before in
+    let c8 = c4 .before .before .before .before in
+    let c12 = c8 .before .before .before .before in
+    rw (c .begin .ensures, c .before .depart .ensures) (begin-flying _ (departed-fit _ (c12 .pre .0 .fit) _))
 
 raise-requires : tie.Need-raise-requires
-raise-requires c κs = rw (c .before .before .before .wake .ensures, c .before .before .before .before .depart .ensures) (admits-flying _ _ (begin-flying _ (departed-fit _ (c .before .before .before .before .before .before .before .before .before .before .before .before .before .before .before .pre .0 .fit) _)))
+raise-requires c κs =
+    let c4 = c .before .before .before .before in
+    let c8 = c4 .before .before .before .before in
+    let c12 = c8 .before .before .before .before in
+    let c16 = c12 .before .before .before .before in
+    rw (
+      c .before .before .before .wake .ensures,
+      c4 .begin .ensures,
+      c4 .before .depart .ensures,
+    ) (admits-flying _ _ (begin-flying _ (departed-fit _ (c16 .pre .0 .fit) _)))
 
 returns : tie.Need-returns
 returns c =
-    let s = c .before .before .before .before .before .before .before .before .before .before .before .before .before .before .before .before in
-    rw (c .raise .ensures, c .before .before .before .before .wake .ensures, c .before .before .before .before .before .depart .ensures, c .before .before .before .before .before .before .due .ensures, c .before .before .before .before .before .before .before .before .before .before .before .before .task-at .ensures)
-    (restarted-now (s .args .self) (s .pre .0 .fit) (s .pre .1) (s .args .param) (s .args .count) _ (rw (c .before .before .before .before .before .before .before .before .before .before .before .before .task-at .ensures) at (c .before .before .before .before .before .before .before .aim-at .ensures)) (c .before .if1 .taken))
+    let c4 = c .before .before .before .before in
+    let c8 = c4 .before .before .before .before in
+    let c12 = c8 .before .before .before .before in
+    let c16 = c12 .before .before .before .before in
+    let s = c16 .before in
+    rw (
+      c .raise .ensures,
+      c4 .wake .ensures,
+      c4 .before .begin .ensures,
+      c4 .before .before .depart .ensures,
+      c4 .before .before .before .due .ensures,
+      c12 .before .task-at .ensures,
+    )
+    (restarted-now (s .args .self) (s .pre .0 .fit) (s .pre .1) (s .args .param) (s .args .count) _
+    (rw (c12 .before .task-at .ensures) at (c8 .aim-at .ensures)) (c .before .if1 .taken))
 
 returns-2 : tie.Need-returns-2
 returns-2 c =
-    let s = c .before .before .before .before .before .before .before .before .before .before .before .before .before .before .before in
-    rw (c .before .before .before .wake .ensures, c .before .before .before .before .depart .ensures, c .before .before .before .before .before .due .ensures, c .before .before .before .before .before .before .before .before .before .before .before .task-at .ensures)
-    (restarted-later (s .args .self) (s .pre .0 .fit) (s .pre .1) (s .args .param) (s .args .count) _ (rw (c .before .before .before .before .before .before .before .before .before .before .before .task-at .ensures) at (c .before .before .before .before .before .before .aim-at .ensures)) (c .if1 .left))
+    let c4 = c .before .before .before .before in
+    let c8 = c4 .before .before .before .before in
+    let c12 = c8 .before .before .before .before in
+    let s = c12 .before .before .before .before in
+    rw (
+      c .before .before .before .wake .ensures,
+      c4 .begin .ensures,
+      c4 .before .depart .ensures,
+      c4 .before .before .due .ensures,
+      c12 .task-at .ensures,
+    )
+    (restarted-later (s .args .self) (s .pre .0 .fit) (s .pre .1) (s .args .param) (s .args .count) _
+    (rw (c12 .task-at .ensures) at (c4 .before .before .before .aim-at .ensures)) (c .if1 .left))
 
 pub restart-spec : {M : Type 1} → statement M
 restart-spec =
@@ -49,6 +84,7 @@ restart-spec =
     aim-at-requires
     due-requires
     depart-requires
+    (λ c κs. search needs)
     wake-requires
     raise-requires
     returns

@@ -12,13 +12,24 @@ go-out-requires : tie.Need-go-out-requires
 go-out-requires c κs = search needs
 
 commence-requires : tie.Need-commence-requires
-commence-requires c κs = rw (c .before .before .before .go-out .ensures) (begin-flying _ (depart-fit _ (c .before .before .before .before .before .args .self) (c .before .before .before .before .before .pre .0)))
+commence-requires c κs =
+    let c4 = c .before .before .before .before in
+    rw (
+      c .begin .ensures,
+      c4 .go-out .ensures,
+    ) (begin-flying _ (depart-fit _ (c4 .before .before .args .self) (c4 .before .before .pre .0)))
 
 returns : tie.Need-returns
 unfolding startPlan
 returns c =
-    let t = c .before .before .before .before .before .before .args .self in
-    rw (c .commence .ensures, c .before .before .before .before .go-out .ensures, c .before .before .before .before .before .at-once .ensures) (sym (carry-still (startPlan t (c .before .before .before .before .before .before .args .q) (c .before .before .before .before .before .before .args .wt)) t refl))
+    let c4 = c .before .before .before .before in
+    let a = c4 .before .before .before .args in
+    rw (
+      c .commence .ensures,
+      c .before .begin .ensures,
+      c4 .before .go-out .ensures,
+      c4 .before .before .at-once .ensures,
+    ) (sym (carry-still (startPlan (a .self) (a .q) (a .wt)) (a .self) refl))
 
 pub start-spec : {M : Type 1} → statement M
-start-spec = tie.close (tie.spec at-once-requires go-out-requires commence-requires returns)
+start-spec = tie.close (tie.spec at-once-requires go-out-requires (λ c κs. search needs) commence-requires returns)

@@ -23,8 +23,14 @@ returns c =
 
 start-marked-requires : tie.Need-start-marked-requires
 start-marked-requires c κs =
-    let m = c .before .before .before .before in (
-      rw (c .table-of2 .ensures, c .before .blank-rest2 .ensures, c .before .before .before .all-dormant2 .ensures)
+    let c4 = c .before .before .before .before in
+    let m = c4 .before in (
+      rw (
+        c .begin .ensures,
+        c .before .table-of2 .ensures,
+        c .before .before .blank-rest2 .ensures,
+        c4 .all-dormant2 .ensures,
+      )
           (begin-flying _ (dormant-fit _ _ _ (m .tasks-in .ensures .1))),
       m .tasks-in .ensures .1,
     )
@@ -32,13 +38,14 @@ start-marked-requires c κs =
 returns-2 : tie.Need-returns-2
 unfolding freshOf freshTable dormantTable
 returns-2 c =
-    let m = c .before .before .before .before in
+    let m = c .before .before .before .before .before in
     let l = m .before .before .before .before in
     rw (
       c .made2 .ensures,
       c .before .start-marked .ensures,
-      c .before .before .table-of2 .ensures,
-      c .before .before .before .blank-rest2 .ensures,
+      c .before .before .begin .ensures,
+      c .before .before .before .table-of2 .ensures,
+      c .before .before .before .before .blank-rest2 .ensures,
       m .at .ensures,
       m .before .all-dormant2 .ensures,
       m .before .before .tasks-in .ensures .0,
@@ -56,6 +63,7 @@ fresh-spec =
     (λ c κs. search needs)
     (λ c κs. search needs)
     returns
+    (λ c κs. search needs)
     (λ c κs. search needs)
     (λ c κs. search needs)
     (λ c κs. search needs)
