@@ -63,6 +63,13 @@ need() {
     return 1
 }
 
+# rust COMMAND..: a command of Rust, the distribution's own where it is there: the tests are to build with the oldest
+# compiler that a fresh machine may install, so a newer one beside it is passed over.
+rust() (
+    [ ! -x "/usr/bin/$1" ] || PATH=/usr/bin:/bin
+    exec "$@"
+)
+
 # kit: the Rattle kit and the commands that it calls; as root it runs programs as nobody, by setpriv.
 kit() {
     if ! command -v rt >/dev/null 2>&1; then

@@ -45,6 +45,6 @@ impl Counts {
                 sum.steps, sum.least, sum.most
             );
         }
-        self.0.get("").is_some_and(|sum| sum.least > 0)
+        self.0.get("").map_or(false, |sum| sum.least > 0)
     }
 }

@@ -6,39 +6,55 @@ mod linked;
 #[path = "piped.rs"]
 mod piped;
 
-pub use piped::spent;
+use piped::Program;
 
-/// A fresh table's number, and the image's bytes after it.
-pub fn fresh(config: &[u8], image: &[u8]) -> (u32, Vec<u8>) {
-    let mut image = Guarded::new(image);
-    let number = match piped::program() {
-        Some(program) => program.fresh(config, image.inside()),
-        None => linked::fresh(config, image.inside()),
-    };
-    (number, image.open())
-}
+/// The library: linked, or through a program.
+pub struct Library(Option<Program>);
 
-/// The number of an image's check.
-pub fn check(image: &[u8]) -> u32 {
-    match piped::program() {
-        Some(program) => program.check(image),
-        None => linked::check(image),
+impl Library {
+    /// As BOARD_CALLS has it; else what is wrong with its program.
+    pub fn open() -> Result<Library, String> {
+        let program = std::env::var_os("BOARD_CALLS").map(Program::start);
+        Ok(Library(program.transpose()?))
     }
-}
 
-/// A step's number, and the bytes of image and answer after it.
-pub fn step(image: &[u8], record: &[u8], answer: &[u8]) -> (u32, Vec<u8>, Vec<u8>) {
-    let mut image = Guarded::new(image);
-    let mut answer = Guarded::new(answer);
-    let number = step_in_place(image.inside(), record, answer.inside());
-    (number, image.open(), answer.open())
-}
+    /// A fresh table's number, and the image's bytes after it.
+    pub fn fresh(&mut self, config: &[u8], image: &[u8]) -> (u32, Vec<u8>) {
+        let mut image = Guarded::new(image);
+        let number = match &mut self.0 {
+            Some(program) => program.fresh(config, image.inside()),
+            None => linked::fresh(config, image.inside()),
+        };
+        (number, image.open())
+    }
 
-/// A step's number; image and answer are left as it left them.
-pub fn step_in_place(image: &mut [u8], record: &[u8], answer: &mut [u8]) -> u32 {
-    match piped::program() {
-        Some(program) => program.step(image, record, answer),
-        None => linked::step(image, record, answer),
+    /// The number of an image's check.
+    pub fn check(&mut self, image: &[u8]) -> u32 {
+        match &mut self.0 {
+            Some(program) => program.check(image),
+            None => linked::check(image),
+        }
+    }
+
+    /// A step's number, and the bytes of image and answer after it.
+    pub fn step(&mut self, image: &[u8], record: &[u8], answer: &[u8]) -> (u32, Vec<u8>, Vec<u8>) {
+        let mut image = Guarded::new(image);
+        let mut answer = Guarded::new(answer);
+        let number = self.step_in_place(image.inside(), record, answer.inside());
+        (number, image.open(), answer.open())
+    }
+
+    /// A step's number; image and answer are left as it left them.
+    pub fn step_in_place(&mut self, image: &mut [u8], record: &[u8], answer: &mut [u8]) -> u32 {
+        match &mut self.0 {
+            Some(program) => program.step(image, record, answer),
+            None => linked::step(image, record, answer),
+        }
+    }
+
+    /// The instructions of the last call; 0 where nothing counts them.
+    pub fn spent(&self) -> u32 {
+        self.0.as_ref().map_or(0, Program::spent)
     }
 }
 

@@ -3,25 +3,26 @@
 use crate::bench::{cut, LONGEST_INPUT};
 use crate::executive::fresh_from_start;
 use crate::image::LENGTH;
-use crate::{library, ANSWER};
+use crate::library::Library;
+use crate::ANSWER;
 use std::io::{Read, Write};
 
 /// False where the input cannot be read or the listing not be written.
-pub fn listing() -> bool {
+pub fn listing(library: &mut Library) -> bool {
     let mut input = Vec::new();
     std::io::stdin().lock().read_to_end(&mut input).is_ok()
         && std::io::stdout()
             .lock()
-            .write_all(of(&input).as_bytes())
+            .write_all(of(library, &input).as_bytes())
             .is_ok()
 }
 
-fn of(input: &[u8]) -> String {
+fn of(library: &mut Library, input: &[u8]) -> String {
     if input.len() > LONGEST_INPUT {
         return "stop 12\n".to_string();
     }
     let used = fresh_from_start(input).map_or(input.len(), |(_, used)| used);
-    let (number, mut image) = library::fresh(&input[..used], &[0; LENGTH]);
+    let (number, mut image) = library.fresh(&input[..used], &[0; LENGTH]);
     if number != 0 {
         return format!("stop {number}\n");
     }
@@ -38,7 +39,7 @@ fn of(input: &[u8]) -> String {
             Err(stop) => return out + &format!("stop {stop}\n"),
         };
         step += 1;
-        let (number, after, answer) = library::step(&image, record, &[0; ANSWER]);
+        let (number, after, answer) = library.step(&image, record, &[0; ANSWER]);
         let [_, z, v, c, active] = [0, 1, 2, 3, 4].map(|place| answer[place]);
         out += &format!("{step} {:02X} {number} {z}{v}{c} {active}\n", record[0]);
         image = after;

@@ -1,34 +1,42 @@
-//! The board library's functions on another machine, called through the program that BOARD_CALLS names (`calls.c`).
+//! The board library's functions on another machine, called through a program of its own (`calls.c`).
 
+use std::ffi::OsString;
 use std::io::{Read, Write};
-use std::process::{Child, Command, Stdio};
-use std::sync::atomic::{AtomicU32, Ordering};
-use std::sync::{Mutex, OnceLock};
+use std::process::{Child, ChildStdin, ChildStdout, Command, Stdio};
 
-static PROGRAM: OnceLock<Option<Program>> = OnceLock::new();
-static SPENT: AtomicU32 = AtomicU32::new(0);
-
-/// The program, started at the first call; `None` where BOARD_CALLS names none.
-pub fn program() -> Option<&'static Program> {
-    let start = || {
-        let mut command = Command::new(std::env::var_os("BOARD_CALLS")?);
-        command.stdin(Stdio::piped()).stdout(Stdio::piped());
-        let child = command.spawn().expect("the program can be started");
-        Some(Program(Mutex::new(child)))
-    };
-    PROGRAM.get_or_init(start).as_ref()
+/// The program at work: what it reads, what it writes, and the instructions of its last call.
+pub struct Program {
+    _child: Child,
+    into: ChildStdin,
+    from: ChildStdout,
+    spent: u32,
 }
-
-/// The instructions of the last call through the program; 0 where nothing counts them.
-pub fn spent() -> u32 {
-    SPENT.load(Ordering::Relaxed)
-}
-
-pub struct Program(Mutex<Child>);
 
 impl Program {
+    /// Starts it; else says why it cannot be.
+    pub fn start(path: OsString) -> Result<Program, String> {
+        let mut command = Command::new(&path);
+        command.stdin(Stdio::piped()).stdout(Stdio::piped());
+        let mut child = command
+            .spawn()
+            .map_err(|why| format!("{} cannot be started: {why}.", path.to_string_lossy()))?;
+        let into = child.stdin.take().expect("standard input is a pipe");
+        let from = child.stdout.take().expect("standard output is a pipe");
+        Ok(Program {
+            _child: child,
+            into,
+            from,
+            spent: 0,
+        })
+    }
+
+    /// The instructions of the last call; 0 where nothing counts them.
+    pub fn spent(&self) -> u32 {
+        self.spent
+    }
+
     /// One call: the number that it returns; image and answer are left as it left them.
-    fn call(&self, kind: u8, image: &mut [u8], given: &[u8], answer: &mut [u8]) -> u32 {
+    fn call(&mut self, kind: u8, image: &mut [u8], given: &[u8], answer: &mut [u8]) -> u32 {
         let mut said = vec![kind];
         for part in [&*image, given, &*answer] {
             let length = u32::try_from(part.len()).expect("a buffer is short");
@@ -37,30 +45,28 @@ impl Program {
         for part in [&*image, given, &*answer] {
             said.extend(part);
         }
-        let mut program = self.0.lock().expect("one call at a time");
-        let into = program.stdin.as_mut().expect("a pipe");
-        into.write_all(&said).expect("the program reads a call");
-        let from = program.stdout.as_mut().expect("a pipe");
+        let told = self.into.write_all(&said);
+        told.expect("the program reads a call");
         let (mut number, mut instructions) = ([0; 4], [0; 4]);
         for part in [&mut number, &mut instructions, image, answer] {
-            from.read_exact(part).expect("the program answers");
+            self.from.read_exact(part).expect("the program answers");
         }
-        SPENT.store(u32::from_be_bytes(instructions), Ordering::Relaxed);
+        self.spent = u32::from_be_bytes(instructions);
         u32::from_be_bytes(number)
     }
 
-    pub fn fresh(&self, config: &[u8], image: &mut [u8]) -> u32 {
+    pub fn fresh(&mut self, config: &[u8], image: &mut [u8]) -> u32 {
         self.call(b'f', image, config, &mut [])
     }
 
-    pub fn check(&self, image: &[u8]) -> u32 {
+    pub fn check(&mut self, image: &[u8]) -> u32 {
         let mut after = image.to_vec();
         let number = self.call(b'c', &mut after, &[], &mut []);
         assert!(after == image, "the check wrote to the image");
         number
     }
 
-    pub fn step(&self, image: &mut [u8], record: &[u8], answer: &mut [u8]) -> u32 {
+    pub fn step(&mut self, image: &mut [u8], record: &[u8], answer: &mut [u8]) -> u32 {
         self.call(b's', image, record, answer)
     }
 }

@@ -2,15 +2,14 @@
 
 use crate::executive::{fresh_from_start, step, Table};
 use crate::image::{decode, encode};
-use crate::library::step_in_place;
+use crate::library::Library;
 use crate::mixes::{median, mixes};
 use crate::short::{records_of, short_mixes};
 use crate::{answer_bytes, ANSWER};
-use std::hint::black_box;
 use std::time::Instant;
 
 /// The ways to take a mix's steps: from the first table through all records, to the last image.
-type Way = fn(&Table, &[&[u8]]) -> Vec<u8>;
+type Way = fn(&mut Library, &Table, &[&[u8]]) -> Vec<u8>;
 const WAYS: [(&str, Way); 3] = [
     ("board library", by_library),
     ("second", by_table),
@@ -18,12 +17,12 @@ const WAYS: [(&str, Way); 3] = [
 ];
 
 /// Prints times and ratios for the three mixes; false where the last images differ.
-pub fn speed(rounds: usize) -> bool {
+pub fn speed(library: &mut Library, rounds: usize) -> bool {
     println!("one step through the board library: load, check, step, store");
     for (name, input) in mixes() {
         let (table, used) = fresh_from_start(&input).expect("a mix has a configuration");
         let records = records_of(&input[used..]);
-        let images = WAYS.map(|(_, way)| way(&table, &records));
+        let images = WAYS.map(|(_, way)| way(library, &table, &records));
         if images.iter().any(|image| *image != images[0]) {
             println!("{name}: the images differ");
             return false;
@@ -32,7 +31,7 @@ pub fn speed(rounds: usize) -> bool {
         for _ in 0..rounds {
             for ((_, way), times) in WAYS.iter().zip(&mut times) {
                 let begun = Instant::now();
-                black_box(way(&table, &records));
+                looked_at(way(library, &table, &records));
                 times.push(begun.elapsed().as_secs_f64() / records.len() as f64);
             }
         }
@@ -44,44 +43,50 @@ pub fn speed(rounds: usize) -> bool {
 
 /// So many passes through a short mix in one way, for whoever counts the instructions of the whole; prints the steps
 /// of a pass. `None` where there is no such way or mix.
-pub fn passes(way: &str, mix: &str, passes: u32) -> Option<bool> {
+pub fn passes(library: &mut Library, way: &str, mix: &str, passes: u32) -> Option<bool> {
     let (_, way) = WAYS.iter().find(|(name, _)| *name == way)?;
     let mixes = short_mixes();
     let (_, input) = mixes.iter().find(|(name, _)| *name == mix)?;
     let (table, used) = fresh_from_start(input)?;
     let records = records_of(&input[used..]);
     for _ in 0..passes {
-        black_box(way(&table, &records));
+        looked_at(way(library, &table, &records));
     }
     println!("{}", records.len());
     Some(true)
 }
 
-fn by_library(table: &Table, records: &[&[u8]]) -> Vec<u8> {
+/// Takes a value for looked at, so that no compiler leaves out what it was made by.
+fn looked_at<T>(value: T) {
+    // SAFETY: the value is there to be read, and its copy is not dropped.
+    std::mem::forget(unsafe { std::ptr::read_volatile(&value) });
+}
+
+fn by_library(library: &mut Library, table: &Table, records: &[&[u8]]) -> Vec<u8> {
     let mut image = encode(table);
     let mut answer = [0; ANSWER];
     for record in records {
-        step_in_place(&mut image, record, &mut answer);
-        black_box(&answer);
+        library.step_in_place(&mut image, record, &mut answer);
+        looked_at(answer);
     }
     image
 }
 
 /// The second program on its own table, which it checks at each step.
-fn by_table(table: &Table, records: &[&[u8]]) -> Vec<u8> {
+fn by_table(_: &mut Library, table: &Table, records: &[&[u8]]) -> Vec<u8> {
     let mut table = *table;
     for record in records {
-        black_box(answer_bytes(&step(&mut table, record)));
+        looked_at(answer_bytes(&step(&mut table, record)));
     }
     encode(&table)
 }
 
 /// The second program, decoding and encoding the image at each step.
-fn by_image(table: &Table, records: &[&[u8]]) -> Vec<u8> {
+fn by_image(_: &mut Library, table: &Table, records: &[&[u8]]) -> Vec<u8> {
     let mut image = encode(table);
     for record in records {
         let mut table = decode(&image).expect("an encoded table is an image");
-        black_box(answer_bytes(&step(&mut table, record)));
+        looked_at(answer_bytes(&step(&mut table, record)));
         image = encode(&table);
     }
     image

@@ -24,8 +24,10 @@ mod tables;
 use counts::Counts;
 use executive::{fresh, fresh_from_start, step_with, well_formed, Answer, Fault, UNITS};
 use image::{decode, encode, LENGTH};
+use library::Library;
 use met::{Met, Since};
 use runs::Rng;
+use short::records_of;
 use std::process::ExitCode;
 use std::time::Instant;
 
@@ -72,7 +74,8 @@ const WRONGS: [(&str, Wrong); 10] = [
 /// What a step gives: the number returned, and the bytes of image and answer after it.
 type Given = (u32, Vec<u8>, Vec<u8>);
 
-struct Trial {
+struct Trial<'a> {
+    library: &'a mut Library,
     seed: u64,
     wrong: Wrong,
     met: Met,
@@ -82,9 +85,10 @@ struct Trial {
 /// A difference in words, with its image and record in hex.
 type Told = Result<(), String>;
 
-impl Trial {
-    fn new(seed: u64, wrong: Wrong) -> Trial {
+impl Trial<'_> {
+    fn new(library: &mut Library, seed: u64, wrong: Wrong) -> Trial<'_> {
         Trial {
+            library,
             seed,
             wrong,
             met: Met::default(),
@@ -113,7 +117,7 @@ impl Trial {
                 .map(|byte| u8::from_str_radix(byte, 16).expect("a byte in hex"))
         });
         let image: Vec<u8> = bytes.collect();
-        if library::check(&image) != 0 {
+        if self.library.check(&image) != 0 {
             return Err("the image of an older board is refused".to_string());
         }
         self.image(&image, &[0x80])?;
@@ -129,18 +133,13 @@ impl Trial {
         let used = fresh_from_start(&bytes).map_or(bytes.len(), |(_, used)| used);
         self.fresh(&bytes[..used], rng)?;
         self.fresh(&bytes, rng)?;
-        let Some(table) = fresh(&bytes[..used]) else {
-            return Ok(());
+        let mut image = match fresh(&bytes[..used]) {
+            Some(table) => encode(&table),
+            None => return Ok(()),
         };
         let edits = rng.pick(&[6, 20, 60, 1000]);
         let mut since = Since::default();
-        let mut image = encode(&table);
-        let mut rest = &bytes[used..];
-        for _ in 0..LONGEST_WALK {
-            let Ok((record, more)) = bench::cut(rest) else {
-                break;
-            };
-            rest = more;
+        for record in records_of(&bytes[used..]).into_iter().take(LONGEST_WALK) {
             if rng.one_in(edits) {
                 let before = table_of(&image);
                 let edited = tables::edited(&before, rng);
@@ -187,9 +186,9 @@ impl Trial {
 
     /// An image of whatever content and length: its check, and a step from it.
     fn image(&mut self, image: &[u8], record: &[u8]) -> Told {
-        let sound = decode(image).is_some_and(|table| well_formed(&table));
+        let sound = decode(image).map_or(false, |table| well_formed(&table));
         let expected = u32::from(!sound ^ (self.wrong == Wrong::Check));
-        let given = library::check(image);
+        let given = self.library.check(image);
         if given != expected {
             return Err(format!(
                 "check: the library gives {given}, the model {expected}\nimage {}",
@@ -202,7 +201,7 @@ impl Trial {
 
     /// One step of both; the image after it.
     fn step(&mut self, image: &[u8], record: &[u8], answer: &[u8]) -> Result<Vec<u8>, String> {
-        let given = library::step(image, record, answer);
+        let given = self.library.step(image, record, answer);
         let expected = self.expected(image, record, answer);
         if given != expected {
             return Err(difference(image, record, &given, &expected));
@@ -212,7 +211,7 @@ impl Trial {
         if given.2.len() >= ANSWER {
             self.met.skipped(&given.2[8..ANSWER]);
         }
-        self.counts.add(record, number, library::spent());
+        self.counts.add(record, number, self.library.spent());
         Ok(given.1)
     }
 
@@ -254,7 +253,7 @@ impl Trial {
             Some(table) => (0, encode(&table)),
             None => (2, before.clone()),
         };
-        let given = library::fresh(config, &before);
+        let given = self.library.fresh(config, &before);
         if given != expected {
             return Err(format!(
                 "fresh: the library gives {}, the model {}, into {length} bytes\nconfiguration {}\nlibrary {}\nmodel   {}",
@@ -307,12 +306,12 @@ fn difference(image: &[u8], record: &[u8], given: &Given, expected: &Given) -> S
 }
 
 /// The instructions of each step, of the mixes and of a trial, compared with the model; true if nothing differs.
-fn instructions(steps: u64, seed: u64) -> bool {
+fn instructions(library: &mut Library, steps: u64, seed: u64) -> bool {
     for (name, input) in short::short_mixes() {
-        let mut trial = Trial::new(seed, Wrong::Nothing);
+        let mut trial = Trial::new(library, seed, Wrong::Nothing);
         let (table, used) = fresh_from_start(&input).expect("a mix has a configuration");
         let mut image = encode(&table);
-        for record in short::records_of(&input[used..]) {
+        for record in records_of(&input[used..]) {
             match trial.step(&image, record, &UNWRITTEN) {
                 Ok(after) => image = after,
                 Err(difference) => {
@@ -326,7 +325,7 @@ fn instructions(steps: u64, seed: u64) -> bool {
             return false;
         }
     }
-    let mut trial = Trial::new(seed, Wrong::Nothing);
+    let mut trial = Trial::new(library, seed, Wrong::Nothing);
     walked(&mut trial, steps).is_some() && trial.counts.print("the trial")
 }
 
@@ -371,29 +370,41 @@ fn options_of(mut words: &[&str]) -> Option<(u64, u64, Wrong)> {
     words.is_empty().then_some((steps, seed, wrong))
 }
 
-fn main() -> ExitCode {
-    let words: Vec<String> = std::env::args().skip(1).collect();
-    let words: Vec<&str> = words.iter().map(String::as_str).collect();
-    let right = match words.as_slice() {
-        ["--speed"] => Some(speed::speed(15)),
+/// What the words ask for: whether all is right; `None` where they are none of its own.
+fn asked(library: &mut Library, words: &[&str]) -> Option<bool> {
+    match words {
+        ["--speed"] => Some(speed::speed(library, 15)),
         ["--speed", "--rounds", rounds] => rounds
             .parse()
             .ok()
             .filter(|rounds| *rounds > 0)
-            .map(speed::speed),
+            .map(|rounds| speed::speed(library, rounds)),
         ["--passes", way, mix, passes] => passes
             .parse()
             .ok()
-            .and_then(|passes| speed::passes(way, mix, passes)),
-        ["--listing"] => Some(listing::listing()),
+            .and_then(|passes| speed::passes(library, way, mix, passes)),
+        ["--listing"] => Some(listing::listing(library)),
         // a part of a trial, too short to meet everything
-        ["--part", options @ ..] => options_of(options)
-            .map(|(steps, seed, wrong)| walked(&mut Trial::new(seed, wrong), steps).is_some()),
+        ["--part", options @ ..] => options_of(options).map(|(steps, seed, wrong)| {
+            walked(&mut Trial::new(library, seed, wrong), steps).is_some()
+        }),
         ["--instructions", options @ ..] => options_of(options)
             .filter(|(_, _, wrong)| *wrong == Wrong::Nothing)
-            .map(|(steps, seed, _)| instructions(steps, seed)),
-        options => options_of(options)
-            .map(|(steps, seed, wrong)| walked(&mut Trial::new(seed, wrong), steps) == Some(true)),
-    };
-    ending::ending(right, USAGE)
+            .map(|(steps, seed, _)| instructions(library, steps, seed)),
+        options => options_of(options).map(|(steps, seed, wrong)| {
+            walked(&mut Trial::new(library, seed, wrong), steps) == Some(true)
+        }),
+    }
+}
+
+fn main() -> ExitCode {
+    let words: Vec<String> = std::env::args().skip(1).collect();
+    let words: Vec<&str> = words.iter().map(String::as_str).collect();
+    match Library::open() {
+        Ok(mut library) => ending::ending(asked(&mut library, &words), USAGE),
+        Err(why) => {
+            eprintln!("trial: {why}");
+            ExitCode::FAILURE
+        }
+    }
 }

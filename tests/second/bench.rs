@@ -9,8 +9,9 @@ pub fn listing<const CHECK: bool>(input: &[u8], fault: Fault) -> Vec<u8> {
     if input.len() > LONGEST_INPUT {
         return b"stop 12\n".to_vec();
     }
-    let Some((mut table, used)) = fresh_from_start(input) else {
-        return b"stop 2\n".to_vec();
+    let (mut table, used) = match fresh_from_start(input) {
+        Some(begun) => begun,
+        None => return b"stop 2\n".to_vec(),
     };
     let mut out = Vec::with_capacity(64 + 16 * input.len());
     header(&mut out, table.granule, table.count, table.queue[0]);

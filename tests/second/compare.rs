@@ -61,8 +61,7 @@ impl Program {
 
     /// Whether it says the same of an input as this program.
     fn agrees(&self, input: &[u8]) -> bool {
-        self.output(input)
-            .is_ok_and(|output| output == listing::<true>(input, Fault::None))
+        self.output(input) == Ok(listing::<true>(input, Fault::None))
     }
 }
 
@@ -165,7 +164,7 @@ const PATIENCE: Duration = Duration::from_secs(30);
 /// Drops pieces, many at first and then one by one, as long as the rest still differs.
 fn shortest(program: &Program, input: Vec<u8>) -> Vec<u8> {
     let mut kept = pieces(&input);
-    let mut size = kept.len().div_ceil(2).max(1);
+    let mut size = ((kept.len() + 1) / 2).max(1);
     let begun = Instant::now();
     while begun.elapsed() < PATIENCE {
         let before = kept.len();

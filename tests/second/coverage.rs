@@ -85,9 +85,12 @@ impl Coverage {
             self.numbers[12] += 1;
             return;
         }
-        let Some((mut table, used)) = fresh_from_start(input) else {
-            self.numbers[2] += 1;
-            return;
+        let (mut table, used) = match fresh_from_start(input) {
+            Some(begun) => begun,
+            None => {
+                self.numbers[2] += 1;
+                return;
+            }
         };
         let mut rest = &input[used..];
         while !rest.is_empty() {
@@ -133,12 +136,10 @@ impl Coverage {
 
     /// Notes a restart with bit 6.
     fn watch_skip(&mut self, answer: &Answer, record: &[u8]) {
-        let [0x01, parameter, count] = *record else {
-            return;
+        let count = match *record {
+            [0x01, parameter, count] if parameter & 0x40 != 0 => count,
+            _ => return,
         };
-        if parameter & 0x40 == 0 {
-            return;
-        }
         match answer.number {
             6 => self.skips[4] += 1,
             0 if answer.v => self.skips[3] += 1,
@@ -150,15 +151,13 @@ impl Coverage {
 
     /// Notes the unit and count of an accepted interval.
     fn watch_interval(&mut self, record: &[u8]) {
-        let Some(kind) = TIMED.iter().position(|kind| *kind == record[0]) else {
-            return;
-        };
-        let unit = usize::from(record[1] & 7);
-        if unit >= UNITS.len() {
-            return;
-        }
-        for (met, (_, is)) in self.intervals[kind].iter_mut().zip(COUNTS) {
-            met[unit] += u64::from(is(record[2]));
+        if let Some(kind) = TIMED.iter().position(|kind| *kind == record[0]) {
+            let unit = usize::from(record[1] & 7);
+            for (units, (_, is)) in self.intervals[kind].iter_mut().zip(COUNTS) {
+                if let Some(met) = units.get_mut(unit) {
+                    *met += u64::from(is(record[2]));
+                }
+            }
         }
     }
 
