@@ -22,12 +22,7 @@ impl Counts {
             _ => "refused".to_string(),
         };
         for key in [String::new(), what] {
-            let sum = self.0.entry(key).or_insert(Sum {
-                steps: 0,
-                all: 0,
-                least: u32::MAX,
-                most: 0,
-            });
+            let sum = self.0.entry(key).or_insert(Sum { steps: 0, all: 0, least: u32::MAX, most: 0 });
             sum.steps += 1;
             sum.all += u64::from(instructions);
             sum.least = sum.least.min(instructions);
@@ -40,10 +35,7 @@ impl Counts {
         for (what, sum) in &self.0 {
             let what = if what.is_empty() { "all" } else { what };
             let mean = (sum.all + sum.steps / 2) / sum.steps;
-            println!(
-                "| {name} | {what} | {} | {mean} | {} | {} |",
-                sum.steps, sum.least, sum.most
-            );
+            println!("| {name} | {what} | {} | {mean} | {} | {} |", sum.steps, sum.least, sum.most);
         }
         self.0.get("").map_or(false, |sum| sum.least > 0)
     }

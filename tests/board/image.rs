@@ -87,27 +87,14 @@ fn decode_task(bytes: &mut Bytes) -> Option<Task> {
     let argument = u16::from_be_bytes(bytes.take());
     let started = u64::from_be_bytes(bytes.take());
     let [end_waiter] = bytes.take();
-    Some(Task {
-        own,
-        state,
-        priority,
-        argument,
-        started,
-        end_waiter,
-    })
+    Some(Task { own, state, priority, argument, started, end_waiter })
 }
 
 fn decode_request(bytes: &mut Bytes) -> Request {
     let [task, priority] = bytes.take();
     let argument = u16::from_be_bytes(bytes.take());
     let [start_waiter, end_waiter] = bytes.take();
-    Request {
-        task,
-        priority,
-        argument,
-        start_waiter,
-        end_waiter,
-    }
+    Request { task, priority, argument, start_waiter, end_waiter }
 }
 
 /// What is still to be read of an image.

@@ -2,12 +2,7 @@
 
 #[link(name = "board", kind = "static")]
 extern "C" {
-    fn quermanic_fresh(
-        config: *const u8,
-        config_length: u64,
-        image: *mut u8,
-        image_length: u64,
-    ) -> u8;
+    fn quermanic_fresh(config: *const u8, config_length: u64, image: *mut u8, image_length: u64) -> u8;
     fn quermanic_check(image: *const u8, image_length: u64) -> u8;
     fn quermanic_step(
         image: *mut u8,
@@ -20,14 +15,8 @@ extern "C" {
 }
 
 pub fn fresh(config: &[u8], image: &mut [u8]) -> u32 {
-    let number = unsafe {
-        quermanic_fresh(
-            config.as_ptr(),
-            config.len() as u64,
-            image.as_mut_ptr(),
-            image.len() as u64,
-        )
-    };
+    let number =
+        unsafe { quermanic_fresh(config.as_ptr(), config.len() as u64, image.as_mut_ptr(), image.len() as u64) };
     number.into()
 }
 

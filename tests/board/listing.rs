@@ -11,10 +11,7 @@ use std::io::{Read, Write};
 pub fn listing(library: &mut Library) -> bool {
     let mut input = Vec::new();
     std::io::stdin().lock().read_to_end(&mut input).is_ok()
-        && std::io::stdout()
-            .lock()
-            .write_all(of(library, &input).as_bytes())
-            .is_ok()
+        && std::io::stdout().lock().write_all(of(library, &input).as_bytes()).is_ok()
 }
 
 fn of(library: &mut Library, input: &[u8]) -> String {
@@ -27,10 +24,7 @@ fn of(library: &mut Library, input: &[u8]) -> String {
         return format!("stop {number}\n");
     }
     // granule, count and the queue's first place, by docs/TABLE.md
-    let mut out = format!(
-        "granule {} tasks {} active {}\n",
-        image[434], image[433], image[416]
-    );
+    let mut out = format!("granule {} tasks {} active {}\n", image[434], image[433], image[416]);
     let mut rest = &input[used..];
     let mut step = 0;
     while !rest.is_empty() {

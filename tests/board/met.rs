@@ -60,9 +60,7 @@ impl Met {
 
     /// The count of an answer, eight bytes.
     pub fn skipped(&mut self, bytes: &[u8]) {
-        let count = bytes
-            .iter()
-            .fold(0, |all, byte| all << 8 | u64::from(*byte));
+        let count = bytes.iter().fold(0, |all, byte| all << 8 | u64::from(*byte));
         self.skipped = self.skipped.max(count);
     }
 
@@ -96,21 +94,12 @@ impl Met {
         println!("{} steps", self.steps());
         print_counts("number", &self.steps, |number| number.to_string());
         print_counts("accepted kind", &self.kinds, |kind| format!("{kind:02X}"));
-        print_counts("fresh table, number", &self.fresh, |number| {
-            number.to_string()
-        });
-        println!(
-            "  grid times passed over in one step: at most {}",
-            self.skipped
-        );
+        print_counts("fresh table, number", &self.fresh, |number| number.to_string());
+        println!("  grid times passed over in one step: at most {}", self.skipped);
         for (what, count) in TIMED.iter().zip(self.days) {
             println!("  {what} after more than 255 hours: {count}");
         }
-        println!(
-            "  damaged images: {} not well formed, {} well formed all the same",
-            of(false),
-            of(true)
-        );
+        println!("  damaged images: {} not well formed, {} well formed all the same", of(false), of(true));
         let complete = OF_STEPS.iter().all(|n| self.steps.contains_key(n))
             && OF_FRESH.iter().all(|n| self.fresh.contains_key(n))
             && KINDS.iter().all(|kind| self.kinds.contains_key(kind))
@@ -126,9 +115,6 @@ impl Met {
 }
 
 fn print_counts(what: &str, counts: &BTreeMap<u8, u64>, name: fn(u8) -> String) {
-    let words: Vec<String> = counts
-        .iter()
-        .map(|(&key, count)| format!("{}: {count}", name(key)))
-        .collect();
+    let words: Vec<String> = counts.iter().map(|(&key, count)| format!("{}: {count}", name(key))).collect();
     println!("  {what} {}", words.join(", "));
 }

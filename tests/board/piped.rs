@@ -17,17 +17,11 @@ impl Program {
     pub fn start(path: OsString) -> Result<Program, String> {
         let mut command = Command::new(&path);
         command.stdin(Stdio::piped()).stdout(Stdio::piped());
-        let mut child = command
-            .spawn()
-            .map_err(|why| format!("{} cannot be started: {why}.", path.to_string_lossy()))?;
+        let mut child =
+            command.spawn().map_err(|why| format!("{} cannot be started: {why}.", path.to_string_lossy()))?;
         let into = child.stdin.take().expect("standard input is a pipe");
         let from = child.stdout.take().expect("standard output is a pipe");
-        Ok(Program {
-            _child: child,
-            into,
-            from,
-            spent: 0,
-        })
+        Ok(Program { _child: child, into, from, spent: 0 })
     }
 
     /// The instructions of the last call; 0 where nothing counts them.

@@ -11,11 +11,8 @@ const STEPS: [usize; 5] = [110, 103, 102, 102, 102];
 
 /// The inputs, by name.
 pub fn short_mixes() -> Vec<(&'static str, Vec<u8>)> {
-    let mut inputs: Vec<_> = mixes()
-        .into_iter()
-        .zip(STEPS)
-        .map(|((name, input), steps)| (name, beginning(&input, steps)))
-        .collect();
+    let mut inputs: Vec<_> =
+        mixes().into_iter().zip(STEPS).map(|((name, input), steps)| (name, beginning(&input, steps))).collect();
     inputs.push(("open door", bytes_of(OPEN_DOOR)));
     inputs
 }

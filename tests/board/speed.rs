@@ -10,11 +10,7 @@ use std::time::Instant;
 
 /// The ways to take a mix's steps: from the first table through all records, to the last image.
 type Way = fn(&mut Library, &Table, &[&[u8]]) -> Vec<u8>;
-const WAYS: [(&str, Way); 3] = [
-    ("board library", by_library),
-    ("second", by_table),
-    ("second, by image", by_image),
-];
+const WAYS: [(&str, Way); 3] = [("board library", by_library), ("second", by_table), ("second, by image", by_image)];
 
 /// Prints times and ratios for the three mixes; false where the last images differ.
 pub fn speed(library: &mut Library, rounds: usize) -> bool {

@@ -1,29 +1,16 @@
 //! What the walk through a run is varied by: edits of a table, damage to an image, bad records.
 
-use crate::executive::{
-    well_formed, Request, State, Table, FLAGS, LAST_CLOCK, LONGEST, PLACES, TASKS,
-};
+use crate::executive::{well_formed, Request, State, Table, FLAGS, LAST_CLOCK, LONGEST, PLACES, TASKS};
 use crate::runs::Rng;
 
 type Edit = fn(&mut Table, &mut Rng);
 
 /// Edits that mostly keep a table well formed.
-const EDITS: [Edit; 10] = [
-    clock, forward, own, runs, flags, timed, waits, fill_pool, move_end, to_end,
-];
+const EDITS: [Edit; 10] = [clock, forward, own, runs, flags, timed, waits, fill_pool, move_end, to_end];
 
 /// Edits that mostly break one rule, by as little as they can.
-const BREAKS: [Edit; 9] = [
-    bad_time,
-    bad_alarm,
-    bad_entry,
-    bad_queue,
-    bad_place,
-    bad_link,
-    two_waiters,
-    bad_count,
-    bad_clock,
-];
+const BREAKS: [Edit; 9] =
+    [bad_time, bad_alarm, bad_entry, bad_queue, bad_place, bad_link, two_waiters, bad_count, bad_clock];
 
 /// The table after an edit that keeps it well formed.
 pub fn edited(table: &Table, rng: &mut Rng) -> Table {
@@ -89,9 +76,7 @@ fn mask(rng: &mut Rng) -> u32 {
 }
 
 fn busy(table: &Table) -> Vec<u8> {
-    (1..=table.count)
-        .filter(|&number| table.task(number).state != State::Dormant)
-        .collect()
+    (1..=table.count).filter(|&number| table.task(number).state != State::Dormant).collect()
 }
 
 /// The clock is carried close to its end, or anywhere, and every time with it.
@@ -144,8 +129,7 @@ fn runs(table: &mut Table, rng: &mut Rng) {
         task.started = rng.pick(&[0, clock, any, any]) as u64;
     }
     let tasks = table.tasks;
-    table.queue[..table.queued as usize]
-        .sort_by_key(|&number| 15 - tasks[number as usize - 1].priority);
+    table.queue[..table.queued as usize].sort_by_key(|&number| 15 - tasks[number as usize - 1].priority);
 }
 
 /// Other flags, and other alarms.
@@ -172,12 +156,8 @@ fn timed(table: &mut Table, rng: &mut Rng) {
 fn waits(table: &mut Table, rng: &mut Rng) {
     for at in 0..TASKS {
         let (time, mask) = (ahead(table, rng), mask(rng));
-        let states = [
-            State::Paused(time),
-            State::Due(time),
-            State::WaitAny(mask),
-            State::WaitAll(mask | table.flags & 3),
-        ];
+        let states =
+            [State::Paused(time), State::Due(time), State::WaitAny(mask), State::WaitAll(mask | table.flags & 3)];
         match table.tasks[at].state {
             State::Paused(_) | State::Due(_) | State::WaitAny(_) | State::WaitAll(_) => {
                 let open = states.map(|state| !table.condition(state));
@@ -306,13 +286,7 @@ fn bad_count(table: &mut Table, rng: &mut Rng) {
         0 => table.count = 17,
         1 => table.count -= 1,
         2 => table.count += 1,
-        _ => {
-            *table = Table {
-                granule: table.granule,
-                clock: table.clock,
-                ..Table::default()
-            }
-        }
+        _ => *table = Table { granule: table.granule, clock: table.clock, ..Table::default() },
     }
 }
 

@@ -87,13 +87,7 @@ type Told = Result<(), String>;
 
 impl Trial<'_> {
     fn new(library: &mut Library, seed: u64, wrong: Wrong) -> Trial<'_> {
-        Trial {
-            library,
-            seed,
-            wrong,
-            met: Met::default(),
-            counts: Counts::default(),
-        }
+        Trial { library, seed, wrong, met: Met::default(), counts: Counts::default() }
     }
 
     /// A pause of every count of every unit, once, from a table with one task.
@@ -112,10 +106,9 @@ impl Trial<'_> {
     /// The image that a board wrote before unit 5 was a day is well formed still, and its steps go on.
     fn before_days(&mut self) -> Told {
         let text = include_str!("before-days.hex").lines();
-        let bytes = text.filter(|line| !line.starts_with('#')).flat_map(|line| {
-            line.split(' ')
-                .map(|byte| u8::from_str_radix(byte, 16).expect("a byte in hex"))
-        });
+        let bytes = text
+            .filter(|line| !line.starts_with('#'))
+            .flat_map(|line| line.split(' ').map(|byte| u8::from_str_radix(byte, 16).expect("a byte in hex")));
         let image: Vec<u8> = bytes.collect();
         if self.library.check(&image) != 0 {
             return Err("the image of an older board is refused".to_string());
@@ -190,10 +183,7 @@ impl Trial<'_> {
         let expected = u32::from(!sound ^ (self.wrong == Wrong::Check));
         let given = self.library.check(image);
         if given != expected {
-            return Err(format!(
-                "check: the library gives {given}, the model {expected}\nimage {}",
-                hex(image)
-            ));
+            return Err(format!("check: the library gives {given}, the model {expected}\nimage {}", hex(image)));
         }
         self.met.checked(sound);
         self.step(image, record, &UNWRITTEN).map(drop)
@@ -228,10 +218,7 @@ impl Trial<'_> {
         let mut table = decode(image);
         let mut said = match &mut table {
             Some(table) => step_with::<true>(table, record, fault),
-            None => Answer {
-                number: 1,
-                ..Answer::default()
-            },
+            None => Answer { number: 1, ..Answer::default() },
         };
         if let (0, Some(table)) = (said.number, &table) {
             after.1 = encode(table);
@@ -374,26 +361,21 @@ fn options_of(mut words: &[&str]) -> Option<(u64, u64, Wrong)> {
 fn asked(library: &mut Library, words: &[&str]) -> Option<bool> {
     match words {
         ["--speed"] => Some(speed::speed(library, 15)),
-        ["--speed", "--rounds", rounds] => rounds
-            .parse()
-            .ok()
-            .filter(|rounds| *rounds > 0)
-            .map(|rounds| speed::speed(library, rounds)),
-        ["--passes", way, mix, passes] => passes
-            .parse()
-            .ok()
-            .and_then(|passes| speed::passes(library, way, mix, passes)),
+        ["--speed", "--rounds", rounds] => {
+            rounds.parse().ok().filter(|rounds| *rounds > 0).map(|rounds| speed::speed(library, rounds))
+        }
+        ["--passes", way, mix, passes] => {
+            passes.parse().ok().and_then(|passes| speed::passes(library, way, mix, passes))
+        }
         ["--listing"] => Some(listing::listing(library)),
         // a part of a trial, too short to meet everything
-        ["--part", options @ ..] => options_of(options).map(|(steps, seed, wrong)| {
-            walked(&mut Trial::new(library, seed, wrong), steps).is_some()
-        }),
+        ["--part", options @ ..] => options_of(options)
+            .map(|(steps, seed, wrong)| walked(&mut Trial::new(library, seed, wrong), steps).is_some()),
         ["--instructions", options @ ..] => options_of(options)
             .filter(|(_, _, wrong)| *wrong == Wrong::Nothing)
             .map(|(steps, seed, _)| instructions(library, steps, seed)),
-        options => options_of(options).map(|(steps, seed, wrong)| {
-            walked(&mut Trial::new(library, seed, wrong), steps) == Some(true)
-        }),
+        options => options_of(options)
+            .map(|(steps, seed, wrong)| walked(&mut Trial::new(library, seed, wrong), steps) == Some(true)),
     }
 }
 

@@ -47,11 +47,7 @@ pub fn cut(steps: &[u8]) -> Result<(&[u8], &[u8]), u8> {
 }
 
 fn header(out: &mut Vec<u8>, granule: u8, tasks: u8, active: u8) {
-    for (word, number) in [
-        ("granule ", granule),
-        (" tasks ", tasks),
-        (" active ", active),
-    ] {
+    for (word, number) in [("granule ", granule), (" tasks ", tasks), (" active ", active)] {
         out.extend_from_slice(word.as_bytes());
         decimal(out, number.into());
     }
@@ -61,12 +57,7 @@ fn header(out: &mut Vec<u8>, granule: u8, tasks: u8, active: u8) {
 fn line(out: &mut Vec<u8>, number: u32, kind: u8, answer: &Answer) {
     const DIGITS: &[u8; 16] = b"0123456789ABCDEF";
     decimal(out, number);
-    out.extend_from_slice(&[
-        b' ',
-        DIGITS[kind as usize / 16],
-        DIGITS[kind as usize % 16],
-        b' ',
-    ]);
+    out.extend_from_slice(&[b' ', DIGITS[kind as usize / 16], DIGITS[kind as usize % 16], b' ']);
     decimal(out, answer.number.into());
     let bit = |set: bool| b'0' + u8::from(set);
     out.extend_from_slice(&[b' ', bit(answer.z), bit(answer.v), bit(answer.c), b' ']);

@@ -5,9 +5,9 @@ use crate::executive::*;
 
 /// The input of document 01's listing.
 pub const PAPER_INPUT: [u8; 39] = [
-    0x40, 0x0A, 0x41, 0x07, 0x01, 0x41, 0x05, 0x01, 0x41, 0x07, 0x00, 0x42, 0x04, 0x80, 0x03, 0x02,
-    0x00, 0x0F, 0x80, 0x05, 0xA0, 0x02, 0x00, 0x04, 0x80, 0x0A, 0x00, 0x00, 0x00, 0x00, 0x01, 0x00,
-    0x09, 0x01, 0x00, 0x02, 0x05, 0x01, 0x00,
+    0x40, 0x0A, 0x41, 0x07, 0x01, 0x41, 0x05, 0x01, 0x41, 0x07, 0x00, 0x42, 0x04, 0x80, 0x03, 0x02, 0x00, 0x0F, 0x80,
+    0x05, 0xA0, 0x02, 0x00, 0x04, 0x80, 0x0A, 0x00, 0x00, 0x00, 0x00, 0x01, 0x00, 0x09, 0x01, 0x00, 0x02, 0x05, 0x01,
+    0x00,
 ];
 
 /// The output of document 01's listing.
@@ -28,15 +28,11 @@ end
 /// Runs every card; true if all hold.
 pub fn cards() -> bool {
     let all: [(&str, fn() -> bool); 16] = [
-        ("01's listing", || {
-            listing::<true>(&PAPER_INPUT, Fault::None) == PAPER_OUTPUT
-        }),
+        ("01's listing", || listing::<true>(&PAPER_INPUT, Fault::None) == PAPER_OUTPUT),
         ("P1", || table(1, &[(7, 1), (7, 1)]).queue[0] == 1),
         ("P2", p2),
         ("P3", p3),
-        ("P4", || {
-            ended_at(420_000, 0).state == State::Ready && ended_at(420_000, 0).started == 300_000
-        }),
+        ("P4", || ended_at(420_000, 0).state == State::Ready && ended_at(420_000, 0).started == 300_000),
         ("P5", p5),
         ("P6", p6),
         ("P7", p7),
@@ -61,9 +57,7 @@ pub fn cards() -> bool {
 /// The fresh table of a granule and tasks of own priority and mark.
 fn table(granule: u8, tasks: &[(u8, u8)]) -> Table {
     let mut bytes = vec![0x40, granule];
-    tasks
-        .iter()
-        .for_each(|(own, mark)| bytes.extend([0x41, *own, *mark]));
+    tasks.iter().for_each(|(own, mark)| bytes.extend([0x41, *own, *mark]));
     bytes.push(0x42);
     fresh(&bytes).expect("a good configuration")
 }
@@ -132,10 +126,7 @@ fn p6() -> bool {
 
 fn p7() -> bool {
     let mut t = table(1, &[(7, 1), (5, 1)]);
-    accepted(
-        &mut t,
-        &[&[0x0A, 1, 0, 0, 0, 3], &[9, 1, 0], &[9, 0, 0], &[9, 1, 1]],
-    );
+    accepted(&mut t, &[&[0x0A, 1, 0, 0, 0, 3], &[9, 1, 0], &[9, 0, 0], &[9, 1, 1]]);
     t.task(1).state == State::WaitAll(3)
 }
 
@@ -220,33 +211,9 @@ fn refusals_change_nothing() -> bool {
 /// for flags, 6 is paused, 7 is dormant.
 fn rich_table() -> Table {
     let marked = (7, 1);
-    let mut t = table(
-        10,
-        &[
-            marked,
-            (2, 0),
-            marked,
-            marked,
-            marked,
-            marked,
-            (7, 0),
-            (1, 1),
-        ],
-    );
-    accepted(
-        &mut t,
-        &[&[5, 0xC0, 2, 0, 1], &[1, 0, 99], &[5, 0xA0, 2, 0, 1]],
-    );
-    accepted(
-        &mut t,
-        &[
-            &[0x0A, 1, 0, 0, 0, 6],
-            &[2, 0, 99],
-            &[0x0B, 2, 1, 7],
-            &[9, 1, 1],
-            &[0x80],
-        ],
-    );
+    let mut t = table(10, &[marked, (2, 0), marked, marked, marked, marked, (7, 0), (1, 1)]);
+    accepted(&mut t, &[&[5, 0xC0, 2, 0, 1], &[1, 0, 99], &[5, 0xA0, 2, 0, 1]]);
+    accepted(&mut t, &[&[0x0A, 1, 0, 0, 0, 6], &[2, 0, 99], &[0x0B, 2, 1, 7], &[9, 1, 1], &[0x80]]);
     t
 }
 
@@ -296,13 +263,9 @@ fn broken_tables() -> bool {
             let mut broken = good;
             spoil(&mut broken);
             let kept = broken;
-            let right = [&[][..], &[6], &[0x80]].iter().all(|record| {
-                step(&mut broken, record)
-                    == Answer {
-                        number: 1,
-                        ..Answer::default()
-                    }
-            });
+            let right = [&[][..], &[6], &[0x80]]
+                .iter()
+                .all(|record| step(&mut broken, record) == Answer { number: 1, ..Answer::default() });
             if !right || broken != kept {
                 println!("broken table {place} was not found");
             }

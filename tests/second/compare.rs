@@ -19,10 +19,7 @@ pub struct Program {
 
 impl Program {
     pub fn new(path: &str, words: &[&str]) -> Program {
-        Program {
-            path: path.to_string(),
-            words: words.iter().map(|w| w.to_string()).collect(),
-        }
+        Program { path: path.to_string(), words: words.iter().map(|w| w.to_string()).collect() }
     }
 
     /// This program with other words.
@@ -80,10 +77,7 @@ pub fn compare(path: &str, runs: u64, seed: u64) -> Option<bool> {
         return None;
     }
     let complete = coverage.print();
-    println!(
-        "{runs} runs of seed {seed} agree, {:.1} s",
-        begun.elapsed().as_secs_f64()
-    );
+    println!("{runs} runs of seed {seed} agree, {:.1} s", begun.elapsed().as_secs_f64());
     Some(complete)
 }
 
@@ -96,10 +90,7 @@ fn paper_agrees(program: &Program) -> bool {
     match program.output(&PAPER_INPUT) {
         Ok(output) if output == PAPER_OUTPUT => true,
         Ok(output) => {
-            println!(
-                "01's listing differs:\n{}",
-                String::from_utf8_lossy(&output)
-            );
+            println!("01's listing differs:\n{}", String::from_utf8_lossy(&output));
             false
         }
         Err(why) => {
@@ -186,11 +177,7 @@ fn shortest(program: &Program, input: Vec<u8>) -> Vec<u8> {
 }
 
 fn report(program: &Program, input: &[u8]) {
-    println!(
-        "the shortest run found that shows it, {} bytes:\n{}",
-        input.len(),
-        hex(input)
-    );
+    println!("the shortest run found that shows it, {} bytes:\n{}", input.len(), hex(input));
     let ours = listing::<true>(input, Fault::None);
     println!("expected:\n{}", String::from_utf8_lossy(&ours));
     match program.output(input) {
@@ -200,11 +187,7 @@ fn report(program: &Program, input: &[u8]) {
 }
 
 pub fn hex(bytes: &[u8]) -> String {
-    bytes
-        .iter()
-        .map(|byte| format!("{byte:02X}"))
-        .collect::<Vec<_>>()
-        .join(" ")
+    bytes.iter().map(|byte| format!("{byte:02X}")).collect::<Vec<_>>().join(" ")
 }
 
 /// Shows that the comparison can fail: each fault of the last board must be found.
@@ -224,12 +207,7 @@ pub fn trial() -> bool {
             }
         }
     }
-    let sound = compare_runs(&Program::itself(&["listing", "--no-check"]), RUNS / 10, 1)
-        .1
-        .is_none();
-    println!(
-        "no fault: {}",
-        if sound { "no difference" } else { "DIFFERS" }
-    );
+    let sound = compare_runs(&Program::itself(&["listing", "--no-check"]), RUNS / 10, 1).1.is_none();
+    println!("no fault: {}", if sound { "no difference" } else { "DIFFERS" });
     right && sound
 }

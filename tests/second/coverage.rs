@@ -47,20 +47,11 @@ const WAYS: [&str; 15] = [
 /// The kinds with an interval.
 const TIMED: [u8; 3] = [0x01, 0x02, 0x0B];
 /// The counts that each of them must meet in every unit.
-const COUNTS: [(&str, fn(u8) -> bool); 3] = [
-    ("count 0", |count| count == 0),
-    ("count 255", |count| count == 255),
-    ("a power of two", u8::is_power_of_two),
-];
+const COUNTS: [(&str, fn(u8) -> bool); 3] =
+    [("count 0", |count| count == 0), ("count 255", |count| count == 255), ("a power of two", u8::is_power_of_two)];
 
 /// What becomes of a restart with bit 6.
-const SKIPS: [&str; 5] = [
-    "skipped none",
-    "skipped some",
-    "count 0: at once",
-    "no unit: V",
-    "bits 7 and 6: refused",
-];
+const SKIPS: [&str; 5] = ["skipped none", "skipped some", "count 0: at once", "no unit: V", "bits 7 and 6: refused"];
 
 #[derive(Clone, Default)]
 pub struct Coverage {
@@ -110,10 +101,7 @@ impl Coverage {
     fn watch_step(&mut self, table: &mut Table, record: &[u8]) {
         let before = *table;
         let answer: Answer = step(table, record);
-        let kind = KINDS
-            .iter()
-            .position(|(kind, _)| *kind == record[0])
-            .expect("a carried kind");
+        let kind = KINDS.iter().position(|(kind, _)| *kind == record[0]).expect("a carried kind");
         self.numbers[answer.number as usize] += 1;
         self.watch_skip(&answer, record);
         if answer.number != 0 {
@@ -174,8 +162,7 @@ impl Coverage {
         sum(&mut self.ways, &other.ways);
         sum(&mut self.skips, &other.skips);
         let both = self.intervals.iter_mut().zip(&other.intervals);
-        both.flat_map(|(to, from)| to.iter_mut().zip(from))
-            .for_each(|(to, from)| sum(to, from));
+        both.flat_map(|(to, from)| to.iter_mut().zip(from)).for_each(|(to, from)| sum(to, from));
     }
 
     /// Prints the table; true if everything was met that can be, and nothing that cannot.
@@ -185,26 +172,16 @@ impl Coverage {
         println!("{} runs, {} bytes, {} steps", self.runs, self.bytes, steps);
         println!("kind                          accepted    refused");
         for (at, (kind, name)) in KINDS.iter().enumerate() {
-            println!(
-                "{kind:02X} {name:<22} {:>12} {:>10}",
-                self.accepted[at], self.refused[at]
-            );
-            note(&mut missed, self.accepted[at], || {
-                format!("kind {kind:02X} accepted")
-            });
+            println!("{kind:02X} {name:<22} {:>12} {:>10}", self.accepted[at], self.refused[at]);
+            note(&mut missed, self.accepted[at], || format!("kind {kind:02X} accepted"));
         }
         println!("number                             met");
         for number in REACHABLE {
             println!("{number:<25} {:>12}", self.numbers[number]);
-            note(&mut missed, self.numbers[number], || {
-                format!("number {number}")
-            });
+            note(&mut missed, self.numbers[number], || format!("number {number}"));
         }
         for (number, why) in UNREACHABLE {
-            println!(
-                "{number:<25} {:>12}  (out of a bench run's reach: {why})",
-                self.numbers[number]
-            );
+            println!("{number:<25} {:>12}  (out of a bench run's reach: {why})", self.numbers[number]);
         }
         println!("way of waking                      met");
         for (way, met) in WAYS.iter().zip(self.ways) {
@@ -223,10 +200,7 @@ impl Coverage {
 
     /// A line for each kind with an interval and each of the counts: how often in each unit.
     fn print_intervals(&self, missed: &mut Vec<String>) {
-        println!(
-            "interval                   met in units 0 to {}",
-            UNITS.len() - 1
-        );
+        println!("interval                   met in units 0 to {}", UNITS.len() - 1);
         for (kind, counts) in TIMED.iter().zip(&self.intervals) {
             for ((name, _), units) in COUNTS.iter().zip(counts) {
                 let met: Vec<String> = units.iter().map(u64::to_string).collect();
@@ -240,13 +214,9 @@ impl Coverage {
 
     /// False, and said so, where a step answered what no bench run can, or a refusal changed something.
     fn nothing_impossible(&self) -> bool {
-        let met = UNREACHABLE
-            .iter()
-            .any(|(number, _)| self.numbers[*number] > 0);
+        let met = UNREACHABLE.iter().any(|(number, _)| self.numbers[*number] > 0);
         if met || self.changed_by_refusal > 0 {
-            println!(
-                "WRONG in the second program itself: an unreachable number or a changed table"
-            );
+            println!("WRONG in the second program itself: an unreachable number or a changed table");
         }
         !met && self.changed_by_refusal == 0
     }

@@ -38,16 +38,16 @@ fn main() -> ExitCode {
         ["cards"] => Some(cards::cards()),
         ["trial"] => Some(compare::trial()),
         // a part of a comparison, too short to meet everything
-        ["compare", program, "--part", options @ ..] => options_of(options, [2_000, 1])
-            .map(|[runs, seed]| compare::compare(program, runs, seed).is_some()),
-        ["compare", program, options @ ..] => options_of(options, [20_000, 1])
-            .map(|[runs, seed]| compare::compare(program, runs, seed) == Some(true)),
+        ["compare", program, "--part", options @ ..] => {
+            options_of(options, [2_000, 1]).map(|[runs, seed]| compare::compare(program, runs, seed).is_some())
+        }
+        ["compare", program, options @ ..] => {
+            options_of(options, [20_000, 1]).map(|[runs, seed]| compare::compare(program, runs, seed) == Some(true))
+        }
         ["speed", program] => Some(speed::speed(program, 15)),
-        ["speed", program, "--rounds", rounds] => rounds
-            .parse()
-            .ok()
-            .filter(|rounds| *rounds > 0)
-            .map(|rounds| speed::speed(program, rounds)),
+        ["speed", program, "--rounds", rounds] => {
+            rounds.parse().ok().filter(|rounds| *rounds > 0).map(|rounds| speed::speed(program, rounds))
+        }
         ["run", index, options @ ..] => print_run(index, options),
         ["mix", name] => print_mix(name),
         _ => None,
@@ -58,9 +58,7 @@ fn main() -> ExitCode {
 /// `--runs N` and `--seed S`, in any order, over what they are without.
 fn options_of(mut words: &[&str], mut values: [u64; 2]) -> Option<[u64; 2]> {
     while let [name, value, rest @ ..] = words {
-        let place = ["--runs", "--seed"]
-            .iter()
-            .position(|known| known == name)?;
+        let place = ["--runs", "--seed"].iter().position(|known| known == name)?;
         values[place] = value.parse().ok()?;
         words = rest;
     }
@@ -76,19 +74,11 @@ fn listing(options: &[&str]) -> Option<bool> {
         [] | ["--no-check"] => Fault::None,
         _ => return None,
     };
-    if std::io::stdin()
-        .lock()
-        .take(most)
-        .read_to_end(&mut input)
-        .is_err()
-    {
+    if std::io::stdin().lock().take(most).read_to_end(&mut input).is_err() {
         return Some(false);
     }
-    let output = if options.is_empty() {
-        bench::listing::<true>(&input, fault)
-    } else {
-        bench::listing::<false>(&input, fault)
-    };
+    let output =
+        if options.is_empty() { bench::listing::<true>(&input, fault) } else { bench::listing::<false>(&input, fault) };
     Some(std::io::stdout().lock().write_all(&output).is_ok())
 }
 

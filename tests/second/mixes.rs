@@ -34,11 +34,7 @@ fn repeated(begin: &[u8], round: &[u8]) -> Vec<u8> {
 
 /// Half the tasks paused for hours, two alarms running, then ticks.
 fn ticks() -> Vec<u8> {
-    let begin = [
-        &[0x02, 4, 200].repeat(8)[..],
-        &[0x0B, 4, 9, 1, 0x0B, 4, 9, 2],
-    ]
-    .concat();
+    let begin = [&[0x02, 4, 200].repeat(8)[..], &[0x0B, 4, 9, 1, 0x0B, 4, 9, 2]].concat();
     repeated(&begin, &[0x80])
 }
 
@@ -70,10 +66,7 @@ fn calls() -> Vec<u8> {
 fn wake_ups() -> Vec<u8> {
     let waits = [0x0A, 0, 0, 0, 0, 1].repeat(15);
     let pauses = [0x02, 0, 9].repeat(16);
-    repeated(
-        &[],
-        &[&waits[..], &[0x09, 1, 0, 0x09, 0, 0], &pauses, &[0x80]].concat(),
-    )
+    repeated(&[], &[&waits[..], &[0x09, 1, 0, 0x09, 0, 0], &pauses, &[0x80]].concat())
 }
 
 /// Every task restarts a granule after its last start, and a tick wakes them all.

@@ -117,11 +117,7 @@ impl Run {
     fn new(rng: &mut Rng, stay_alive: bool) -> Run {
         let bytes = configuration(rng);
         let (table, _) = fresh_from_start(&bytes).expect("the generator's configuration is good");
-        Run {
-            bytes,
-            table,
-            stay_alive,
-        }
+        Run { bytes, table, stay_alive }
     }
 
     /// Adds a step, unless it would leave a run that shall stay alive with nothing to wait for.
@@ -137,11 +133,7 @@ impl Run {
 
     fn go_on(&mut self, rng: &mut Rng, weights: &[usize]) {
         let idle = self.table.queued == 0;
-        let aim = if idle && !rng.one_in(20) {
-            0
-        } else {
-            rng.pick(weights)
-        };
+        let aim = if idle && !rng.one_in(20) { 0 } else { rng.pick(weights) };
         AIMS[aim](self, rng);
     }
 
@@ -161,9 +153,7 @@ impl Run {
     /// A task, with luck one for which `wanted` holds.
     fn task_where(&self, rng: &mut Rng, wanted: impl Fn(State) -> bool) -> u8 {
         let count = self.table.count;
-        let fit: Vec<u8> = (1..=count)
-            .filter(|&n| wanted(self.table.task(n).state))
-            .collect();
+        let fit: Vec<u8> = (1..=count).filter(|&n| wanted(self.table.task(n).state)).collect();
         if fit.is_empty() || rng.one_in(10) {
             1 + rng.below(count as usize) as u8
         } else {
@@ -179,10 +169,7 @@ impl Run {
             0 => [rng.below(UNITS.len()) as u8, some_count(rng)],
             1 => [rng.below(3) as u8, rng.below(4) as u8],
             2 | 3 => [1, (granules / 10 + rng.below(2)).min(255) as u8],
-            _ => [
-                0,
-                (granules + rng.below(3)).saturating_sub(1).min(255) as u8,
-            ],
+            _ => [0, (granules + rng.below(3)).saturating_sub(1).min(255) as u8],
         }
     }
 
@@ -330,11 +317,7 @@ impl Run {
         let small = rng.one_in(2);
         let mut record = vec![kind];
         for _ in 0..length {
-            record.push(if small {
-                rng.below(7) as u8
-            } else {
-                rng.byte()
-            });
+            record.push(if small { rng.below(7) as u8 } else { rng.byte() });
         }
         self.add(&record);
     }
@@ -362,17 +345,8 @@ impl Run {
 }
 
 /// The calls and the lengths of their bodies.
-const CALLS: [(u8, usize); 9] = [
-    (0x00, 0),
-    (0x01, 2),
-    (0x02, 2),
-    (0x03, 1),
-    (0x04, 2),
-    (0x05, 4),
-    (0x09, 2),
-    (0x0A, 5),
-    (0x0B, 3),
-];
+const CALLS: [(u8, usize); 9] =
+    [(0x00, 0), (0x01, 2), (0x02, 2), (0x03, 1), (0x04, 2), (0x05, 4), (0x09, 2), (0x0A, 5), (0x0B, 3)];
 
 /// Idle, with no task's time to come soon: only ticks and 5s follow.
 fn dead(table: &Table) -> bool {
@@ -413,11 +387,7 @@ fn configuration(rng: &mut Rng) -> Vec<u8> {
     let mut bytes = vec![0x40, granule];
     let few = rng.one_in(2);
     for _ in 0..1 + rng.below(if few { 4 } else { TASKS }) {
-        let own = if rng.one_in(2) {
-            7
-        } else {
-            rng.below(16) as u8
-        };
+        let own = if rng.one_in(2) { 7 } else { rng.below(16) as u8 };
         bytes.extend([0x41, own, u8::from(!rng.one_in(3))]);
     }
     bytes.push(0x42);
@@ -506,14 +476,8 @@ fn insert(rng: &mut Rng, bytes: &mut Vec<u8>, what: &[u8]) {
 
 /// A run of a length near the longest, filled up with ticks or cut wherever its length ends.
 fn long_run(rng: &mut Rng, turn: u64) -> Vec<u8> {
-    const LENGTHS: [usize; 6] = [
-        LONGEST_INPUT,
-        LONGEST_INPUT - 1,
-        LONGEST_INPUT + 1,
-        LONGEST_INPUT - 100,
-        LONGEST_INPUT / 4,
-        LONGEST_INPUT,
-    ];
+    const LENGTHS: [usize; 6] =
+        [LONGEST_INPUT, LONGEST_INPUT - 1, LONGEST_INPUT + 1, LONGEST_INPUT - 100, LONGEST_INPUT / 4, LONGEST_INPUT];
     let length = LENGTHS[turn as usize % LENGTHS.len()];
     if turn % 6 == 3 {
         return hours_run(length);
@@ -540,12 +504,8 @@ fn long_run(rng: &mut Rng, turn: u64) -> Vec<u8> {
 /// Hours and minutes, at the largest granule, and ticks enough for them to pass.
 fn hours_run(length: usize) -> Vec<u8> {
     let mut bytes = [&[0x40, 255][..], &[0x41, 7, 1].repeat(9), &[0x42]].concat();
-    bytes.extend([
-        0x02, 4, 1, 0x02, 3, 89, 0x01, 4, 2, 0x01, 0x84, 4, 0x02, 2, 255,
-    ]);
-    bytes.extend([
-        0x0A, 1, 0, 0, 2, 1, 0x0B, 4, 3, 9, 0x0B, 3, 200, 0, 0x01, 3, 30, 0x02, 4, 255,
-    ]);
+    bytes.extend([0x02, 4, 1, 0x02, 3, 89, 0x01, 4, 2, 0x01, 0x84, 4, 0x02, 2, 255]);
+    bytes.extend([0x0A, 1, 0, 0, 2, 1, 0x0B, 4, 3, 9, 0x0B, 3, 200, 0, 0x01, 3, 30, 0x02, 4, 255]);
     while bytes.len() < length - 9 {
         bytes.push(0x80);
     }

@@ -11,33 +11,21 @@ const TOGETHER: u32 = 10;
 
 /// Prints times, steps per second and ratios for each mix; false where outputs differ.
 pub fn speed(path: &str, rounds: usize) -> bool {
-    let programs = [
-        Program::new(path, &[]),
-        Program::itself(&["listing"]),
-        Program::itself(&["listing", "--no-check"]),
-    ];
+    let programs =
+        [Program::new(path, &[]), Program::itself(&["listing"]), Program::itself(&["listing", "--no-check"])];
     let nothing = sample_all(&programs, &[], rounds);
     let idle: Vec<f64> = nothing.iter().map(|times| median(times.clone())).collect();
     println!("start-up and end (empty input), taken off the times below:");
-    println!(
-        "  proved {:.2} ms, second {:.2} ms",
-        idle[0] * 1e3,
-        idle[1] * 1e3
-    );
+    println!("  proved {:.2} ms, second {:.2} ms", idle[0] * 1e3, idle[1] * 1e3);
     for (name, input) in mixes() {
-        let outputs: Vec<_> = programs
-            .iter()
-            .map(|program| program.output(&input))
-            .collect();
+        let outputs: Vec<_> = programs.iter().map(|program| program.output(&input)).collect();
         if outputs[0].is_err() || outputs.iter().any(|output| *output != outputs[0]) {
             println!("{name}: the outputs differ");
             return false;
         }
         let mut times = sample_all(&programs, &input, rounds);
         for (times, idle) in times.iter_mut().zip(&idle) {
-            times
-                .iter_mut()
-                .for_each(|time| *time = (*time - idle).max(1e-9));
+            times.iter_mut().for_each(|time| *time = (*time - idle).max(1e-9));
         }
         print_mix(name, steps_of(&input), &times);
     }
@@ -88,19 +76,13 @@ fn print_mix(name: &str, steps: usize, times: &[Vec<f64>]) {
     println!("{name}: {steps} steps");
     for (who, times) in ["proved", "second", "second, no check"].iter().zip(times) {
         let milliseconds = median(times.clone()) * 1e3;
-        println!(
-            "  {who:<17} {milliseconds:>8.2} ms {:>12.0} steps/s",
-            per_second(times)
-        );
+        println!("  {who:<17} {milliseconds:>8.2} ms {:>12.0} steps/s", per_second(times));
     }
     for (what, other) in [("ratio", &times[1]), ("ratio, no check", &times[2])] {
         let mut ratios: Vec<f64> = times[0].iter().zip(other).map(|(a, b)| a / b).collect();
         ratios.sort_by(f64::total_cmp);
         let (least, most) = (ratios[0], ratios[ratios.len() - 1]);
-        println!(
-            "  {what:<17} {:>8.2} ({least:.2} to {most:.2})",
-            median(ratios)
-        );
+        println!("  {what:<17} {:>8.2} ({least:.2} to {most:.2})", median(ratios));
     }
 }
 

@@ -24,7 +24,11 @@ fn used(one: &Use, items: &[&Item]) -> Option<String> {
     let shown = |n: &usize| {
         let b = &one.names[*n];
         let from = b.from.join(".");
-        if b.from.last() == Some(&b.name) { from } else { format!("{} as {}", from, b.name) }
+        if b.from.last() == Some(&b.name) {
+            from
+        } else {
+            format!("{} as {}", from, b.name)
+        }
     };
     let names: Vec<String> = kept.iter().map(shown).collect();
     Some(match (one.word, one.module) {
