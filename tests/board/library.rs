@@ -1,12 +1,8 @@
 //! The board library's functions, on buffers with guard bytes around those that are written to. They are linked; where
 //! BOARD_CALLS names a program, they are called through it.
 
-#[path = "linked.rs"]
-mod linked;
-#[path = "piped.rs"]
-mod piped;
-
-use piped::Program;
+use crate::linked;
+use crate::piped::Program;
 
 /// The library: linked, or through a program.
 pub struct Library(Option<Program>);

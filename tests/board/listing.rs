@@ -1,10 +1,10 @@
 //! The bench's listing by the board library: standard input to standard output, as `./bench` runs a program.
 
-use crate::bench::{cut, LONGEST_INPUT};
-use crate::executive::fresh_from_start;
 use crate::image::LENGTH;
 use crate::library::Library;
 use crate::ANSWER;
+use model::bench::{cut, LONGEST_INPUT};
+use model::executive::fresh_from_start;
 use std::io::{Read, Write};
 
 /// False where the input cannot be read or the listing not be written.

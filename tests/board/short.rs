@@ -1,8 +1,8 @@
 //! Short inputs, for counting instructions: the mixes cut to about a hundred steps, and the open door.
 
-use crate::bench::cut;
-use crate::executive::fresh_from_start;
-use crate::mixes::mixes;
+use model::bench::cut;
+use model::executive::fresh_from_start;
+use model::mixes::mixes;
 
 const OPEN_DOOR: &str = include_str!("../../samples/open-door.hex");
 

@@ -1,11 +1,11 @@
 //! The time of one step through the board library, against the same step of the second program.
 
-use crate::executive::{fresh_from_start, step, Table};
 use crate::image::{decode, encode};
 use crate::library::Library;
-use crate::mixes::{median, mixes};
 use crate::short::{records_of, short_mixes};
 use crate::{answer_bytes, ANSWER};
+use model::executive::{fresh_from_start, step, Table};
+use model::mixes::{median, mixes};
 use std::time::Instant;
 
 /// The ways to take a mix's steps: from the first table through all records, to the last image.

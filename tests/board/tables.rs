@@ -1,7 +1,7 @@
 //! What the walk through a run is varied by: edits of a table, damage to an image, bad records.
 
-use crate::executive::{well_formed, Request, State, Table, FLAGS, LAST_CLOCK, LONGEST, PLACES, TASKS};
-use crate::runs::Rng;
+use model::executive::{well_formed, Request, State, Table, FLAGS, LAST_CLOCK, LONGEST, PLACES, TASKS};
+use model::runs::Rng;
 
 type Edit = fn(&mut Table, &mut Rng);
 

@@ -1,32 +1,23 @@
 //! The board library against the second program's model, on random tables, damaged images and bad records.
 
-#[path = "../second/bench.rs"]
-#[allow(dead_code)]
-mod bench;
 mod counts;
-#[path = "../second/ending.rs"]
-mod ending;
-#[path = "../second/executive.rs"]
-#[allow(dead_code)]
-mod executive;
 mod image;
 mod library;
+mod linked;
 mod listing;
 mod met;
-#[path = "../second/mixes.rs"]
-mod mixes;
-#[path = "../second/runs.rs"]
-mod runs;
+mod piped;
 mod short;
 mod speed;
 mod tables;
 
 use counts::Counts;
-use executive::{fresh, fresh_from_start, step_with, well_formed, Answer, Fault, UNITS};
 use image::{decode, encode, LENGTH};
 use library::Library;
 use met::{Met, Since};
-use runs::Rng;
+use model::ending::ending;
+use model::executive::{fresh, fresh_from_start, step_with, well_formed, Answer, Fault, Table, UNITS};
+use model::runs::{run, Rng};
 use short::records_of;
 use std::process::ExitCode;
 use std::time::Instant;
@@ -122,7 +113,7 @@ impl Trial<'_> {
     /// Walks through one generated run, with edits, damage and bad records on the way.
     fn walk(&mut self, index: u64) -> Told {
         let rng = &mut Rng::new(!self.seed, index);
-        let bytes = runs::run(self.seed, index);
+        let bytes = run(self.seed, index);
         let used = fresh_from_start(&bytes).map_or(bytes.len(), |(_, used)| used);
         self.fresh(&bytes[..used], rng)?;
         self.fresh(&bytes, rng)?;
@@ -253,7 +244,7 @@ impl Trial<'_> {
 }
 
 /// The table of an image that the walk made; encoding it again must give the same bytes.
-fn table_of(image: &[u8]) -> executive::Table {
+fn table_of(image: &[u8]) -> Table {
     let table = decode(image).expect("the walk's image is one");
     assert!(encode(&table) == image, "decoding and encoding differ");
     table
@@ -383,7 +374,7 @@ fn main() -> ExitCode {
     let words: Vec<String> = std::env::args().skip(1).collect();
     let words: Vec<&str> = words.iter().map(String::as_str).collect();
     match Library::open() {
-        Ok(mut library) => ending::ending(asked(&mut library, &words), USAGE),
+        Ok(mut library) => ending(asked(&mut library, &words), USAGE),
         Err(why) => {
             eprintln!("trial: {why}");
             ExitCode::FAILURE

@@ -41,10 +41,3 @@ calls_on() (
 emulate $on '$PWD/$place/calls.elf' $exponent -semihosting-config enable=on,target=native
 END
 )
-
-# trial_program: builds the Rust trial, over the library for this machine; prints where it is.
-trial_program() (
-    folder=$(native_library) && mkdir -p target/board &&
-        rust rustc -O --edition 2021 -D warnings -L "$folder" -o target/board/trial tests/board/trial.rs &&
-        echo target/board/trial
-)

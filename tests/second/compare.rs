@@ -1,11 +1,10 @@
 //! The comparison: a bench program as a process against this program's own listing, run by run.
 
-use crate::bench::{cut, listing};
-use crate::cards::{PAPER_INPUT, PAPER_OUTPUT};
 use crate::coverage::Coverage;
-use crate::executive::{fresh_from_start, Fault};
-use crate::runs::run;
-use crate::FAULTS;
+use model::bench::{cut, listing};
+use model::cards::{PAPER_INPUT, PAPER_OUTPUT};
+use model::executive::{fresh_from_start, Fault, FAULTS};
+use model::runs::run;
 use std::io::Write;
 use std::process::{Command, Stdio};
 use std::sync::atomic::{AtomicBool, AtomicU64, Ordering};

@@ -1,7 +1,7 @@
 //! What a set of runs has met: kinds, numbers and ways of waking; and what it never met.
 
-use crate::bench::{cut, LONGEST_INPUT};
-use crate::executive::{fresh_from_start, step, Answer, State, Table, UNITS};
+use model::bench::{cut, LONGEST_INPUT};
+use model::executive::{fresh_from_start, step, Answer, State, Table, UNITS};
 
 const KINDS: [(u8, &str); 10] = [
     (0x00, "terminate"),

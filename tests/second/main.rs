@@ -1,16 +1,11 @@
 //! The second program: the executive of document 01 again, to hold the proved one against.
 
-mod bench;
-mod cards;
 mod compare;
 mod coverage;
-mod ending;
-mod executive;
-mod mixes;
-mod runs;
 mod speed;
 
-use executive::Fault;
+use model::executive::{Fault, FAULTS};
+use model::{bench, cards, ending, mixes, runs};
 use std::io::{Read, Write};
 use std::process::ExitCode;
 
@@ -21,14 +16,6 @@ const USAGE: &str = "usage: second listing [--no-check] [--fault NAME] < input
        second speed PROGRAM [--rounds N]
        second mix NAME
        second run INDEX [--seed S]";
-
-pub const FAULTS: [(&str, Fault); 5] = [
-    ("equal-in-front", Fault::EqualInFront),
-    ("drifting-catch-up", Fault::DriftingCatchUp),
-    ("cancel-wakes-due", Fault::CancelWakesDue),
-    ("remembered-flag", Fault::RememberedFlag),
-    ("lost-start", Fault::LostStart),
-];
 
 fn main() -> ExitCode {
     let words: Vec<String> = std::env::args().skip(1).collect();

@@ -1,10 +1,10 @@
 //! The speed of a bench program against this program, as processes on the same long inputs. What
 //! is timed is processor time, so that other work on the machine counts little.
 
-use crate::bench::cut;
 use crate::compare::Program;
-use crate::executive::fresh_from_start;
-use crate::mixes::{median, mixes};
+use model::bench::cut;
+use model::executive::fresh_from_start;
+use model::mixes::{median, mixes};
 
 /// Processes timed together as one sample.
 const TOGETHER: u32 = 10;

@@ -1,0 +1,19 @@
+# How the programs of the tests' Rust project (tests/Cargo.toml) are built: sourced by the comparisons.
+# Whoever sources it has sourced tools/setup.sh and targets.sh, and has the repository's folder in root.
+
+# project WORDS..: cargo, in the project.
+project() (
+    need cargo cargo && cd "$root/tests" && rust cargo "$@"
+)
+
+# second_program: builds the second program; prints where it is.
+second_program() (
+    project build --quiet --release --bin second && echo "$root/target/rust/release/second"
+)
+
+# trial_program: builds the Rust trial, over the board library for this machine; prints where it is.
+trial_program() (
+    library=$(cd "$root" && native_library) || return 1
+    export BOARD_LIBRARY="$root/$library"
+    project build --quiet --release --bin trial && echo "$root/target/rust/release/trial"
+)
