@@ -3,8 +3,9 @@
 use crate::image::LENGTH;
 use crate::library::Library;
 use crate::ANSWER;
-use model::bench::{cut, LONGEST_INPUT};
-use model::executive::fresh_from_start;
+use model::bench::LONGEST_INPUT;
+use model::configuration::fresh_from_start;
+use model::records::cut;
 use std::io::{Read, Write};
 
 /// False where the input cannot be read or the listing not be written.

@@ -1,6 +1,6 @@
 //! What a trial met: numbers, kinds, checks and days that ended.
 
-use model::executive::{State, Table, FLAGS, TASKS};
+use model::table::{State, Table, FLAGS, TASKS};
 use std::collections::BTreeMap;
 
 /// The numbers that must be met: by steps, and by the making of fresh tables. From a well-formed table 11 never arises.

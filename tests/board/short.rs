@@ -1,8 +1,8 @@
 //! Short inputs, for counting instructions: the mixes cut to about a hundred steps, and the open door.
 
-use model::bench::cut;
-use model::executive::fresh_from_start;
+use model::configuration::fresh_from_start;
 use model::mixes::mixes;
+use model::records::records_of;
 
 const OPEN_DOOR: &str = include_str!("../../samples/open-door.hex");
 
@@ -15,16 +15,6 @@ pub fn short_mixes() -> Vec<(&'static str, Vec<u8>)> {
         mixes().into_iter().zip(STEPS).map(|((name, input), steps)| (name, beginning(&input, steps))).collect();
     inputs.push(("open door", bytes_of(OPEN_DOOR)));
     inputs
-}
-
-/// The records of some steps, up to the first that is cut or unknown.
-pub fn records_of(mut steps: &[u8]) -> Vec<&[u8]> {
-    let mut records = Vec::new();
-    while let Ok((record, more)) = cut(steps) {
-        records.push(record);
-        steps = more;
-    }
-    records
 }
 
 /// The configuration and so many steps.

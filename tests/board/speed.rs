@@ -2,10 +2,13 @@
 
 use crate::image::{decode, encode};
 use crate::library::Library;
-use crate::short::{records_of, short_mixes};
+use crate::short::short_mixes;
 use crate::{answer_bytes, ANSWER};
-use model::executive::{fresh_from_start, step, Table};
+use model::configuration::fresh_from_start;
 use model::mixes::{median, mixes};
+use model::records::records_of;
+use model::steps::step;
+use model::table::Table;
 use std::time::Instant;
 
 /// The ways to take a mix's steps: from the first table through all records, to the last image.

@@ -1,7 +1,8 @@
 //! What the walk through a run is varied by: edits of a table, damage to an image, bad records.
 
-use model::executive::{well_formed, Request, State, Table, FLAGS, LAST_CLOCK, LONGEST, PLACES, TASKS};
+use model::check::well_formed;
 use model::runs::Rng;
+use model::table::{Request, State, Table, FLAGS, LAST_CLOCK, LONGEST, PLACES, TASKS};
 
 type Edit = fn(&mut Table, &mut Rng);
 

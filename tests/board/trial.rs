@@ -15,10 +15,14 @@ use counts::Counts;
 use image::{decode, encode, LENGTH};
 use library::Library;
 use met::{Met, Since};
+use model::check::well_formed;
+use model::configuration::{fresh, fresh_from_start};
 use model::ending::ending;
-use model::executive::{fresh, fresh_from_start, step_with, well_formed, Answer, Fault, Table, UNITS};
+use model::faults::{Fault, FAULTS};
+use model::records::records_of;
 use model::runs::{run, Rng};
-use short::records_of;
+use model::steps::step;
+use model::table::{Answer, Table, UNITS};
 use std::process::ExitCode;
 use std::time::Instant;
 
@@ -49,12 +53,8 @@ enum Wrong {
     Fresh,
 }
 
-const WRONGS: [(&str, Wrong); 10] = [
-    ("equal-in-front", Wrong::Rule(Fault::EqualInFront)),
-    ("drifting-catch-up", Wrong::Rule(Fault::DriftingCatchUp)),
-    ("cancel-wakes-due", Wrong::Rule(Fault::CancelWakesDue)),
-    ("remembered-flag", Wrong::Rule(Fault::RememberedFlag)),
-    ("lost-start", Wrong::Rule(Fault::LostStart)),
+/// Those that are no rule of the model, by name.
+const WRONGS: [(&str, Wrong); 5] = [
     ("answer", Wrong::Answer),
     ("one-skipped-too-few", Wrong::Skipped),
     ("image", Wrong::Image),
@@ -202,14 +202,11 @@ impl Trial<'_> {
         if answer.len() < ANSWER {
             return after;
         }
-        let fault = match self.wrong {
-            Wrong::Rule(fault) => fault,
-            _ => Fault::None,
-        };
         let mut table = decode(image);
-        let mut said = match &mut table {
-            Some(table) => step_with::<true>(table, record, fault),
-            None => Answer { number: 1, ..Answer::default() },
+        let mut said = match (&mut table, self.wrong) {
+            (Some(table), Wrong::Rule(fault)) if well_formed(table) => fault.step(table, record),
+            (Some(table), _) => step(table, record),
+            (None, _) => Answer::BROKEN,
         };
         if let (0, Some(table)) = (said.number, &table) {
             after.1 = encode(table);
@@ -333,6 +330,12 @@ fn walked(trial: &mut Trial, steps: u64) -> Option<bool> {
     Some(complete)
 }
 
+/// What is made wrong, by its name.
+fn wrong_of(name: &str) -> Option<Wrong> {
+    let rules = FAULTS.iter().map(|(known, fault)| (*known, Wrong::Rule(*fault)));
+    rules.chain(WRONGS).find(|(known, _)| *known == name).map(|(_, wrong)| wrong)
+}
+
 /// `--steps N`, `--seed S` and `--fault NAME`, in any order.
 fn options_of(mut words: &[&str]) -> Option<(u64, u64, Wrong)> {
     let (mut steps, mut seed, mut wrong) = (1_000_000, 1, Wrong::Nothing);
@@ -340,7 +343,7 @@ fn options_of(mut words: &[&str]) -> Option<(u64, u64, Wrong)> {
         match *name {
             "--steps" => steps = value.parse().ok()?,
             "--seed" => seed = value.parse().ok()?,
-            "--fault" => wrong = WRONGS.iter().find(|(known, _)| known == value)?.1,
+            "--fault" => wrong = wrong_of(value)?,
             _ => return None,
         }
         words = rest;

@@ -1,11 +1,13 @@
 //! The bench program of document 01: input bytes to output bytes.
 
-use crate::executive::{body_length, configures, fresh_from_start, step_with, Answer, Fault};
+use crate::configuration::fresh_from_start;
+use crate::records::cut;
+use crate::table::{Answer, Table};
 
 pub const LONGEST_INPUT: usize = 65_536;
 
-/// What the bench prints for an input.
-pub fn listing<const CHECK: bool>(input: &[u8], fault: Fault) -> Vec<u8> {
+/// What the bench prints for an input, with the steps taken as given.
+pub fn listing(input: &[u8], step: impl Fn(&mut Table, &[u8]) -> Answer) -> Vec<u8> {
     if input.len() > LONGEST_INPUT {
         return b"stop 12\n".to_vec();
     }
@@ -28,22 +30,12 @@ pub fn listing<const CHECK: bool>(input: &[u8], fault: Fault) -> Vec<u8> {
             }
         };
         number += 1;
-        let answer = step_with::<CHECK>(&mut table, record, fault);
+        let answer = step(&mut table, record);
         line(&mut out, number, record[0], &answer);
         rest = more;
     }
     out.extend_from_slice(b"end\n");
     out
-}
-
-/// The first record of the steps and what follows it; else 3 for a cut one, 4 for an unknown one.
-pub fn cut(steps: &[u8]) -> Result<(&[u8], &[u8]), u8> {
-    let kind = *steps.first().ok_or(3)?;
-    let length = body_length(kind).filter(|_| !configures(kind)).ok_or(4)?;
-    if steps.len() <= length {
-        return Err(3);
-    }
-    Ok(steps.split_at(1 + length))
 }
 
 fn header(out: &mut Vec<u8>, granule: u8, tasks: u8, active: u8) {

@@ -1,7 +1,10 @@
 //! The bench cards and the listing of document 01, and the check of a table, on this program.
 
 use crate::bench::listing;
-use crate::executive::*;
+use crate::check::well_formed;
+use crate::configuration::fresh;
+use crate::steps::step;
+use crate::table::{Answer, State, Table, Task, LAST_CLOCK, LONGEST};
 
 /// The input of document 01's listing.
 pub const PAPER_INPUT: [u8; 39] = [
@@ -28,7 +31,7 @@ end
 /// Runs every card; true if all hold.
 pub fn cards() -> bool {
     let all: [(&str, fn() -> bool); 16] = [
-        ("01's listing", || listing::<true>(&PAPER_INPUT, Fault::None) == PAPER_OUTPUT),
+        ("01's listing", || listing(&PAPER_INPUT, step) == PAPER_OUTPUT),
         ("P1", || table(1, &[(7, 1), (7, 1)]).queue[0] == 1),
         ("P2", p2),
         ("P3", p3),

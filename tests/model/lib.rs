@@ -2,7 +2,13 @@
 
 pub mod bench;
 pub mod cards;
+pub mod check;
+pub mod configuration;
 pub mod ending;
-pub mod executive;
+pub mod faults;
 pub mod mixes;
+pub mod records;
+mod refusals;
 pub mod runs;
+pub mod steps;
+pub mod table;

@@ -1,7 +1,10 @@
 //! Seeded runs for the bench: deep valid ones, damaged ones, and ones near the longest input.
 
-use crate::bench::{cut, LONGEST_INPUT};
-use crate::executive::{fresh_from_start, step, State, Table, PLACES, TASKS, UNITS};
+use crate::bench::LONGEST_INPUT;
+use crate::configuration::fresh_from_start;
+use crate::records::cut;
+use crate::steps::step;
+use crate::table::{State, Table, PLACES, TASKS, UNITS};
 
 /// A small generator of numbers (splitmix64).
 pub struct Rng(u64);
@@ -358,7 +361,6 @@ fn dead(table: &Table) -> bool {
         })
 }
 
-/// Mostly one of the first flags, so that sets, masks and alarms meet.
 /// No units, the most, a power of two, or any count.
 fn some_count(rng: &mut Rng) -> u8 {
     match rng.below(4) {
@@ -369,6 +371,7 @@ fn some_count(rng: &mut Rng) -> u8 {
     }
 }
 
+/// Mostly one of the first flags, so that sets, masks and alarms meet.
 fn some_flag(rng: &mut Rng) -> u8 {
     if rng.one_in(8) {
         rng.pick(&[7, 8, 15, 16, 23, 24, 30, 31])

@@ -1,10 +1,13 @@
 //! The comparison: a bench program as a process against this program's own listing, run by run.
 
 use crate::coverage::Coverage;
-use model::bench::{cut, listing};
+use model::bench::listing;
 use model::cards::{PAPER_INPUT, PAPER_OUTPUT};
-use model::executive::{fresh_from_start, Fault, FAULTS};
+use model::configuration::fresh_from_start;
+use model::faults::FAULTS;
+use model::records::cut;
 use model::runs::run;
+use model::steps::step;
 use std::io::Write;
 use std::process::{Command, Stdio};
 use std::sync::atomic::{AtomicBool, AtomicU64, Ordering};
@@ -57,7 +60,7 @@ impl Program {
 
     /// Whether it says the same of an input as this program.
     fn agrees(&self, input: &[u8]) -> bool {
-        self.output(input) == Ok(listing::<true>(input, Fault::None))
+        self.output(input) == Ok(listing(input, step))
     }
 }
 
@@ -82,7 +85,7 @@ pub fn compare(path: &str, runs: u64, seed: u64) -> Option<bool> {
 
 /// Document 01's input gives document 01's output, from this program and from the other.
 fn paper_agrees(program: &Program) -> bool {
-    if listing::<true>(&PAPER_INPUT, Fault::None) != PAPER_OUTPUT {
+    if listing(&PAPER_INPUT, step) != PAPER_OUTPUT {
         println!("01's listing: the second program itself differs");
         return false;
     }
@@ -177,7 +180,7 @@ fn shortest(program: &Program, input: Vec<u8>) -> Vec<u8> {
 
 fn report(program: &Program, input: &[u8]) {
     println!("the shortest run found that shows it, {} bytes:\n{}", input.len(), hex(input));
-    let ours = listing::<true>(input, Fault::None);
+    let ours = listing(input, step);
     println!("expected:\n{}", String::from_utf8_lossy(&ours));
     match program.output(input) {
         Ok(output) => println!("given:\n{}", String::from_utf8_lossy(&output)),

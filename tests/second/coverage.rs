@@ -1,7 +1,10 @@
 //! What a set of runs has met: kinds, numbers and ways of waking; and what it never met.
 
-use model::bench::{cut, LONGEST_INPUT};
-use model::executive::{fresh_from_start, step, Answer, State, Table, UNITS};
+use model::bench::LONGEST_INPUT;
+use model::configuration::fresh_from_start;
+use model::records::cut;
+use model::steps::step;
+use model::table::{Answer, State, Table, UNITS};
 
 const KINDS: [(u8, &str); 10] = [
     (0x00, "terminate"),

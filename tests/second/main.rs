@@ -4,7 +4,8 @@ mod compare;
 mod coverage;
 mod speed;
 
-use model::executive::{Fault, FAULTS};
+use model::faults::FAULTS;
+use model::steps::{step, step_unchecked};
 use model::{bench, cards, ending, mixes, runs};
 use std::io::{Read, Write};
 use std::process::ExitCode;
@@ -52,21 +53,25 @@ fn options_of(mut words: &[&str], mut values: [u64; 2]) -> Option<[u64; 2]> {
     words.is_empty().then_some(values)
 }
 
-/// The bench: standard input to standard output.
+/// The bench: standard input to standard output, without the check, or with a fault.
 fn listing(options: &[&str]) -> Option<bool> {
-    let mut input = Vec::new();
-    let most = bench::LONGEST_INPUT as u64 + 1;
-    let fault = match options {
-        ["--fault", name] => FAULTS.iter().find(|(known, _)| known == name)?.1,
-        [] | ["--no-check"] => Fault::None,
+    let output = match options {
+        [] => input().map(|input| bench::listing(&input, step)),
+        ["--no-check"] => input().map(|input| bench::listing(&input, step_unchecked)),
+        ["--fault", name] => {
+            let (_, fault) = FAULTS.iter().find(|(known, _)| known == name)?;
+            input().map(|input| bench::listing(&input, |table, record| fault.step(table, record)))
+        }
         _ => return None,
     };
-    if std::io::stdin().lock().take(most).read_to_end(&mut input).is_err() {
-        return Some(false);
-    }
-    let output =
-        if options.is_empty() { bench::listing::<true>(&input, fault) } else { bench::listing::<false>(&input, fault) };
-    Some(std::io::stdout().lock().write_all(&output).is_ok())
+    Some(output.and_then(|output| std::io::stdout().lock().write_all(&output)).is_ok())
+}
+
+/// Standard input, up to a byte more than the bench takes.
+fn input() -> std::io::Result<Vec<u8>> {
+    let mut input = Vec::new();
+    std::io::stdin().lock().take(bench::LONGEST_INPUT as u64 + 1).read_to_end(&mut input)?;
+    Ok(input)
 }
 
 /// A generated run's bytes, to look at one.

@@ -2,9 +2,9 @@
 //! is timed is processor time, so that other work on the machine counts little.
 
 use crate::compare::Program;
-use model::bench::cut;
-use model::executive::fresh_from_start;
+use model::configuration::fresh_from_start;
 use model::mixes::{median, mixes};
+use model::records::records_of;
 
 /// Processes timed together as one sample.
 const TOGETHER: u32 = 10;
@@ -88,11 +88,5 @@ fn print_mix(name: &str, steps: usize, times: &[Vec<f64>]) {
 
 fn steps_of(input: &[u8]) -> usize {
     let used = fresh_from_start(input).map_or(0, |(_, used)| used);
-    let mut rest = &input[used..];
-    let mut steps = 0;
-    while let Ok((_, more)) = cut(rest) {
-        steps += 1;
-        rest = more;
-    }
-    steps
+    records_of(&input[used..]).len()
 }

@@ -1,0 +1,98 @@
+//! The check of a table: every rule of document 01's sentence.
+
+use crate::table::{Request, State, Table, Task, LAST_CLOCK, LONGEST, PLACES, TASKS};
+
+/// Whether a table keeps every rule, in the sentence's order.
+pub fn well_formed(table: &Table) -> bool {
+    in_range(table)
+        && queue_is_right(table)
+        && times_are_ahead(table)
+        && table.tasks.iter().all(|task| task.started <= table.clock)
+        && waits_are_open(table)
+        && table.pool[..table.asked as usize].iter().all(|request| table.task(request.task).state != State::Dormant)
+        && links_match(table)
+        && idle_entries_are_zero(table)
+}
+
+/// Every number is in range.
+fn in_range(table: &Table) -> bool {
+    let count = table.count;
+    let is_task = |number: u8| 1 <= number && number <= count;
+    (1..=TASKS).contains(&(count as usize))
+        && table.granule >= 1
+        && table.clock <= LAST_CLOCK
+        && table.queued <= count
+        && table.queue[..table.queued as usize].iter().all(|&number| is_task(number))
+        && table.tasks.iter().all(|task| task.own <= 15 && task.priority <= 15 && task.end_waiter <= count)
+        && table.asked as usize <= PLACES
+        && table.pool[..table.asked as usize].iter().all(|request| {
+            is_task(request.task)
+                && request.priority <= 15
+                && request.start_waiter <= count
+                && request.end_waiter <= count
+        })
+}
+
+/// The queue holds exactly the ready tasks, once each, in descending priority, zeros after them.
+fn queue_is_right(table: &Table) -> bool {
+    let (held, free) = table.queue.split_at(table.queued as usize);
+    let mut seen = 0u32;
+    let mut last = 15;
+    for &number in held {
+        let task = table.task(number);
+        if task.state != State::Ready || seen >> number & 1 == 1 || task.priority > last {
+            return false;
+        }
+        seen |= 1 << number;
+        last = task.priority;
+    }
+    let ready = table.tasks.iter().filter(|task| task.state == State::Ready).count();
+    ready == held.len() && free.iter().all(|&number| number == 0)
+}
+
+/// Every stored pause, due and alarm time is after the clock, and not too far after it.
+fn times_are_ahead(table: &Table) -> bool {
+    let ahead = |time: u64| time > table.clock && time - table.clock <= LONGEST;
+    table.tasks.iter().all(|task| match task.state {
+        State::Paused(time) | State::Due(time) => ahead(time),
+        _ => true,
+    }) && table.alarms.iter().all(|&time| time == 0 || ahead(time))
+}
+
+/// Each wait mask is nonzero and its condition is false now.
+fn waits_are_open(table: &Table) -> bool {
+    table.tasks.iter().all(|task| match task.state {
+        State::WaitAny(0) | State::WaitAll(0) => false,
+        state => !table.condition(state),
+    })
+}
+
+/// Each link names a different task in the matching state; each such state is named once. A
+/// request names one waiter at most.
+fn links_match(table: &Table) -> bool {
+    let mut named = 0u32;
+    let mut link = |holder: u8, waiter: u8, state: State| {
+        let right = waiter == 0 || waiter != holder && table.task(waiter).state == state && named >> waiter & 1 == 0;
+        named |= 1 << waiter;
+        right
+    };
+    let runs = (1..).zip(&table.tasks).all(|(number, task)| link(number, task.end_waiter, State::WaitEnd));
+    let requests = table.pool[..table.asked as usize].iter().all(|request| {
+        (request.start_waiter == 0 || request.end_waiter == 0)
+            && link(request.task, request.start_waiter, State::WaitStart)
+            && link(request.task, request.end_waiter, State::WaitEnd)
+    });
+    runs && requests
+        && (1..).zip(&table.tasks).all(|(number, task): (u32, _)| {
+            !matches!(task.state, State::WaitStart | State::WaitEnd) || named >> number & 1 == 1
+        })
+}
+
+/// Dormant tasks hold zeros but for their own priority; entries past the count and free places
+/// hold nothing.
+fn idle_entries_are_zero(table: &Table) -> bool {
+    let (kept, past) = table.tasks.split_at(table.count as usize);
+    kept.iter().all(|task| task.state != State::Dormant || *task == Task { own: task.own, ..Task::default() })
+        && past.iter().all(|task| *task == Task::default())
+        && table.pool[table.asked as usize..].iter().all(|place| *place == Request::default())
+}

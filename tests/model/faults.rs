@@ -1,0 +1,99 @@
+//! The faults that the last board had, beside the model: its own step, and then what that board did otherwise.
+//! They show that the comparisons find them.
+
+use crate::steps::step_unchecked;
+use crate::table::{Answer, State, Table};
+
+#[derive(Clone, Copy, PartialEq, Eq, Debug)]
+pub enum Fault {
+    EqualInFront,
+    DriftingCatchUp,
+    CancelWakesDue,
+    RememberedFlag,
+    LostStart,
+}
+
+/// The faults, by name.
+pub const FAULTS: [(&str, Fault); 5] = [
+    ("equal-in-front", Fault::EqualInFront),
+    ("drifting-catch-up", Fault::DriftingCatchUp),
+    ("cancel-wakes-due", Fault::CancelWakesDue),
+    ("remembered-flag", Fault::RememberedFlag),
+    ("lost-start", Fault::LostStart),
+];
+
+impl Fault {
+    /// A step as the last board took it. The table is not checked: the fault may have left one that is not well formed.
+    pub fn step(self, table: &mut Table, record: &[u8]) -> Answer {
+        let before = *table;
+        let mut answer = step_unchecked(table, record);
+        if answer.number != 0 {
+            return answer;
+        }
+        match self {
+            Fault::EqualInFront => equal_in_front(&before, table, record),
+            Fault::DriftingCatchUp => drifting_catch_up(&before, table, record),
+            Fault::CancelWakesDue => cancel_wakes_due(&before, table, record, &mut answer),
+            Fault::RememberedFlag => remembered_flag(&before, table, record),
+            Fault::LostStart => lost_start(&before, table, record),
+        }
+        answer.name_active(table);
+        answer
+    }
+}
+
+/// The kinds by which the caller's run ends, so that it stands in the queue anew if it stands there at all.
+fn ends(record: &[u8]) -> bool {
+    matches!(record[0], 0x00 | 0x01)
+}
+
+/// Tasks that enter go in front of their equals, the last of them first.
+fn equal_in_front(before: &Table, after: &mut Table, record: &[u8]) {
+    let kept = &before.queue[usize::from(ends(record))..before.queued as usize];
+    let queue = after.queue[..after.queued as usize].to_vec();
+    let (stayed, entered): (Vec<u8>, Vec<u8>) = queue.iter().partition(|number| kept.contains(number));
+    let mut queue: Vec<u8> = entered.into_iter().rev().chain(stayed).collect();
+    queue.sort_by_key(|&number| 15 - after.task(number).priority);
+    after.queue[..queue.len()].copy_from_slice(&queue);
+}
+
+/// A restart that catches up counts from now.
+fn drifting_catch_up(before: &Table, after: &mut Table, record: &[u8]) {
+    let now = after.clock;
+    let caller = before.queue[0];
+    if record[0] == 0x01 && after.task(caller).state == State::Ready {
+        after.task_mut(caller).started = now;
+    }
+}
+
+/// The cancel of a pause wakes a task that is due, too.
+fn cancel_wakes_due(before: &Table, after: &mut Table, record: &[u8], answer: &mut Answer) {
+    if let [0x03, number] = *record {
+        if let State::Due(time) = before.task(number).state {
+            after.task_mut(number).state = State::Paused(time);
+            *answer = step_unchecked(after, record);
+        }
+    }
+}
+
+/// A task that waits for all of some flags needs none again that was set while it waited.
+fn remembered_flag(before: &Table, after: &mut Table, record: &[u8]) {
+    let set = match *record {
+        [0x09, operation, _] => operation == 1,
+        [0x0B, _, count, _] => count == 0,
+        _ => before.alarms != after.alarms,
+    };
+    let flags = if set { after.flags } else { 0 };
+    for task in &mut after.tasks {
+        if let State::WaitAll(mask) = &mut task.state {
+            *mask &= !flags;
+        }
+    }
+}
+
+/// A restart loses the start that is queued for the caller.
+fn lost_start(before: &Table, after: &mut Table, record: &[u8]) {
+    if record[0] == 0x01 {
+        after.take_request(before.queue[0]);
+    }
+}

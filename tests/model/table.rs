@@ -1,0 +1,112 @@
+//! The table of document 01 and its parts, and the answer of a step.
+
+pub const TASKS: usize = 16;
+pub const FLAGS: usize = 32;
+pub const PLACES: usize = 32;
+pub const LAST_CLOCK: u64 = 1 << 40;
+pub const LONGEST: u64 = 22_032_000_000;
+pub const UNITS: [u64; 6] = [1, 10, 1_000, 60_000, 3_600_000, 86_400_000];
+
+/// What a task is doing; exactly one of these.
+#[derive(Clone, Copy, PartialEq, Eq, Debug, Default)]
+pub enum State {
+    #[default]
+    Dormant,
+    Ready,
+    Paused(u64),
+    Due(u64),
+    WaitAny(u32),
+    WaitAll(u32),
+    WaitStart,
+    WaitEnd,
+}
+
+/// One task's entry. `end_waiter` is the task that waits for this run's end, 0 for nobody.
+#[derive(Clone, Copy, PartialEq, Eq, Debug, Default)]
+pub struct Task {
+    pub own: u8,
+    pub state: State,
+    pub priority: u8,
+    pub argument: u16,
+    pub started: u64,
+    pub end_waiter: u8,
+}
+
+/// One place of the pool; all zero when free.
+#[derive(Clone, Copy, PartialEq, Eq, Debug, Default)]
+pub struct Request {
+    pub task: u8,
+    pub priority: u8,
+    pub argument: u16,
+    pub start_waiter: u8,
+    pub end_waiter: u8,
+}
+
+/// The whole table. Task n stands at index n - 1; an alarm of 0 is not running.
+#[derive(Clone, Copy, PartialEq, Eq, Debug, Default)]
+pub struct Table {
+    pub count: u8,
+    pub granule: u8,
+    pub clock: u64,
+    pub tasks: [Task; TASKS],
+    pub queue: [u8; TASKS],
+    pub queued: u8,
+    pub flags: u32,
+    pub alarms: [u64; FLAGS],
+    pub pool: [Request; PLACES],
+    pub asked: u8,
+}
+
+/// What a step answers.
+#[derive(Clone, Copy, PartialEq, Eq, Debug, Default)]
+pub struct Answer {
+    pub number: u8,
+    pub z: bool,
+    pub v: bool,
+    pub c: bool,
+    pub active: u8,
+    pub argument: u16,
+    /// Grid times that a restart passed over.
+    pub skipped: u64,
+}
+
+impl Table {
+    pub fn task(&self, number: u8) -> &Task {
+        &self.tasks[number as usize - 1]
+    }
+
+    pub fn task_mut(&mut self, number: u8) -> &mut Task {
+        &mut self.tasks[number as usize - 1]
+    }
+
+    /// Whether a task that waits for flags has its condition now.
+    pub fn condition(&self, state: State) -> bool {
+        match state {
+            State::WaitAny(mask) => self.flags & mask != 0,
+            State::WaitAll(mask) => self.flags & mask == mask,
+            _ => false,
+        }
+    }
+
+    /// The earliest request for a task, taken from the pool.
+    pub fn take_request(&mut self, task: u8) -> Option<Request> {
+        let asked = self.asked as usize;
+        let place = self.pool[..asked].iter().position(|request| request.task == task)?;
+        let request = self.pool[place];
+        self.pool.copy_within(place + 1..asked, place);
+        self.pool[asked - 1] = Request::default();
+        self.asked -= 1;
+        Some(request)
+    }
+}
+
+impl Answer {
+    /// What every step from a table that is not well formed answers.
+    pub const BROKEN: Answer = Answer { number: 1, z: false, v: false, c: false, active: 0, argument: 0, skipped: 0 };
+
+    /// Names the table's active task and its argument, or nobody.
+    pub fn name_active(&mut self, table: &Table) {
+        self.active = table.queue[0];
+        self.argument = if self.active == 0 { 0 } else { table.task(self.active).argument };
+    }
+}
