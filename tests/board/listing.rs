@@ -25,20 +25,24 @@ fn of(library: &mut Library, input: &[u8]) -> String {
         return format!("stop {number}\n");
     }
     // granule, count and the queue's first place, by docs/TABLE.md
-    let mut out = format!("granule {} tasks {} active {}\n", image[434], image[433], image[416]);
+    let mut lines = vec![format!("granule {} tasks {} active {}\n", image[434], image[433], image[416])];
     let mut rest = &input[used..];
     let mut step = 0;
     while !rest.is_empty() {
         let (record, more) = match cut(rest) {
             Ok(parts) => parts,
-            Err(stop) => return out + &format!("stop {stop}\n"),
+            Err(stop) => {
+                lines.push(format!("stop {stop}\n"));
+                return lines.concat();
+            }
         };
         step += 1;
         let (number, after, answer) = library.step(&image, record, &[0; ANSWER]);
         let [_, z, v, c, active] = [0, 1, 2, 3, 4].map(|place| answer[place]);
-        out += &format!("{step} {:02X} {number} {z}{v}{c} {active}\n", record[0]);
+        lines.push(format!("{step} {:02X} {number} {z}{v}{c} {active}\n", record[0]));
         image = after;
         rest = more;
     }
-    out + "end\n"
+    lines.push("end\n".to_string());
+    lines.concat()
 }

@@ -231,8 +231,13 @@ impl Trial<'_> {
         let given = self.library.fresh(config, &before);
         if given != expected {
             return Err(format!(
-                "fresh: the library gives {}, the model {}, into {length} bytes\nconfiguration {}\nlibrary {}\nmodel   {}",
-                given.0, expected.0, hex(config), hex(&given.1), hex(&expected.1)
+                "fresh: the library gives {}, the model {}, into {length} bytes\n\
+                 configuration {}\nlibrary {}\nmodel   {}",
+                given.0,
+                expected.0,
+                hex(config),
+                hex(&given.1),
+                hex(&expected.1)
             ));
         }
         self.met.made(given.0 as u8);

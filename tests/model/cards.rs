@@ -28,28 +28,49 @@ pub const PAPER_OUTPUT: &[u8] = b"granule 10 tasks 3 active 1
 end
 ";
 
-/// Runs every card; true if all hold.
+/// Whether the model keeps a card.
+type Card = fn() -> bool;
+
+/// Lists the cards by name, and makes each a test.
+macro_rules! cards {
+    ($($name:literal: $card:ident,)*) => {
+        const CARDS: &[(&str, Card)] = &[$(($name, $card)),*];
+
+        #[cfg(test)]
+        mod tests {
+            $(
+                #[test]
+                fn $card() {
+                    assert!(super::$card(), "the card '{}' does not hold", $name);
+                }
+            )*
+        }
+    };
+}
+
+cards! {
+    "01's listing": listing_of_the_paper,
+    "P1": p1,
+    "P2": p2,
+    "P3": p3,
+    "P4": p4,
+    "P5": p5,
+    "P6": p6,
+    "P7": p7,
+    "P8": p8,
+    "P9": p9,
+    "P10": p10,
+    "P11": p11,
+    "P12": p12,
+    "order at an end": order_at_an_end,
+    "refusals change nothing": refusals_change_nothing,
+    "broken tables give 1": broken_tables,
+}
+
+/// Prints of every card whether it holds; true if all do.
 pub fn cards() -> bool {
-    let all: [(&str, fn() -> bool); 16] = [
-        ("01's listing", || listing(&PAPER_INPUT, step) == PAPER_OUTPUT),
-        ("P1", || table(1, &[(7, 1), (7, 1)]).queue[0] == 1),
-        ("P2", p2),
-        ("P3", p3),
-        ("P4", || ended_at(420_000, 0).state == State::Ready && ended_at(420_000, 0).started == 300_000),
-        ("P5", p5),
-        ("P6", p6),
-        ("P7", p7),
-        ("P8", p8),
-        ("P9", p9),
-        ("P10", p10),
-        ("P11", p11),
-        ("P12", p12),
-        ("order at an end", order_at_an_end),
-        ("refusals change nothing", refusals_change_nothing),
-        ("broken tables give 1", broken_tables),
-    ];
     let mut right = true;
-    for (name, card) in all {
+    for (name, card) in CARDS {
         let holds = card();
         println!("{name}: {}", if holds { "holds" } else { "DOES NOT HOLD" });
         right &= holds;
@@ -79,6 +100,14 @@ fn zvc(answer: Answer) -> (u8, bool, bool, bool) {
     (answer.number, answer.z, answer.v, answer.c)
 }
 
+fn listing_of_the_paper() -> bool {
+    listing(&PAPER_INPUT, step) == PAPER_OUTPUT
+}
+
+fn p1() -> bool {
+    table(1, &[(7, 1), (7, 1)]).queue[0] == 1
+}
+
 fn p2() -> bool {
     let mut t = table(100, &[(7, 1), (7, 1)]);
     let idle = accepted(&mut t, &[&[2, 0, 1], &[2, 0, 99]]).active == 0;
@@ -105,6 +134,11 @@ fn ended_at(clock: u64, started: u64) -> Task {
     t.tasks[0].started = started;
     accepted(&mut t, &[&[1, 3, 5]]);
     t.tasks[0]
+}
+
+fn p4() -> bool {
+    let late = ended_at(420_000, 0);
+    late.state == State::Ready && late.started == 300_000
 }
 
 fn p5() -> bool {

@@ -49,8 +49,10 @@ const WAYS: [&str; 15] = [
 
 /// The kinds with an interval.
 const TIMED: [u8; 3] = [0x01, 0x02, 0x0B];
+/// Which counts are meant.
+type Counts = fn(u8) -> bool;
 /// The counts that each of them must meet in every unit.
-const COUNTS: [(&str, fn(u8) -> bool); 3] =
+const COUNTS: [(&str, Counts); 3] =
     [("count 0", |count| count == 0), ("count 255", |count| count == 255), ("a power of two", u8::is_power_of_two)];
 
 /// What becomes of a restart with bit 6.

@@ -24,8 +24,9 @@ fn wrong(sections: &BTreeMap<String, Vec<String>>, text: &str, to: &str) -> Opti
         Some(words) => words,
     };
     let names = text.split('`').skip(1).step_by(2);
-    let parts = names.flat_map(|n| n.split(|c: char| c.is_whitespace() || ".:".contains(c)).filter(|p| !p.is_empty()));
-    let missing = parts.filter(|p| !words.iter().any(|w| w == p)).next();
+    let mut parts =
+        names.flat_map(|n| n.split(|c: char| c.is_whitespace() || ".:".contains(c)).filter(|p| !p.is_empty()));
+    let missing = parts.find(|p| !words.iter().any(|w| w == p));
     missing.map(|name| format!("'{}' does not stand in the section '{}'", name, to))
 }
 

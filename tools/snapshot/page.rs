@@ -56,7 +56,7 @@ fn section(file: &File, items: &[&Item]) -> String {
 pub fn of(tree: &Tree, reached: &BTreeSet<Place>) -> Result<String, String> {
     let mut page = HEAD.to_string();
     for name in &tree.crates {
-        page.push_str(&format!("\n## {}\n", name));
+        page.extend(["\n## ", name, "\n"]);
         let before = page.len();
         for (f, file) in tree.files.iter().enumerate().filter(|(_, file)| file.parts().0 == name) {
             let items: Vec<&Item> = reached.range((f, 0)..(f + 1, 0)).map(|p| &file.items[p.1]).collect();

@@ -42,7 +42,7 @@ impl File {
     }
 
     // The file, unless a `use` of definitions begins at a name of the file itself: it would be taken for the kit's.
-    fn from_libraries(self) -> Result<File, String> {
+    fn beginning_at_libraries(self) -> Result<File, String> {
         let of_terms = || self.uses.iter().filter(|u| u.word != "code");
         let brought = of_terms().flat_map(|u| u.names.iter().map(|b| &b.name));
         let names: Vec<&String> = brought.chain(&self.below).collect();
@@ -113,10 +113,10 @@ pub fn read(root: &Path) -> Result<Tree, String> {
             return Err(format!("crates.txt lists '{}', and crates/{}/src has no file of it.", name, name));
         }
         for path in sources_of {
-            files.push(sources::read(&path, &text_of(&root.join(&path))?)?.from_libraries()?);
+            files.push(sources::read(&path, &text_of(&root.join(&path))?)?.beginning_at_libraries()?);
         }
         for path in files_in(root, &format!("crates/{}/specs", name), ".antt")? {
-            files.push(definitions::read(&path, &text_of(&root.join(&path))?)?.from_libraries()?);
+            files.push(definitions::read(&path, &text_of(&root.join(&path))?)?.beginning_at_libraries()?);
         }
     }
     Ok(Tree { crates, files })
