@@ -10,17 +10,17 @@ pub fn encode(table: &Table) -> Vec<u8> {
     for task in &table.tasks {
         encode_task(&mut image, task);
     }
-    image.extend(table.queue);
-    image.extend([table.queued, table.count, table.granule, table.asked]);
-    image.extend(table.clock.to_be_bytes());
-    image.extend(table.flags.to_be_bytes());
+    image.extend_from_slice(&table.queue);
+    image.extend_from_slice(&[table.queued, table.count, table.granule, table.asked]);
+    image.extend_from_slice(&table.clock.to_be_bytes());
+    image.extend_from_slice(&table.flags.to_be_bytes());
     for time in table.alarms {
-        image.extend(time.to_be_bytes());
+        image.extend_from_slice(&time.to_be_bytes());
     }
     for request in &table.pool {
-        image.extend([request.task, request.priority]);
-        image.extend(request.argument.to_be_bytes());
-        image.extend([request.start_waiter, request.end_waiter]);
+        image.extend_from_slice(&[request.task, request.priority]);
+        image.extend_from_slice(&request.argument.to_be_bytes());
+        image.extend_from_slice(&[request.start_waiter, request.end_waiter]);
     }
     image
 }
@@ -36,12 +36,12 @@ fn encode_task(image: &mut Vec<u8>, task: &Task) {
         State::WaitStart => (6, 0, 0),
         State::WaitEnd => (7, 0, 0),
     };
-    image.extend([task.own, state]);
-    image.extend(u64::to_be_bytes(time));
-    image.extend(u32::to_be_bytes(mask));
+    image.extend_from_slice(&[task.own, state]);
+    image.extend_from_slice(&u64::to_be_bytes(time));
+    image.extend_from_slice(&u32::to_be_bytes(mask));
     image.push(task.priority);
-    image.extend(task.argument.to_be_bytes());
-    image.extend(task.started.to_be_bytes());
+    image.extend_from_slice(&task.argument.to_be_bytes());
+    image.extend_from_slice(&task.started.to_be_bytes());
     image.push(task.end_waiter);
 }
 

@@ -1,8 +1,8 @@
 //! The bench's listing by the board library: standard input to standard output, as `./bench` runs a program.
 
+use crate::answer::ANSWER;
 use crate::image::LENGTH;
 use crate::library::Library;
-use crate::ANSWER;
 use model::bench::LONGEST_INPUT;
 use model::configuration::fresh_from_start;
 use model::records::cut;

@@ -1,9 +1,9 @@
 //! The time of one step through the board library, against the same step of the second program.
 
+use crate::answer::{answer_bytes, ANSWER};
 use crate::image::{decode, encode};
 use crate::library::Library;
 use crate::short::short_mixes;
-use crate::{answer_bytes, ANSWER};
 use model::configuration::fresh_from_start;
 use model::mixes::{median, mixes};
 use model::records::records_of;

@@ -1,5 +1,6 @@
 //! The board library against the second program's model, on random tables, damaged images and bad records.
 
+mod answer;
 mod counts;
 mod image;
 mod library;
@@ -10,21 +11,17 @@ mod piped;
 mod short;
 mod speed;
 mod tables;
+mod walk;
+mod wrong;
 
-use counts::Counts;
-use image::{decode, encode, LENGTH};
+use image::encode;
 use library::Library;
-use met::{Met, Since};
-use model::check::well_formed;
-use model::configuration::{fresh, fresh_from_start};
+use model::configuration::fresh_from_start;
 use model::ending::ending;
-use model::faults::{Fault, FAULTS};
 use model::records::records_of;
-use model::runs::{run, Rng};
-use model::steps::step;
-use model::table::{Answer, Table, UNITS};
 use std::process::ExitCode;
-use std::time::Instant;
+use walk::{walked, Trial, UNWRITTEN};
+use wrong::{wrong_of, Wrong};
 
 const USAGE: &str = "usage: trial [--steps N] [--seed S] [--fault NAME]
        trial --part [--steps N] [--seed S]
@@ -33,256 +30,19 @@ const USAGE: &str = "usage: trial [--steps N] [--seed S] [--fault NAME]
        trial --passes WAY MIX N
        trial --speed [--rounds N]";
 
-/// The most steps that are taken of one generated run.
-const LONGEST_WALK: usize = 400;
-const ANSWER: usize = 16;
-/// The board's own number: a buffer that is to be written to has not the length it needs.
-const NO_ROOM: u32 = 30;
-/// What stands in the answer's buffer before a step.
-const UNWRITTEN: [u8; ANSWER + 4] = [0xA5; ANSWER + 4];
-
-/// What is made wrong in the model, to show that the trial finds it.
-#[derive(Clone, Copy, PartialEq)]
-enum Wrong {
-    Nothing,
-    Rule(Fault),
-    Answer,
-    Skipped,
-    Image,
-    Check,
-    Fresh,
-}
-
-/// Those that are no rule of the model, by name.
-const WRONGS: [(&str, Wrong); 5] = [
-    ("answer", Wrong::Answer),
-    ("one-skipped-too-few", Wrong::Skipped),
-    ("image", Wrong::Image),
-    ("check", Wrong::Check),
-    ("fresh", Wrong::Fresh),
-];
-
-/// What a step gives: the number returned, and the bytes of image and answer after it.
-type Given = (u32, Vec<u8>, Vec<u8>);
-
-struct Trial<'a> {
-    library: &'a mut Library,
-    seed: u64,
-    wrong: Wrong,
-    met: Met,
-    counts: Counts,
-}
-
-/// A difference in words, with its image and record in hex.
-type Told = Result<(), String>;
-
-impl Trial<'_> {
-    fn new(library: &mut Library, seed: u64, wrong: Wrong) -> Trial<'_> {
-        Trial { library, seed, wrong, met: Met::default(), counts: Counts::default() }
+/// `--steps N`, `--seed S` and `--fault NAME`, in any order.
+fn options_of(mut words: &[&str]) -> Option<(u64, u64, Wrong)> {
+    let (mut steps, mut seed, mut wrong) = (1_000_000, 1, Wrong::Nothing);
+    while let [name, value, rest @ ..] = words {
+        match *name {
+            "--steps" => steps = value.parse().ok()?,
+            "--seed" => seed = value.parse().ok()?,
+            "--fault" => wrong = wrong_of(value)?,
+            _ => return None,
+        }
+        words = rest;
     }
-
-    /// A pause of every count of every unit, once, from a table with one task.
-    fn intervals(&mut self) -> Told {
-        let table = fresh(&[0x40, 1, 0x41, 0, 1, 0x42]).expect("a good configuration");
-        let image = encode(&table);
-        for unit in 0..UNITS.len() as u8 {
-            for count in 0..=255 {
-                self.step(&image, &[0x02, unit, count], &UNWRITTEN)?;
-            }
-        }
-        println!("a pause of each of {} intervals agrees", UNITS.len() * 256);
-        Ok(())
-    }
-
-    /// The image that a board wrote before unit 5 was a day is well formed still, and its steps go on.
-    fn before_days(&mut self) -> Told {
-        let text = include_str!("before-days.hex").lines();
-        let bytes = text
-            .filter(|line| !line.starts_with('#'))
-            .flat_map(|line| line.split(' ').map(|byte| u8::from_str_radix(byte, 16).expect("a byte in hex")));
-        let image: Vec<u8> = bytes.collect();
-        if self.library.check(&image) != 0 {
-            return Err("the image of an older board is refused".to_string());
-        }
-        self.image(&image, &[0x80])?;
-        self.image(&image, &[0x00])?;
-        println!("the image of an older board is well formed");
-        Ok(())
-    }
-
-    /// Walks through one generated run, with edits, damage and bad records on the way.
-    fn walk(&mut self, index: u64) -> Told {
-        let rng = &mut Rng::new(!self.seed, index);
-        let bytes = run(self.seed, index);
-        let used = fresh_from_start(&bytes).map_or(bytes.len(), |(_, used)| used);
-        self.fresh(&bytes[..used], rng)?;
-        self.fresh(&bytes, rng)?;
-        let mut image = match fresh(&bytes[..used]) {
-            Some(table) => encode(&table),
-            None => return Ok(()),
-        };
-        let edits = rng.pick(&[6, 20, 60, 1000]);
-        let mut since = Since::default();
-        for record in records_of(&bytes[used..]).into_iter().take(LONGEST_WALK) {
-            if rng.one_in(edits) {
-                let before = table_of(&image);
-                let edited = tables::edited(&before, rng);
-                since.changed(&before, &edited);
-                image = encode(&edited);
-            }
-            self.beside(&image, record, rng)?;
-            let before = table_of(&image);
-            image = self.step(&image, record, &UNWRITTEN)?;
-            let after = table_of(&image);
-            if after.clock != before.clock {
-                self.met.ticked(&since, &before, &after);
-            }
-            since.changed(&before, &after);
-        }
-        Ok(())
-    }
-
-    /// Some trials on copies of the image, which the walk does not go on from.
-    fn beside(&mut self, image: &[u8], record: &[u8], rng: &mut Rng) -> Told {
-        if rng.one_in(4) {
-            let bad = tables::bad_record(record, rng);
-            self.step(image, &bad, &UNWRITTEN)?;
-        }
-        if rng.one_in(2) {
-            let mut damaged = image.to_vec();
-            tables::damage(&mut damaged, rng);
-            self.image(&damaged, record)?;
-        }
-        if rng.one_in(4) {
-            let broken = tables::broken(&table_of(image), rng);
-            self.image(&encode(&broken), record)?;
-        }
-        if rng.one_in(16) {
-            let short = rng.below(ANSWER);
-            self.step(image, record, &UNWRITTEN[..short])?;
-            let mut other = image.to_vec();
-            other.resize(rng.pick(&[0, 1, LENGTH - 1, LENGTH + 1, 2 * LENGTH]), 0);
-            self.step(&other, record, &UNWRITTEN[..short])?;
-            self.image(&other, record)?;
-        }
-        Ok(())
-    }
-
-    /// An image of whatever content and length: its check, and a step from it.
-    fn image(&mut self, image: &[u8], record: &[u8]) -> Told {
-        let sound = decode(image).map_or(false, |table| well_formed(&table));
-        let expected = u32::from(!sound ^ (self.wrong == Wrong::Check));
-        let given = self.library.check(image);
-        if given != expected {
-            return Err(format!("check: the library gives {given}, the model {expected}\nimage {}", hex(image)));
-        }
-        self.met.checked(sound);
-        self.step(image, record, &UNWRITTEN).map(drop)
-    }
-
-    /// One step of both; the image after it.
-    fn step(&mut self, image: &[u8], record: &[u8], answer: &[u8]) -> Result<Vec<u8>, String> {
-        let given = self.library.step(image, record, answer);
-        let expected = self.expected(image, record, answer);
-        if given != expected {
-            return Err(difference(image, record, &given, &expected));
-        }
-        let number = u8::try_from(given.0).expect("the model's number is a byte");
-        self.met.stepped(number, record);
-        if given.2.len() >= ANSWER {
-            self.met.skipped(&given.2[8..ANSWER]);
-        }
-        self.counts.add(record, number, self.library.spent());
-        Ok(given.1)
-    }
-
-    /// What the model gives for a step.
-    fn expected(&self, image: &[u8], record: &[u8], answer: &[u8]) -> Given {
-        let mut after = (NO_ROOM, image.to_vec(), answer.to_vec());
-        if answer.len() < ANSWER {
-            return after;
-        }
-        let mut table = decode(image);
-        let mut said = match (&mut table, self.wrong) {
-            (Some(table), Wrong::Rule(fault)) if well_formed(table) => fault.step(table, record),
-            (Some(table), _) => step(table, record),
-            (None, _) => Answer::BROKEN,
-        };
-        if let (0, Some(table)) = (said.number, &table) {
-            after.1 = encode(table);
-            after.1[LENGTH - 1] ^= u8::from(self.wrong == Wrong::Image);
-        }
-        said.argument ^= u16::from(self.wrong == Wrong::Answer);
-        said.skipped -= u64::from(self.wrong == Wrong::Skipped).min(said.skipped);
-        after.0 = said.number.into();
-        after.2[..ANSWER].copy_from_slice(&answer_bytes(&said));
-        after
-    }
-
-    /// A fresh table from whatever bytes, into a buffer of the right length and one of another.
-    fn fresh(&mut self, config: &[u8], rng: &mut Rng) -> Told {
-        let length = rng.pick(&[0, LENGTH - 1, LENGTH, LENGTH, LENGTH, LENGTH + 1]);
-        let before: Vec<u8> = (0..length).map(|_| rng.byte()).collect();
-        let expected = match fresh(config).filter(|_| self.wrong != Wrong::Fresh) {
-            _ if length != LENGTH => (NO_ROOM, before.clone()),
-            Some(table) => (0, encode(&table)),
-            None => (2, before.clone()),
-        };
-        let given = self.library.fresh(config, &before);
-        if given != expected {
-            return Err(format!(
-                "fresh: the library gives {}, the model {}, into {length} bytes\n\
-                 configuration {}\nlibrary {}\nmodel   {}",
-                given.0,
-                expected.0,
-                hex(config),
-                hex(&given.1),
-                hex(&expected.1)
-            ));
-        }
-        self.met.made(given.0 as u8);
-        Ok(())
-    }
-}
-
-/// The table of an image that the walk made; encoding it again must give the same bytes.
-fn table_of(image: &[u8]) -> Table {
-    let table = decode(image).expect("the walk's image is one");
-    assert!(encode(&table) == image, "decoding and encoding differ");
-    table
-}
-
-/// An answer's bytes, by docs/EMBEDDING.md.
-fn answer_bytes(answer: &Answer) -> [u8; ANSWER] {
-    let [high, low] = answer.argument.to_be_bytes();
-    let [z, v, c] = [answer.z, answer.v, answer.c].map(u8::from);
-    let mut bytes = [0; ANSWER];
-    bytes[..8].copy_from_slice(&[answer.number, z, v, c, answer.active, 0, high, low]);
-    bytes[8..].copy_from_slice(&answer.skipped.to_be_bytes());
-    bytes
-}
-
-fn hex(bytes: &[u8]) -> String {
-    bytes.iter().map(|byte| format!("{byte:02X}")).collect()
-}
-
-/// A step that differs, in words.
-fn difference(image: &[u8], record: &[u8], given: &Given, expected: &Given) -> String {
-    let both = given.1.iter().zip(&expected.1).enumerate();
-    let bytes: Vec<String> = both
-        .filter(|(_, (one, other))| one != other)
-        .map(|(at, (one, other))| format!("byte {at} of the image: {one:02X}, {other:02X}\n"))
-        .collect();
-    format!(
-        "a step differs\nimage  {}\nrecord {}\nlibrary: {}, answer {}\nmodel:   {}, answer {}\n{}",
-        hex(image),
-        hex(record),
-        given.0,
-        hex(&given.2),
-        expected.0,
-        hex(&expected.2),
-        bytes.concat()
-    )
+    words.is_empty().then_some((steps, seed, wrong))
 }
 
 /// The instructions of each step, of the mixes and of a trial, compared with the model; true if nothing differs.
@@ -307,53 +67,6 @@ fn instructions(library: &mut Library, steps: u64, seed: u64) -> bool {
     }
     let mut trial = Trial::new(library, seed, Wrong::Nothing);
     walked(&mut trial, steps).is_some() && trial.counts.print("the trial")
-}
-
-/// Walks until so many steps are taken: whether everything was met; `None` where something differs.
-fn walked(trial: &mut Trial, steps: u64) -> Option<bool> {
-    let begun = Instant::now();
-    let seed = trial.seed;
-    if trial.wrong == Wrong::Nothing {
-        if let Err(difference) = trial.intervals().and_then(|()| trial.before_days()) {
-            println!("{difference}");
-            return None;
-        }
-    }
-    trial.counts = Counts::default();
-    let all = trial.met.steps() + steps;
-    let mut index = 0;
-    while trial.met.steps() < all {
-        if let Err(difference) = trial.walk(index) {
-            println!("run {index} of seed {seed}: {difference}");
-            return None;
-        }
-        index += 1;
-    }
-    let complete = trial.met.print();
-    let seconds = begun.elapsed().as_secs_f64();
-    println!("{index} runs of seed {seed} agree, {seconds:.1} s");
-    Some(complete)
-}
-
-/// What is made wrong, by its name.
-fn wrong_of(name: &str) -> Option<Wrong> {
-    let rules = FAULTS.iter().map(|(known, fault)| (*known, Wrong::Rule(*fault)));
-    rules.chain(WRONGS).find(|(known, _)| *known == name).map(|(_, wrong)| wrong)
-}
-
-/// `--steps N`, `--seed S` and `--fault NAME`, in any order.
-fn options_of(mut words: &[&str]) -> Option<(u64, u64, Wrong)> {
-    let (mut steps, mut seed, mut wrong) = (1_000_000, 1, Wrong::Nothing);
-    while let [name, value, rest @ ..] = words {
-        match *name {
-            "--steps" => steps = value.parse().ok()?,
-            "--seed" => seed = value.parse().ok()?,
-            "--fault" => wrong = wrong_of(value)?,
-            _ => return None,
-        }
-        words = rest;
-    }
-    words.is_empty().then_some((steps, seed, wrong))
 }
 
 /// What the words ask for: whether all is right; `None` where they are none of its own.

@@ -1,0 +1,29 @@
+//! What is made wrong in the model, to show that the trial finds it.
+
+use model::faults::{Fault, FAULTS};
+
+#[derive(Clone, Copy, PartialEq, Eq)]
+pub enum Wrong {
+    Nothing,
+    Rule(Fault),
+    Answer,
+    Skipped,
+    Image,
+    Check,
+    Fresh,
+}
+
+/// Those that are no rule of the model, by name.
+const WRONGS: [(&str, Wrong); 5] = [
+    ("answer", Wrong::Answer),
+    ("one-skipped-too-few", Wrong::Skipped),
+    ("image", Wrong::Image),
+    ("check", Wrong::Check),
+    ("fresh", Wrong::Fresh),
+];
+
+/// What is made wrong, by its name.
+pub fn wrong_of(name: &str) -> Option<Wrong> {
+    let rules = FAULTS.iter().map(|(known, fault)| (*known, Wrong::Rule(*fault)));
+    rules.chain(WRONGS).find(|(known, _)| *known == name).map(|(_, wrong)| wrong)
+}
