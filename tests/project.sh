@@ -14,6 +14,8 @@ second_program() (
 # trial_program: builds the Rust trial, over the board library for this machine; prints where it is.
 trial_program() (
     library=$(cd "$root" && native_library) || return 1
-    export BOARD_LIBRARY="$root/$library"
+    BOARD_LIBRARY=$root/$library
+    BOARD_SUM=$(cksum <"$BOARD_LIBRARY/libboard.a") || return 1
+    export BOARD_LIBRARY BOARD_SUM
     project build --quiet --release --bin trial && echo "$root/target/rust/release/trial"
 )
