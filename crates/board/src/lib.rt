@@ -2,10 +2,10 @@
 use executive::configuration;
 ghost use Rattle.board.specs.Entries.{MakesImage, CheckedImage, StepsImage};
 
-pub mod answers;
-pub mod checking;
+mod answers;
+mod checking;
 pub mod loading;
-pub mod numbers;
+mod numbers;
 pub mod promises;
 pub mod storing;
 
