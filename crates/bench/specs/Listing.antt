@@ -5,10 +5,9 @@ use mathlib.Core.List.{List, _++_}
 use lib.ListN.{length, getD, take, drop}
 use lib.Dec.{eqb, ltb}
 use Rattle.records.specs.declared.Kind.{Kind}
-use Rattle.records.specs.Kinds.{kindOf, lengthOf}
+use Rattle.records.specs.Kinds.{kindOf, lengthOf, isCall}
 use Rattle.executive.specs.declared.Table.{Table}
 use Rattle.executive.specs.declared.Fresh.{Fresh}
-use Rattle.executive.specs.Refusals.{isCall}
 use Rattle.executive.specs.Fresh.{freshOf, configurationIn}
 use Rattle.executive.specs.Steps.{stepOf}
 use Rattle.bench.specs.Lines.{headerOf, lineOf, stopOf, endOf}

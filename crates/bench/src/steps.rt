@@ -5,37 +5,14 @@ use records::kinds;
 ghost use mathlib.Core.Path.{_≡_};
 ghost use Prim.Native.Nat.{_+_, _≤_};
 ghost use lib.ListN.{length, drop};
-ghost use Rattle.executive.specs.Refusals.{isCall};
 ghost use Rattle.bench.specs.Glyphs.{Adds};
 ghost use Rattle.bench.specs.Listing.{callLength, wholeOf, lastOf};
-
-// Whether a kind is a call's: 40 to 42 are none.
-fn is_call(kind: Kind) -> bool
-    ensures { λ r. ⌜ r ≡ isCall kind ⌝ }
-{
-    match kind {
-        Kind::Unknown => false,
-        Kind::Terminate => true,
-        Kind::Restart => true,
-        Kind::Pause => true,
-        Kind::CancelPause => true,
-        Kind::Start => true,
-        Kind::Queue => true,
-        Kind::Flag => true,
-        Kind::Wait => true,
-        Kind::Alarm => true,
-        Kind::Tick => true,
-        Kind::Granule => false,
-        Kind::Task => false,
-        Kind::End => false,
-    }
-}
 
 // The length of a step of a kind; 0 for what is no call's.
 fn call_length(kind: Kind) -> usize
     ensures { λ r. ⌜ r ≡ callLength kind ⌝ }
 {
-    if is_call(kind) {
+    if kinds::is_call(kind) {
         return kinds::length_of(kind);
     }
     0

@@ -13,7 +13,7 @@ use Rattle.records.specs.declared.Call.{Call}
 use Rattle.records.specs.declared.Call.the-variants as call
 use Rattle.records.specs.declared.Got.the-variants as got
 use Rattle.records.specs.Numbers.{cut}
-use Rattle.records.specs.Kinds.{bodyOf, lengthOf, kindOf}
+use Rattle.records.specs.Kinds.{bodyOf, lengthOf, kindOf, isCall}
 use Rattle.records.specs.Calls.{gotOf}
 use Rattle.records.specs.Reading.{readAs, readOf}
 use Rattle.records.specs.Writing.{bytesOf}
@@ -22,7 +22,7 @@ use Rattle.executive.specs.declared.Table.{Table}
 use Rattle.executive.specs.Queue.{pick}
 use Rattle.executive.specs.Table.{carry}
 use Rattle.executive.specs.Check.{isWellFormed}
-use Rattle.executive.specs.Refusals.{planOf, isCall, kindIn, calledBy, callIn, nobodyActive, badBody, namesCaller, alarmRunning, poolFull, endsTime, overfills, callRefusals, refusals, firstOf, earlyOf}
+use Rattle.executive.specs.Refusals.{planOf, kindIn, calledBy, callIn, nobodyActive, badBody, namesCaller, alarmRunning, poolFull, endsTime, overfills, callRefusals, refusals, firstOf, earlyOf}
 use Rattle.executive.specs.Steps.{isStep, accepted, refused, performed, stepOf}
 
 -- ---- the first number is an early one, or 11, or 0

@@ -15,7 +15,7 @@ use Rattle.records.specs.declared.Kind.{Kind}
 use Rattle.records.specs.declared.Kind.the-variants as kind
 use Rattle.records.specs.declared.Call.{Call}
 use Rattle.records.specs.declared.Call.the-variants as call
-use Rattle.records.specs.Kinds.{lengthOf}
+use Rattle.records.specs.Kinds.{lengthOf, isCall}
 use Rattle.executive.specs.declared.State.{State}
 use Rattle.executive.specs.declared.State.the-variants.{Dormant, Ready, Paused, Due, Flags, AwaitStart, AwaitEnd}
 use Rattle.executive.specs.declared.Table.{Table}
@@ -24,7 +24,7 @@ use Rattle.executive.specs.Numbers.{endOfTime}
 use Rattle.executive.specs.Table.{never, carry}
 use Rattle.executive.specs.Plans.{caller, stateAt, isDormant}
 use Rattle.executive.specs.Check.{_and_, isWellFormed}
-use Rattle.executive.specs.Refusals.{_or_, planOf, isCall, kindIn, callIn, isTick, noSuchTask, nobodyActive, badBody, ofQueue, ofAlarm, namesCaller, alarmRunning, poolFull, endsTime, overfills, Refusal, refusals, firstOf}
+use Rattle.executive.specs.Refusals.{_or_, planOf, kindIn, callIn, isTick, noSuchTask, nobodyActive, badBody, ofQueue, ofAlarm, namesCaller, alarmRunning, poolFull, endsTime, overfills, Refusal, refusals, firstOf}
 use Rattle.executive.specs.Steps.{stepOf}
 use Rattle.executive.specs.Given.{Bit, NoCall, NoTask, BadBody, IsQueue, IsAlarm, NamesCaller, AlarmRunning, PoolFull, Case, cases, First, Given}
 use Rattle.executive.proofs.Law.{clash}

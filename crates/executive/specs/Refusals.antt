@@ -8,12 +8,11 @@ use lib.ListN.{length, getD}
 use Rattle.records.specs.declared.TaskNo.{TaskNo}
 use Rattle.records.specs.declared.FlagNo.{FlagNo}
 use Rattle.records.specs.declared.Kind.{Kind}
-use Rattle.records.specs.declared.Kind.the-variants as kind
 use Rattle.records.specs.declared.Call.{Call}
 use Rattle.records.specs.declared.Call.the-variants as call
 use Rattle.records.specs.declared.Got.{Got}
 use Rattle.records.specs.declared.Got.the-variants as got
-use Rattle.records.specs.Kinds.{kindOf, lengthOf}
+use Rattle.records.specs.Kinds.{kindOf, lengthOf, isCall}
 use Rattle.records.specs.Reading.{readOf}
 use Rattle.executive.specs.declared.Table.{Table}
 use Rattle.executive.specs.Numbers.{lastUnit, mostQueued, endOfTime}
@@ -45,22 +44,6 @@ planOf t (call.Task p m) = nothing t
 planOf t call.End = nothing t
 
 -- ---- the record: 4 where its first byte is no carried kind, and as a call also 40 to 42
-abbrev pub isCall : Kind → Bool
-isCall kind.Unknown = false
-isCall kind.Terminate = true
-isCall kind.Restart = true
-isCall kind.Pause = true
-isCall kind.CancelPause = true
-isCall kind.Start = true
-isCall kind.Queue = true
-isCall kind.Flag = true
-isCall kind.Wait = true
-isCall kind.Alarm = true
-isCall kind.Tick = true
-isCall kind.Granule = false
-isCall kind.Task = false
-isCall kind.End = false
-
 abbrev pub kindIn : List ℕ → Kind
 kindIn s = kindOf (getD s 0 0)
 

@@ -6,6 +6,7 @@ use mathlib.Core.List.{List}
 use lib.Dec.{ltb, eqb}
 use Rattle.records.specs.declared.Call.{Call}
 use Rattle.records.specs.declared.Call.the-variants as call
+use Rattle.records.specs.Kinds.{isCall}
 use Rattle.records.specs.Calls as calls
 use Rattle.records.specs.Writing.{bytesOf}
 use Rattle.executive.specs.declared.Table.{Table}
@@ -19,7 +20,7 @@ use Rattle.executive.specs.Time.{skippedOf}
 use Rattle.executive.specs.Rests.{isSet}
 use Rattle.executive.specs.Plans.{caller, stateAt, isDormant, isPaused, met, modeOf}
 use Rattle.executive.specs.Check.{_and_}
-use Rattle.executive.specs.Refusals.{_or_, isCall, planOf, callIn, callRefusals, refusals, firstOf}
+use Rattle.executive.specs.Refusals.{_or_, planOf, callIn, callRefusals, refusals, firstOf}
 
 -- ---- Z, V and C of an accepted call, and how many grid times it passes over; those not mentioned are 0
 abbrev pub marks : Bool → Bool → Bool → Marks

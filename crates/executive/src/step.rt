@@ -4,7 +4,6 @@ use crate::Table;
 use crate::Work;
 use records::Call;
 use records::Got;
-use records::Kind;
 use records::kinds;
 use records::reading;
 ghost use mathlib.Core.Path.{_≡_};
@@ -13,31 +12,10 @@ ghost use Rattle.executive.specs.Table.{carry};
 ghost use Rattle.executive.specs.WellFormed.{WellFormed};
 ghost use mathlib.Core.Bool.{true};
 ghost use Rattle.executive.specs.Check.{isWellFormed};
-ghost use Rattle.executive.specs.Refusals.{planOf, isCall, earlyOf};
+ghost use Rattle.executive.specs.Refusals.{planOf, earlyOf};
 ghost use Rattle.executive.specs.Steps.{isStep, performed, stepOf, Steps, Takes};
 
-// Whether a record of that kind is a call; a configuration record is none.
-fn is_call(kind: Kind) -> bool
-    ensures { λ r. ⌜ r ≡ isCall kind ⌝ }
-{
-    match kind {
-        Kind::Unknown => false,
-        Kind::Terminate => true,
-        Kind::Restart => true,
-        Kind::Pause => true,
-        Kind::CancelPause => true,
-        Kind::Start => true,
-        Kind::Queue => true,
-        Kind::Flag => true,
-        Kind::Wait => true,
-        Kind::Alarm => true,
-        Kind::Tick => true,
-        Kind::Granule => false,
-        Kind::Task => false,
-        Kind::End => false,
-    }
-}
-
+// Whether a step takes the call; a configuration record it does not.
 fn is_step(call: Call) -> bool
     ensures { λ r. ⌜ r ≡ isStep call ⌝ }
 {
@@ -115,7 +93,7 @@ impl Table {
             return self.refuse(3);
         }
         let kind = kinds::kind_of(bytes[0]);
-        if is_call(kind) {
+        if kinds::is_call(kind) {
             return match reading::read(bytes) {
                 Got::Call(call) => self.perform(call),
                 Got::Refused(number) => self.refuse(number),

@@ -3,20 +3,25 @@
 use Prim.Native.Nat.{ℕ, _+_}
 use mathlib.Core.Path.{_≡_}
 use mathlib.Core.List.{List, [], _∷_}
-use mathlib.Core.Bool.{Bool, cond}
+use mathlib.Core.Bool.{Bool, true, false, cond}
 use lib.Dec.{eqb}
 use Rattle.records.specs.Numbers.{total}
 use Rattle.records.specs.declared.Kind.{Kind}
 use Rattle.records.specs.declared.Kind.the-variants as kind
 
--- a kind, its first byte, and the widths in bytes of its body's numbers
+-- a kind, its first byte, the widths in bytes of its body's numbers, and whether a step takes it
 pub record Row : Type 0 where
   pub name : Kind
   pub byte : ℕ
   pub body : List ℕ
+  pub call : Bool
 
+-- a call, the tick included; a record of a configuration
 abbrev pub row : Kind → ℕ → List ℕ → Row
-row k b ws = record { name = k; byte = b; body = ws }
+row k b ws = record { name = k; byte = b; body = ws; call = true }
+
+abbrev pub setting : Kind → ℕ → List ℕ → Row
+setting k b ws = record { name = k; byte = b; body = ws; call = false }
 
 -- the table, in document 01's order
 abbrev pub table : List Row
@@ -31,9 +36,9 @@ table =
     ∷ row kind.Wait 0x0A (1 ∷ 4 ∷ [])
     ∷ row kind.Alarm 0x0B (1 ∷ 1 ∷ 1 ∷ [])
     ∷ row kind.Tick 0x80 []
-    ∷ row kind.Granule 0x40 (1 ∷ [])
-    ∷ row kind.Task 0x41 (1 ∷ 1 ∷ [])
-    ∷ row kind.End 0x42 []
+    ∷ setting kind.Granule 0x40 (1 ∷ [])
+    ∷ setting kind.Task 0x41 (1 ∷ 1 ∷ [])
+    ∷ setting kind.End 0x42 []
     ∷ []
 
 -- what the first row that passes a test says, or else what is given for none
@@ -73,6 +78,10 @@ bodyOf k = look (isOf k) (λ r. r .body) [] table
 abbrev pub lengthOf : Kind → ℕ
 lengthOf k = look (isOf k) (λ r. 1 + total (r .body)) 0 table
 
+-- whether a record of a kind is a call; Unknown is none
+abbrev pub isCall : Kind → Bool
+isCall k = look (isOf k) (λ r. r .call) false table
+
 -- the kind whose first byte this is, among some rows and in the table
 abbrev pub kindAmong : List Row → ℕ → Kind
 kindAmong rs b = look (λ r. eqb b (r .byte)) (λ r. r .name) kind.Unknown rs
@@ -80,9 +89,13 @@ kindAmong rs b = look (λ r. eqb b (r .byte)) (λ r. r .name) kind.Unknown rs
 unfoldable pub kindOf : ℕ → Kind
 kindOf b = kindAmong table b
 
--- ---- the contracts: k is the kind of the first byte b; n is the length of a record of kind k
+-- ---- the contracts: k is the kind of the first byte b; n is the length of a record of kind k; b says whether it is
+-- a call
 abbrev pub KindIs : ℕ → Kind → Type 0
 KindIs b k = k ≡ kindOf b
 
 abbrev pub LengthIs : Kind → ℕ → Type 0
 LengthIs k n = n ≡ lengthOf k
+
+abbrev pub CallIs : Kind → Bool → Type 0
+CallIs k b = b ≡ isCall k

@@ -2,10 +2,11 @@
 use Prim.Native.Nat.{ℕ, _<_, _^_}
 use mathlib.Core.Path.{_≡_}
 use mathlib.Core.Logic.{_↔_, _≢_, _⊎_}
+use mathlib.Core.Bool.{Bool}
 use mathlib.Core.List.{List}
 use lib.ListN.{length}
 use Rattle.records.specs.Numbers.{Bytes, numberOf, bytesIn}
-use Rattle.records.specs.Kinds.{lengthOf, KindIs, LengthIs}
+use Rattle.records.specs.Kinds.{lengthOf, KindIs, LengthIs, CallIs}
 use Rattle.records.specs.Calls.{GotInRange}
 use Rattle.records.specs.Reading.{firstKind, readOf, Reads, readNumber}
 use Rattle.records.specs.Writing.{bytesOf, writtenOf, Writes, writeNumber}
@@ -39,6 +40,7 @@ pub record Promises : Type 0 where
   -- any two outcomes that a public function's contract allows are equal, the answer and every byte of the buffer
   pub kind-determined : (b : ℕ) (x y : Kind) → KindIs b x → KindIs b y → x ≡ y
   pub length-determined : (k : Kind) (x y : ℕ) → LengthIs k x → LengthIs k y → x ≡ y
+  pub call-determined : (k : Kind) (x y : Bool) → CallIs k x → CallIs k y → x ≡ y
   pub read-determined : (s : List ℕ) (x y : Got) → Reads s x → Reads s y → x ≡ y
   pub write-determined : (c : Call) (o p q : List ℕ) (x y : Written) → Writes c o p x → Writes c o q y
       → (p ≡ q) × (x ≡ y)

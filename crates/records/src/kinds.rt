@@ -1,6 +1,6 @@
-// The kind that a first byte names, and the length of a record of a kind.
+// The kind that a first byte names, the length of a record of a kind, and whether it is a call.
 use crate::Kind;
-ghost use Rattle.records.specs.Kinds.{KindIs, LengthIs};
+ghost use Rattle.records.specs.Kinds.{KindIs, LengthIs, CallIs};
 
 // The kind of a record with this first byte.
 pub fn kind_of(byte: u8) -> Kind
@@ -43,5 +43,27 @@ pub fn length_of(kind: Kind) -> usize
         Kind::Granule => 2,
         Kind::Task => 3,
         Kind::End => 1,
+    }
+}
+
+// Whether a record of this kind is a call, which a step takes; one of a configuration is none, nor is Unknown.
+pub fn is_call(kind: Kind) -> bool
+    ensures { λ r. ⌜ CallIs kind r ⌝ }
+{
+    match kind {
+        Kind::Unknown => false,
+        Kind::Terminate => true,
+        Kind::Restart => true,
+        Kind::Pause => true,
+        Kind::CancelPause => true,
+        Kind::Start => true,
+        Kind::Queue => true,
+        Kind::Flag => true,
+        Kind::Wait => true,
+        Kind::Alarm => true,
+        Kind::Tick => true,
+        Kind::Granule => false,
+        Kind::Task => false,
+        Kind::End => false,
     }
 }

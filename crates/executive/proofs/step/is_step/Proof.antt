@@ -1,0 +1,35 @@
+-- `step::is_step` meets its contract: each call's kind picks its row of the table of records.
+use borrow.Author.Needs.{needs}
+use Rattle.executive.proofs.step.is_step.Statement.{statement}
+use Rattle.executive.proofs.step.is_step.Tie as tie
+
+pub is-step-spec : {M : Type 1} → statement M
+is-step-spec =
+    tie.close
+    (tie.spec
+    (λ c. search needs)
+    (λ c. search needs)
+    (λ c. search needs)
+    (λ c. search needs)
+    (λ c. search needs)
+    (λ c. search needs)
+    (λ c. search needs)
+    (λ c. search needs)
+    (λ c. search needs)
+    (λ c. search needs)
+    (λ c. search needs)
+    (λ c. search needs)
+    (λ c. search needs)
+    (λ c. rw (c .enum-told .given .1))
+    (λ c. rw (c .enum-told2 .given .1))
+    (λ c. rw (c .enum-told3 .given .1))
+    (λ c. rw (c .enum-told4 .given .1))
+    (λ c. rw (c .enum-told5 .given .1))
+    (λ c. rw (c .enum-told6 .given .1))
+    (λ c. rw (c .enum-told7 .given .1))
+    (λ c. rw (c .enum-told8 .given .1))
+    (λ c. rw (c .enum-told9 .given .1))
+    (λ c. rw (c .enum-told10 .given .1))
+    (λ c. rw (c .enum-told11 .given .1))
+    (λ c. rw (c .enum-told12 .given .1))
+    (λ c. rw (c .enum-told13 .given .1)))
