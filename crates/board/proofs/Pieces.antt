@@ -8,19 +8,20 @@ use Rattle.records.specs.Numbers.{bytesIn}
 use Rattle.executive.specs.declared.Answer.{Answer}
 use Rattle.executive.specs.declared.State.{State}
 use Rattle.executive.specs.Queue.{one}
-use Rattle.board.specs.declared.storing.Coded.{Coded}
+use Rattle.executive.specs.declared.Millis.{Millis}
+use Rattle.executive.specs.States.{kindOf, timeOf, maskOf}
 use Rattle.board.specs.Blocks.{written}
-use Rattle.board.specs.Coding.{codedOf, frontBytes}
+use Rattle.board.specs.Coding.{frontBytes}
 use Rattle.board.specs.Entries.{answerLength, answerBytes}
 use Rattle.board.proofs.Spans.{and-then}
 
-pub wrote-front : (o : List ℕ) {p q r : List ℕ} (at own : ℕ) (s : State) (k : Coded) → k ≡ codedOf s → p ≡ written o at (own ∷ k .0 ∷ [])
-    → q ≡ written p (at + 2) (bytesIn 8 (k .1)) → r ≡ written q (at + 10) (bytesIn 4 (k .2)) → at + 14 ≤ length o → r ≡ written o at (frontBytes own s)
-wrote-front o at own s k e f g h l =
-    let a = own ∷ k .0 ∷ [] in
-    let b = bytesIn 8 (k .1) in
-    and-then o at (a ++ b) (bytesIn 4 (k .2)) (and-then o at a b f g (omega arith)) h (omega arith)
-    ∙ ap (λ (c : Coded). written o at (own ∷ c .0 ∷ (bytesIn 8 (c .1) ++ bytesIn 4 (c .2)))) e
+pub wrote-front : (o : List ℕ) {p q r : List ℕ} (at own : ℕ) (s : State) (k : ℕ) (m : Millis) (n : ℕ) → k ≡ kindOf s → m ≡ timeOf s → n ≡ maskOf s
+    → p ≡ written o at (own ∷ k ∷ []) → q ≡ written p (at + 2) (bytesIn 8 (m .0)) → r ≡ written q (at + 10) (bytesIn 4 n) → at + 14 ≤ length o
+    → r ≡ written o at (frontBytes own s)
+wrote-front o at own s k m n ek em en f g h l =
+    let a = own ∷ k ∷ [] in
+    let b = bytesIn 8 (m .0) in
+    and-then o at (a ++ b) (bytesIn 4 n) (and-then o at a b f g (omega arith)) h (omega arith) ∙ rw (ek, em, en)
 
 pub wrote-answer : (o : List ℕ) {p q r s u : List ℕ} (a : Answer) (z v c : ℕ) → z ≡ one (a .z) → v ≡ one (a .v) → c ≡ one (a .c)
     → p ≡ written o 0 (a .number ∷ z ∷ []) → q ≡ written p 2 (v ∷ c ∷ []) → r ≡ written q 4 (a .active .0 ∷ 0 ∷ []) → s ≡ written r 6 (bytesIn 2 (a .argument))

@@ -9,34 +9,24 @@ use lib.Dec.{eqb}
 use lib.ListN.{length, getD, length-append}
 use borrow.Author.Tests.{eq-eqb, ne-eqb, eqb-true}
 use Rattle.records.specs.Numbers.{Bytes, numberFrom, numberOf, part, cut, Fits}
-use Rattle.executive.specs.declared.Mode.the-variants.{Any, All}
+use Rattle.executive.specs.declared.Millis.{Millis}
 use Rattle.executive.specs.declared.State.{State}
-use Rattle.executive.specs.declared.State.the-variants.{Dormant, Ready, Paused, Due, Flags, AwaitStart, AwaitEnd}
 use Rattle.executive.specs.declared.Task.{Task}
 use Rattle.executive.specs.declared.Table.{Table}
 use Rattle.executive.specs.Queue.{pick}
+use Rattle.executive.specs.States.{dormant, ready, paused, due, awaitAny, awaitAll, awaitStart, awaitEnd, kindOf, timeOf, maskOf, stateOf}
 use Rattle.executive.specs.WellFormed.{Sizes}
+use Rattle.executive.proofs.Assured.{states-told}
 use Rattle.board.specs.Blocks.{row, blocks, Each, written, same}
-use Rattle.board.specs.Image.{tagOf, timeOf, maskOf, stateOf, taskWidths, placeWidths, headWidths, alarmWidths, requestWidths, taskNumbers, placeNumbers, headNumbers, alarmNumbers, requestNumbers, taskOf, placeOf, alarmOf, requestOf, taskBytes, placeBytes, headBytes, alarmBytes, requestBytes, taskFrom, placeFrom, alarmFrom, requestFrom, tableOf, queueAt, headAt, alarmsAt, poolAt, imageLength, imageOf, loadOf, isImageOf, isImage, FitsTable}
+use Rattle.board.specs.Image.{taskWidths, placeWidths, headWidths, alarmWidths, requestWidths, taskNumbers, placeNumbers, headNumbers, alarmNumbers, requestNumbers, taskOf, placeOf, alarmOf, requestOf, taskBytes, placeBytes, headBytes, alarmBytes, requestBytes, taskFrom, placeFrom, alarmFrom, requestFrom, tableOf, queueAt, headAt, alarmsAt, poolAt, imageLength, imageOf, loadOf, isImageOf, isImage, FitsTable}
 use Rattle.board.proofs.Digits.{digit-fits}
 use Rattle.board.proofs.Spans.{length-row, length-blocks}
 use Rattle.board.proofs.Alike.{decide, never, same-self, same-true}
 use Rattle.board.proofs.Images.{put-all, cut-lay, blocks-back}
 
 -- ---- a block's value is that of its numbers
-state-back : (s : State) → stateOf (tagOf s) (timeOf s) (maskOf s) ≡ s
-unfolding stateOf
-state-back Dormant = refl
-state-back Ready = refl
-state-back (Paused at) = refl
-state-back (Due at) = refl
-state-back (Flags Any mask) = refl
-state-back (Flags All mask) = refl
-state-back AwaitStart = refl
-state-back AwaitEnd = refl
-
 task-back : (e : Task) → taskOf (taskNumbers e) ≡ e
-task-back e = λ i. record { own = e .own; state = state-back (e .state) i; priority = e .priority; argument = e .argument; start = e .start; «end_waiter» = e .«end_waiter» }
+task-back e = λ i. record { own = e .own; state = states-told .back (e .state) i; priority = e .priority; argument = e .argument; start = e .start; «end_waiter» = e .«end_waiter» }
 
 -- ---- the parts of the image
 module _ (t : Table) (z : Sizes t) where
@@ -161,28 +151,28 @@ each-block P f g w zero at = tt
 each-block P f g w (suc n) at = (g at, each-block P f g w n (at + w))
 
 abbrev pub FitsState : State → Type 0
-FitsState x = Fits (1 ∷ 8 ∷ 4 ∷ []) (tagOf x ∷ timeOf x ∷ maskOf x ∷ [])
+FitsState x = Fits (1 ∷ 8 ∷ 4 ∷ []) (kindOf x ∷ timeOf x .0 ∷ maskOf x ∷ [])
 
 either : (b : Bool) (x y : State) → FitsState x → FitsState y → FitsState (pick b x y)
 either true x y f g = f
 either false x y f g = g
 
-state-fits : (a b c : ℕ) → b < 256 ^ 8 → c < 256 ^ 4 → FitsState (stateOf a b c)
+state-fits : (a : ℕ) (b : Millis) (c : ℕ) → b .0 < 256 ^ 8 → c < 256 ^ 4 → FitsState (stateOf a b c)
 unfolding stateOf
 state-fits a b c f g =
-    either (eqb a 0) _ _ (omega arith, (omega arith, (omega arith, tt)))
-    (either (eqb a 1) _ _ (omega arith, (omega arith, (omega arith, tt)))
-    (either (eqb a 2) _ _ (omega arith, (f, (omega arith, tt)))
-    (either (eqb a 3) _ _ (omega arith, (f, (omega arith, tt)))
-    (either (eqb a 4) _ _ (omega arith, (omega arith, (g, tt)))
-    (either (eqb a 5) _ _ (omega arith, (omega arith, (g, tt)))
-    (either (eqb a 6) _ _ (omega arith, (omega arith, (omega arith, tt)))
-    (either (eqb a 7) _ _ (omega arith, (omega arith, (omega arith, tt))) (omega arith, (omega arith, (omega arith, tt))))))))))
+    either (eqb a dormant) _ _ (omega arith, (omega arith, (omega arith, tt)))
+    (either (eqb a ready) _ _ (omega arith, (omega arith, (omega arith, tt)))
+    (either (eqb a paused) _ _ (omega arith, (f, (omega arith, tt)))
+    (either (eqb a due) _ _ (omega arith, (f, (omega arith, tt)))
+    (either (eqb a awaitAny) _ _ (omega arith, (omega arith, (g, tt)))
+    (either (eqb a awaitAll) _ _ (omega arith, (omega arith, (g, tt)))
+    (either (eqb a awaitStart) _ _ (omega arith, (omega arith, (omega arith, tt)))
+    (either (eqb a awaitEnd) _ _ (omega arith, (omega arith, (omega arith, tt))) (omega arith, (omega arith, (omega arith, tt))))))))))
 
 task-fits : (s : List ℕ) → Bytes s → (i : ℕ) → Fits taskWidths (taskNumbers (taskFrom s i))
 task-fits s h i =
     let c = cut-fits s h taskWidths i in
-    let n = state-fits (numberOf (part 1 (i + 1) s)) (numberOf (part 8 (i + 1 + 1) s)) (numberOf (part 4 (i + 1 + 1 + 8) s)) (c .1 .1 .0) (c .1 .1 .1 .0) in
+    let n = state-fits (numberOf (part 1 (i + 1) s)) (record { 0 = numberOf (part 8 (i + 1 + 1) s) }) (numberOf (part 4 (i + 1 + 1 + 8) s)) (c .1 .1 .0) (c .1 .1 .1 .0) in
     (c .0, (n .0, (n .1 .0, (n .1 .1 .0, c .1 .1 .1 .1))))
 
 pub load-fits : (s : List ℕ) → Bytes s → FitsTable (loadOf s)

@@ -8,61 +8,16 @@ use lib.ListN.{length, getD}
 use Rattle.records.specs.declared.TaskNo.{TaskNo}
 use Rattle.records.specs.Numbers.{lay, cut, Fits}
 use Rattle.executive.specs.declared.Millis.{Millis}
-use Rattle.executive.specs.declared.Mode.the-variants.{Any, All}
-use Rattle.executive.specs.declared.State.{State}
-use Rattle.executive.specs.declared.State.the-variants.{Dormant, Ready, Paused, Due, Flags, AwaitStart, AwaitEnd}
 use Rattle.executive.specs.declared.Task.{Task}
 use Rattle.executive.specs.declared.Request.{Request}
 use Rattle.executive.specs.declared.Table.{Table}
 use Rattle.executive.specs.Queue.{pick}
+use Rattle.executive.specs.States.{kindOf, timeOf, maskOf, stateOf}
 use Rattle.executive.specs.WellFormed.{Sizes}
 use Rattle.board.specs.Blocks.{row, blocks, Each, same}
 
--- ---- a state as three numbers: its byte, its time and its mask, each 0 where it has none
-abbrev pub tagOf : State → ℕ
-tagOf Dormant = 0
-tagOf Ready = 1
-tagOf (Paused at) = 2
-tagOf (Due at) = 3
-tagOf (Flags Any mask) = 4
-tagOf (Flags All mask) = 5
-tagOf AwaitStart = 6
-tagOf AwaitEnd = 7
-
-abbrev pub timeOf : State → ℕ
-timeOf Dormant = 0
-timeOf Ready = 0
-timeOf (Paused at) = at .0
-timeOf (Due at) = at .0
-timeOf (Flags m mask) = 0
-timeOf AwaitStart = 0
-timeOf AwaitEnd = 0
-
-abbrev pub maskOf : State → ℕ
-maskOf Dormant = 0
-maskOf Ready = 0
-maskOf (Paused at) = 0
-maskOf (Due at) = 0
-maskOf (Flags m mask) = mask
-maskOf AwaitStart = 0
-maskOf AwaitEnd = 0
-
--- the state of three numbers; a byte that is no state's is a wait for any flag of no mask, which no well-formed
--- table holds
-unfoldable pub stateOf : ℕ → ℕ → ℕ → State
-stateOf tag time mask =
-    pick (eqb tag 0) Dormant
-    (pick (eqb tag 1) Ready
-    (pick (eqb tag 2) (Paused (record { 0 = time }))
-    (pick (eqb tag 3) (Due (record { 0 = time }))
-    (pick (eqb tag 4) (Flags Any mask)
-    (pick (eqb tag 5) (Flags All mask)
-    (pick (eqb tag 6) AwaitStart
-    (pick (eqb tag 7) AwaitEnd
-    (Flags Any 0))))))))
-
 -- ---- the widths of each block's numbers
--- own priority, state, time, mask, priority, argument, last scheduled start, end waiter
+-- own priority; the state's kind, time and mask; priority, argument, last scheduled start, end waiter
 abbrev pub taskWidths : List ℕ
 taskWidths = 1 ∷ 1 ∷ 8 ∷ 4 ∷ 1 ∷ 2 ∷ 8 ∷ 1 ∷ []
 
@@ -84,12 +39,12 @@ requestWidths = 1 ∷ 1 ∷ 2 ∷ 1 ∷ 1 ∷ []
 -- ---- the numbers of each block, and the block's value from its numbers
 abbrev pub taskNumbers : Task → List ℕ
 taskNumbers e =
-    e .own ∷ tagOf (e .state) ∷ timeOf (e .state) ∷ maskOf (e .state) ∷ e .priority ∷ e .argument ∷ e .start .0 ∷ e .«end_waiter» .0 ∷ []
+    e .own ∷ kindOf (e .state) ∷ timeOf (e .state) .0 ∷ maskOf (e .state) ∷ e .priority ∷ e .argument ∷ e .start .0 ∷ e .«end_waiter» .0 ∷ []
 
 abbrev pub taskOf : List ℕ → Task
 taskOf xs = record {
   own = getD xs 0 0;
-  state = stateOf (getD xs 1 0) (getD xs 2 0) (getD xs 3 0);
+  state = stateOf (getD xs 1 0) (record { 0 = getD xs 2 0 }) (getD xs 3 0);
   priority = getD xs 4 0;
   argument = getD xs 5 0;
   start = record { 0 = getD xs 6 0 };

@@ -10,18 +10,19 @@ use executive::Task;
 use records::TaskNo;
 ghost use mathlib.Core.Path.{_≡_};
 ghost use Prim.Native.Nat.{_≤_};
+ghost use Rattle.executive.specs.States.{stateOf};
 ghost use Rattle.board.specs.Blocks.{blocks};
-ghost use Rattle.board.specs.Image.{stateOf, taskFrom, placeFrom, alarmFrom, requestFrom, queueAt, alarmsAt, poolAt, Loads};
+ghost use Rattle.board.specs.Image.{taskFrom, placeFrom, alarmFrom, requestFrom, queueAt, alarmsAt, poolAt, Loads};
 
-// The state of a state's byte, time and mask. A byte that is no state's gives a wait that no well-formed table holds.
-fn state_of(tag: u8, time: u64, mask: u32) -> State
-    ensures { λ r. ⌜ r ≡ stateOf tag time mask ⌝ }
+// The state of a kind, a time and a mask. A byte that is no kind gives a wait that no well-formed table holds.
+fn state_of(kind: u8, time: Millis, mask: u32) -> State
+    ensures { λ r. ⌜ r ≡ stateOf kind time mask ⌝ }
 {
-    match tag {
+    match kind {
         0 => State::Dormant,
         1 => State::Ready,
-        2 => State::Paused(Millis(time)),
-        3 => State::Due(Millis(time)),
+        2 => State::Paused(time),
+        3 => State::Due(time),
         4 => State::Flags(Mode::Any, mask),
         5 => State::Flags(Mode::All, mask),
         6 => State::AwaitStart,
@@ -36,9 +37,9 @@ fn task_in(bytes: &[u8], at: usize) -> Task
     ensures { λ r. ⌜ r ≡ taskFrom (now (bytes .entry)) at ⌝ }
 {
     let own = numbers::byte_in(bytes, at);
-    let tag_at = at + 1;
-    let tag = numbers::byte_in(bytes, tag_at);
-    let time_at = tag_at + 1;
+    let kind_at = at + 1;
+    let kind = numbers::byte_in(bytes, kind_at);
+    let time_at = kind_at + 1;
     let time = numbers::long_in(bytes, time_at);
     let mask_at = time_at + 8;
     let mask = numbers::word_in(bytes, mask_at);
@@ -51,7 +52,7 @@ fn task_in(bytes: &[u8], at: usize) -> Task
     let end_waiter = numbers::byte_in(bytes, start_at + 8);
     Task {
         own,
-        state: state_of(tag, time, mask),
+        state: state_of(kind, Millis(time), mask),
         priority,
         argument,
         start: Millis(start),

@@ -3,12 +3,12 @@ use crate::IMAGE;
 use crate::NO_ROOM;
 use crate::numbers;
 use executive::Millis;
-use executive::Mode;
 use executive::Request;
 use executive::Rest;
 use executive::State;
 use executive::Table;
 use executive::Task;
+use executive::states;
 use records::TaskNo;
 ghost use mathlib.Core.Path.{_≡_};
 ghost use mathlib.Core.List.{[], _∷_};
@@ -16,27 +16,7 @@ ghost use Prim.Native.Nat.{_+_, _≤_};
 ghost use lib.ListN.{length};
 ghost use Rattle.board.specs.Blocks.{row, written};
 ghost use Rattle.board.specs.Image.{taskBytes, placeBytes, alarmBytes, requestBytes, queueAt, headAt, alarmsAt, poolAt, imageLength, imageOf, Stores};
-ghost use Rattle.board.specs.Coding.{codedOf, frontBytes, runBytes, headOf};
-
-// A state's byte, time and mask; time and mask are 0 where it has none.
-struct Coded(u8, u64, u32);
-
-fn code_of(state: State) -> Coded
-    ensures { λ r. ⌜ r ≡ codedOf state ⌝ }
-{
-    match state {
-        State::Dormant => Coded(0, 0, 0),
-        State::Ready => Coded(1, 0, 0),
-        State::Paused(at) => Coded(2, at.0, 0),
-        State::Due(at) => Coded(3, at.0, 0),
-        State::Flags(mode, mask) => match mode {
-            Mode::Any => Coded(4, 0, mask),
-            Mode::All => Coded(5, 0, mask),
-        },
-        State::AwaitStart => Coded(6, 0, 0),
-        State::AwaitEnd => Coded(7, 0, 0),
-    }
-}
+ghost use Rattle.board.specs.Coding.{frontBytes, runBytes, headOf};
 
 // Writes two bytes from a place on.
 pub(crate) fn put_both(out: &mut [u8], at: usize, a: u8, b: u8)
@@ -52,10 +32,12 @@ fn put_state(out: &mut [u8], at: usize, own: u8, state: State)
     requires { ⌜ at + 14 ≤ length (now out) ⌝ }
     ensures { λ _. ⌜ now (out .exit) ≡ written (now (out .entry)) at (frontBytes own state) ⌝ }
 {
-    let code = code_of(state);
-    put_both(out, at, own, code.0);
-    numbers::put(out, at + 2, 8, code.1);
-    numbers::put(out, at + 10, 4, code.2 as u64);
+    let kind = states::kind_of(state);
+    let time = states::time_of(state);
+    let mask = states::mask_of(state);
+    put_both(out, at, own, kind);
+    numbers::put(out, at + 2, 8, time.0);
+    numbers::put(out, at + 10, 4, mask as u64);
 }
 
 // Writes the rest of a task's entry, of its run, over 12 bytes.

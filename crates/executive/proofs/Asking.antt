@@ -2,7 +2,7 @@
 use mathlib.Core.Path.{_≡_, refl, sym, ap, _∙_}
 use mathlib.Core.Bool.{Bool, true, false, not}
 use mathlib.Core.List.{[], _∷_}
-use Prim.Native.Nat.{ℕ, _+_, _/_, _%_, _≤_, _<_}
+use Prim.Native.Nat.{ℕ, _/_, _%_, _≤_, _<_}
 use native.Mathlib.Omega.{arith}
 use borrow.Author.Tests.{eqb-true, ne-eqb}
 use lib.Dec.{ltb, eqb}
@@ -10,13 +10,12 @@ use Rattle.records.specs.declared.TaskNo.{TaskNo}
 use Rattle.executive.specs.declared.Millis.{Millis}
 use Rattle.executive.specs.declared.Wait.the-variants.{Goes, ForStart, ForEnd}
 use Rattle.executive.specs.declared.State.{State}
-use Rattle.executive.specs.declared.State.the-variants.{Dormant, Ready, Paused, Due, Flags, AwaitStart, AwaitEnd}
 use Rattle.executive.specs.declared.Table.{Table}
 use Rattle.executive.specs.Entries.{aimed}
-use Rattle.executive.specs.Plans.{caller, stateAt, isDormant, isPaused, nothing, raising, rises, cancelPlan, levelOf, waitOf, argumentOf, asks, startPlan, queuePlan, startOnlyPlan, requestOf, askPlan}
-use Rattle.executive.specs.Queue.{pick}
+use Rattle.executive.specs.Plans.{caller, stateAt, nothing, raising, rises, cancelPlan, levelOf, waitOf, argumentOf, asks, startPlan, queuePlan, startOnlyPlan, requestOf, askPlan}
+use Rattle.executive.specs.Queue.{pick, one}
 use Rattle.executive.specs.Table.{Names, requests, taskAt, stays}
-use Rattle.executive.specs.WellFormed.{is}
+use Rattle.executive.specs.States.{isDormant, isPaused, paused, due, kindOf}
 use Rattle.executive.specs.Check.{_and_}
 use Rattle.executive.proofs.Law.{clash}
 use Rattle.executive.proofs.Formed.{Formed}
@@ -24,25 +23,14 @@ use Rattle.executive.proofs.LinksKept.{ok-up, up-ok}
 use Rattle.executive.proofs.Kept.{puts, Good}
 use Rattle.executive.proofs.Plans.{OwnOf, MayWait, nothing-good, queue-good, start-good}
 use Rattle.executive.proofs.Rising.{Tells, One, one-task}
+use Rattle.executive.proofs.Named.{of-kind, counted}
 
 -- ---- 03
-paused-waits : (s : State) → isPaused s ≡ true → is 1 s + is 0 s + is 2 s + is 3 s ≡ 0
-paused-waits Dormant e = clash e
-paused-waits Ready e = clash e
-paused-waits (Paused x) e = refl
-paused-waits (Due x) e = clash e
-paused-waits (Flags m mask) e = clash e
-paused-waits AwaitStart e = clash e
-paused-waits AwaitEnd e = clash e
+paused-waits : (s : State) → isPaused s ≡ true → counted (kindOf s) ≡ 0
+paused-waits s e = of-kind (λ (k : ℕ). counted k ≡ 0) paused refl s e
 
 paused-aims : (c : ℕ) (s : State) (at : Millis) → isPaused s ≡ true → at .0 ≤ c → aimed s at .0 ≤ c
-paused-aims c Dormant at e h = h
-paused-aims c Ready at e h = h
-paused-aims c (Paused x) at e h = h
-paused-aims c (Due x) at e h = clash e
-paused-aims c (Flags m mask) at e h = h
-paused-aims c AwaitStart at e h = h
-paused-aims c AwaitEnd at e h = h
+paused-aims c s at e h = rw (of-kind (λ (k : ℕ). eqb due k ≡ false) paused refl s e) h
 
 module _ (t : Table) (w : Formed t) where
   abbrev now : ℕ
@@ -79,24 +67,6 @@ module _ (t : Table) (w : Formed t) where
       go false e g = nothing-good t w
 
 -- ---- 04 and 05: what their options say
-dormant-is : (s : State) → isDormant s ≡ true → is 0 s ≡ 1
-dormant-is Dormant e = refl
-dormant-is Ready e = clash e
-dormant-is (Paused x) e = clash e
-dormant-is (Due x) e = clash e
-dormant-is (Flags m mask) e = clash e
-dormant-is AwaitStart e = clash e
-dormant-is AwaitEnd e = clash e
-
-busy-is : (s : State) → isDormant s ≡ false → is 0 s ≡ 0
-busy-is Dormant e = clash (sym e)
-busy-is Ready e = refl
-busy-is (Paused x) e = refl
-busy-is (Due x) e = refl
-busy-is (Flags m mask) e = refl
-busy-is AwaitStart e = refl
-busy-is AwaitEnd e = refl
-
 level-le : (option own : ℕ) → own ≤ 15 → levelOf option own ≤ 15
 unfolding levelOf
 level-le option own h = go (ltb option 128)
@@ -124,7 +94,7 @@ module _ (t : Table) (w : Formed t) (h : 0 < t .ready) (option : ℕ) (k : TaskN
   start-only-good = go (isDormant (stateAt t k)) refl
     where
       go : (b : Bool) → isDormant (stateAt t k) ≡ b → Good (pick b (startPlan t (asks (caller t) Goes k level 0) Goes) (nothing t)) t
-      go true e = start-good t w h k level 0 fair there few (dormant-is (stateAt t k) e) Goes tt
+      go true e = start-good t w h k level 0 fair there few (ap one e) Goes tt
       go false e = nothing-good t w
 
   -- who waits waits for another
@@ -146,5 +116,5 @@ module _ (t : Table) (w : Formed t) (h : 0 < t .ready) (option : ℕ) (k : TaskN
     where
       go : (b : Bool) → isDormant (stateAt t k) ≡ b
           → Good (pick b (startPlan t (asks (caller t) (waitOf option) k level (argumentOf option a)) (waitOf option)) (queuePlan t (asks (caller t) (waitOf option) k level (argumentOf option a)) (waitOf option))) t
-      go true f = start-good t w h k level (argumentOf option a) fair there few (dormant-is (stateAt t k) f) (waitOf option) (may-wait e)
-      go false f = queue-good t w h k level (argumentOf option a) fair some (busy-is (stateAt t k) f) (room f) (waitOf option) (may-wait e)
+      go true f = start-good t w h k level (argumentOf option a) fair there few (ap one f) (waitOf option) (may-wait e)
+      go false f = queue-good t w h k level (argumentOf option a) fair some (ap one f) (room f) (waitOf option) (may-wait e)

@@ -2,7 +2,9 @@
 use Rattle.executive.specs.Demands.{Demands}
 use Rattle.executive.specs.Check.{Decided}
 use Rattle.executive.specs.FreshLaw.{FreshLaw}
+use Rattle.executive.specs.States.{StatesTold}
 use Rattle.executive.proofs.Checked as checked
+use Rattle.executive.proofs.Named as named
 use Rattle.executive.proofs.Shown as shown
 use Rattle.executive.proofs.Theorems as theorems
 
@@ -14,3 +16,6 @@ decided = checked.decided
 
 pub fresh-law : FreshLaw
 fresh-law = shown.fresh-law
+
+pub states-told : StatesTold
+states-told = named.states-told

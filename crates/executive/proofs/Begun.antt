@@ -12,13 +12,14 @@ use Rattle.executive.specs.declared.Task.{Task}
 use Rattle.executive.specs.declared.Work.{Work}
 use Rattle.executive.specs.Queue.{pick, one, count}
 use Rattle.executive.specs.Table.{nobody, never, noTask, pad, Names, taskAt, putAt, items, stays, Join, Plan, depart, apply, begin, admits, carry}
+use Rattle.executive.specs.States.{dormant, ready, awaitStart, awaitEnd, is}
 use Rattle.executive.specs.Plans.{asks, begins}
-use Rattle.executive.specs.WellFormed.{WellFormed, sumOf, is, runsOf, Line}
+use Rattle.executive.specs.WellFormed.{WellFormed, sumOf, runsOf, Line}
 use Rattle.executive.specs.Fresh.{granuleIn, ownIn, markIn, tasksIn, isConfiguration, blankRest, dormantAt, sleepers, dormantTable, starter, starters, freshTable, freshOf, zeroTable, madeBy}
 use Rattle.executive.specs.FreshLaw.{noConfiguration}
 use Rattle.executive.specs.Demands.{Dispatched}
 use Rattle.executive.proofs.Chosen.{dispatches}
-use Rattle.executive.proofs.Law.{not-zero}
+use Rattle.executive.proofs.Law.{clash, not-zero}
 use Rattle.executive.proofs.Flight.{admits-rest, carry-still}
 use Rattle.executive.proofs.Moved.{at-other}
 use Rattle.executive.proofs.Size.{sum-none}
@@ -31,6 +32,7 @@ use Rattle.executive.proofs.Kept.{puts, Good, Kept, apply-kept}
 use Rattle.executive.proofs.Rising.{Done, differ}
 use Rattle.executive.proofs.Settings.{dormant-fit}
 use Rattle.executive.proofs.Shape.{Told, told}
+use Rattle.executive.specs.declared.State.the-variants.{Dormant, Ready}
 
 -- ---- the dormant table
 pad-at : {A : Type 0} (d : A) (n : ℕ) (xs : List A) (i : ℕ) → getD (pad n d xs) i d ≡ getD xs i d
@@ -69,23 +71,23 @@ module _ (s : List ℕ) (n : ℕ) where
   asleep-links : LinksOk asleep []
   unfolding sumOf
   asleep-links = record {
-    starts = λ k _. any-asleep (λ e. 0 ≡ is 2 (e .state)) (λ _. refl) k;
-    ends = λ k h. rw (runs-none k h) (any-asleep (λ e. 0 ≡ is 3 (e .state)) (λ _. refl) k);
+    starts = λ k _. any-asleep (λ e. 0 ≡ is awaitStart (e .state)) (λ _. refl) k;
+    ends = λ k h. rw (runs-none k h) (any-asleep (λ e. 0 ≡ is awaitEnd (e .state)) (λ _. refl) k);
     others = refl;
     apart = λ k h. any-asleep (λ e. eqb k (e .«end_waiter» .0) ≡ false) (λ _. not-zero k h) k;
     single = refl;
     named = refl;
     busy = λ k _ _. refl;
-    quiet = λ k. any-asleep (λ e. is 0 (e .state) ≡ 1 → e .«end_waiter» .0 ≡ 0) (λ _ _. refl) k;
+    quiet = λ k. any-asleep (λ e. is dormant (e .state) ≡ 1 → e .«end_waiter» .0 ≡ 0) (λ _ _. refl) k;
   }
 
-  asleep-line : Line 1 asleep []
+  asleep-line : Line ready asleep []
   unfolding items count
-  asleep-line = record { exact = any-asleep (λ e. 0 ≡ is 1 (e .state)) (λ _. refl); sorted = tt }
+  asleep-line = record { exact = any-asleep (λ e. 0 ≡ is ready (e .state)) (λ _. refl); sorted = tt }
 
   asleep-own : ((k : ℕ) → 0 < k → k ≤ n → ownIn s k ≤ 15) → (k : ℕ) → Own 0 0 n k (taskAt asleep k)
   asleep-own h = each-asleep (Own 0 0 n) (λ k g l. record {
-    calm = (tt, tt);
+    calm = (clash, clash);
     started = zero-le;
     level = zero-le;
     home = h k g l;
@@ -120,7 +122,7 @@ record Still (ts : List Task) (n k : ℕ) : Type 0 where
   pub size : length ts ≡ 16
   pub linked : Up ts [] 0 0 0
   pub own : (j : ℕ) → Own 0 0 n j (taskAt ts j)
-  pub dormant : (j : ℕ) → k ≤ j → is 0 (taskAt ts j .state) ≡ 1
+  pub dormant : (j : ℕ) → k ≤ j → is dormant (taskAt ts j .state) ≡ 1
 
 module _ (s : List ℕ) (n : ℕ) (few : n ≤ 16) (right : (k : ℕ) → 0 < k → k ≤ n → ownIn s k ≤ 15) where
   started : (m k : ℕ) (ts : List Task) → 0 < k → k + m ≡ n + 1 → Still ts n k → Done (starters s m k) ts [] 0 0 n
@@ -141,7 +143,7 @@ module _ (s : List ℕ) (n : ℕ) (few : n ≤ 16) (right : (k : ℕ) → 0 < k 
       ready = record {
         size = put-length ts k v ∙ d .size;
         linked = links.begin ts [] k v 0 0 names (d .dormant k (omega arith)) refl refl (not-zero k h) 0 (λ i g _. not-zero i g) (d .linked);
-        own = λ i. put-all (Own 0 0 n) ts k v names (busy-own (tt, tt) zero-le (right k h (omega arith)) (d .own k .home) refl (omega arith)) i (λ _. d .own i);
+        own = λ i. put-all (Own 0 0 n) ts k v names (busy-own (clash, clash) zero-le (right k h (omega arith)) (d .own k .home) refl (omega arith)) i (λ _. d .own i);
         dormant = λ i l. rw (at-other ts k i v (differ i k l)) (d .dormant i (omega arith));
       }
 
@@ -167,7 +169,7 @@ starts-good s b c =
       size = f .fit .all;
       linked = ok-up (f .links);
       own = f .own;
-      dormant = λ j _. any-asleep s (tasksIn s) (λ e. is 0 (e .state) ≡ 1) (λ _. refl) j;
+      dormant = λ j _. any-asleep s (tasksIn s) (λ e. is dormant (e .state) ≡ 1) (λ _. refl) j;
     }) in
     record { leaving = refl; joining = d .joining; linked = up-ok (d .linked); own = d .own; rested = f .rested }
 

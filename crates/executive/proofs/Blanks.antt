@@ -9,13 +9,14 @@ use lib.Dec.{eqb}
 use lib.ListN.{length, take, drop, getD}
 use lib.Seq.{getD-drop}
 use Rattle.records.specs.declared.TaskNo.{TaskNo}
-use Rattle.executive.specs.declared.State.{State}
-use Rattle.executive.specs.declared.State.the-variants.{Dormant, Ready, Paused, Due, Flags, AwaitStart, AwaitEnd}
+use Rattle.executive.specs.declared.State.the-variants.{Dormant}
 use Rattle.executive.specs.declared.Task.{Task}
 use Rattle.executive.specs.declared.Request.{Request}
 use Rattle.executive.specs.Table.{nobody, noTask, noRequest, pad, taskAt}
-use Rattle.executive.specs.WellFormed.{kindOf, Zeros}
+use Rattle.executive.specs.States.{isDormant}
+use Rattle.executive.specs.WellFormed.{Zeros}
 use Rattle.executive.specs.Check.{allOf, isZero, isBlank, isNobody, isFree}
+use Rattle.executive.proofs.Named.{dormant-is}
 use Rattle.executive.proofs.Tally.{both, every-get, every-make}
 use Rattle.executive.proofs.Both.{split, paired}
 
@@ -51,15 +52,6 @@ module _ {A : Type 0} (f : A → Bool) (d : A) where
 pub nobody-is : (k : TaskNo) → isNobody k ≡ true → k ≡ nobody
 nobody-is k e = let p = eqb-true (k .0) 0 e in λ i. record { 0 = p i }
 
-pub dormant-is : (s : State) → eqb 0 (kindOf s) ≡ true → s ≡ Dormant
-dormant-is Dormant e = refl
-dormant-is Ready e = absurd (let z : _≡_ {A = ℕ} 0 1 = cc in omega arith)
-dormant-is (Paused at) e = absurd (let z : _≡_ {A = ℕ} 0 1 = cc in omega arith)
-dormant-is (Due at) e = absurd (let z : _≡_ {A = ℕ} 0 1 = cc in omega arith)
-dormant-is (Flags m mask) e = absurd (let z : _≡_ {A = ℕ} 0 1 = cc in omega arith)
-dormant-is AwaitStart e = absurd (let z : _≡_ {A = ℕ} 0 1 = cc in omega arith)
-dormant-is AwaitEnd e = absurd (let z : _≡_ {A = ℕ} 0 1 = cc in omega arith)
-
 pub zero-is : (e : Task) → isZero e ≡ true → Zeros e
 zero-is e h =
     let a = split (eqb (e .priority) 0) _ h in
@@ -74,7 +66,7 @@ is-zero e z =
 
 pub blank-is : (e : Task) → isBlank e ≡ true → e ≡ noTask
 blank-is e h =
-    let a = split (eqb 0 (kindOf (e .state))) _ h in
+    let a = split (isDormant (e .state)) _ h in
     let b = split (eqb (e .own) 0) _ (a .1) in
     let o : e .own ≡ 0 = eqb-true _ _ (b .0) in
     let s : e .state ≡ Dormant = dormant-is (e .state) (a .0) in

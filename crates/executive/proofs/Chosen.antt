@@ -15,8 +15,9 @@ use Rattle.executive.specs.declared.Task.{Task}
 use Rattle.executive.specs.declared.Table.{Table}
 use Rattle.executive.specs.Queue.{pick, one, count, ahead, prioIn, activeOf}
 use Rattle.executive.specs.Table.{line, taskAt, itemOf, items, headOf}
+use Rattle.executive.specs.States.{ready, isOf, is}
 use Rattle.executive.specs.Plans.{caller}
-use Rattle.executive.specs.WellFormed.{kindOf, is, Line}
+use Rattle.executive.specs.WellFormed.{Line}
 use Rattle.executive.specs.Demands.{Dispatched}
 use Rattle.executive.proofs.Law.{head-highest, head-first}
 use Rattle.executive.proofs.Fits.{line-length}
@@ -39,27 +40,27 @@ prio-is ts (j ∷ r) k h = go (eqb k (j .0)) refl h (prio-is ts r k)
 module _ (ts : List Task) where
   pub record Picks (r : List TaskNo) (k : ℕ) : Type 0 where
     pub head : activeOf (items ts r) ≡ k
-    pub ready : 0 < k → is 1 (taskAt ts k .state) ≡ 1
-    pub highest : (j : ℕ) → is 1 (taskAt ts j .state) ≡ 1 → taskAt ts j .priority ≤ taskAt ts k .priority
-    pub first : (j : ℕ) → is 1 (taskAt ts j .state) ≡ 1 → j ≢ k → ahead k (items ts r) < ahead j (items ts r)
-    pub idle : (k ≡ 0) ↔ ((j : ℕ) → is 1 (taskAt ts j .state) ≡ 0)
+    pub is-ready : 0 < k → is ready (taskAt ts k .state) ≡ 1
+    pub highest : (j : ℕ) → is ready (taskAt ts j .state) ≡ 1 → taskAt ts j .priority ≤ taskAt ts k .priority
+    pub first : (j : ℕ) → is ready (taskAt ts j .state) ≡ 1 → j ≢ k → ahead k (items ts r) < ahead j (items ts r)
+    pub idle : (k ≡ 0) ↔ ((j : ℕ) → is ready (taskAt ts j .state) ≡ 0)
     pub empty : (k ≡ 0) ↔ (length r ≡ 0)
 
-  pub picks : (r : List TaskNo) → Line 1 ts r → Picks r (headOf r .0)
+  pub picks : (r : List TaskNo) → Line ready ts r → Picks r (headOf r .0)
   unfolding items count activeOf
   picks [] q = record {
     head = refl;
-    ready = λ h. absurd (omega arith);
+    is-ready = λ h. absurd (omega arith);
     highest = λ j h. absurd (omega (arith, q .exact j));
     first = λ j h n. absurd (omega (arith, q .exact j));
     idle = (λ e j. sym (q .exact j), λ f. refl);
     empty = (λ e. refl, λ e. refl);
   }
   picks (c ∷ r) q =
-      let h : Head 1 ts c r = head-is 1 ts c r (omega arith) q in
+      let h : Head ready ts c r = head-is ready ts c r (omega arith) q in
       record {
         head = refl;
-        ready = λ _. h .is-of;
+        is-ready = λ _. h .is-of;
         highest = λ j e.
             let g : 0 < count j (items ts (c ∷ r)) = omega (arith, q .exact j) in
             omega (arith, head-highest (itemOf ts c) (items ts r) j (q .sorted) g, prio-is ts (c ∷ r) j g);
@@ -68,10 +69,10 @@ module _ (ts : List Task) where
         empty = (λ e. absurd (omega (arith, h .names .0)), λ e. absurd (omega arith));
       }
 
-unready : (s : State) → s ≢ Ready → is 1 s ≡ 0
-unready s n = go (eqb 1 (kindOf s)) refl
+unready : (s : State) → s ≢ Ready → is ready s ≡ 0
+unready s n = go (isOf ready s) refl
   where
-    go : (b : Bool) → eqb 1 (kindOf s) ≡ b → one b ≡ 0
+    go : (b : Bool) → isOf ready s ≡ b → one b ≡ 0
     go true e = absurd (n (ready-named s (ap one e)))
     go false e = refl
 
@@ -82,7 +83,7 @@ dispatches t w =
     record {
       head = p .head;
       chosen = λ h. record {
-        ready = ready-named _ (p .ready h);
+        ready = ready-named _ (p .is-ready h);
         highest = λ j e. p .highest j (ready-kind _ e);
         first = λ j e _ d. p .first j (ready-kind _ e) d;
       };

@@ -14,7 +14,8 @@ use Rattle.executive.specs.Numbers.{lastUnit}
 use Rattle.executive.specs.declared.Table.{Table}
 use Rattle.executive.specs.Queue.{pick}
 use Rattle.executive.specs.Table.{Fit, Standing}
-use Rattle.executive.specs.Plans.{stateAt, isDormant}
+use Rattle.executive.specs.States.{isDormant}
+use Rattle.executive.specs.Plans.{stateAt}
 use Rattle.executive.specs.WellFormed.{WellFormed, Times}
 use Rattle.executive.specs.Refusals.{_or_, isTick, nobodyActive, badBody, namesCaller, alarmRunning, poolFull, endsTime, Refusal, when, callRefusals, firstOf, butLast, earlyOf}
 use Rattle.executive.proofs.Law.{clash}

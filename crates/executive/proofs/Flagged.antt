@@ -12,68 +12,43 @@ use Rattle.records.specs.declared.FlagNo.{FlagNo}
 use Rattle.executive.specs.Numbers.{lastUnit, longest}
 use Rattle.executive.specs.declared.Millis.{Millis}
 use Rattle.executive.specs.declared.State.{State}
-use Rattle.executive.specs.declared.State.the-variants.{Dormant, Ready, Paused, Due, Flags, AwaitStart, AwaitEnd}
-use Rattle.executive.specs.declared.Task.{Task}
+use Rattle.executive.specs.declared.State.the-variants.{Flags}
 use Rattle.executive.specs.declared.Table.{Table}
-use Rattle.executive.specs.Entries.{withState, aimed}
-use Rattle.executive.specs.Plans.{nothing, met, holds, risers, setPlan, resetPlan, flagPlan, modeOf, waitPlan, alarmPlan}
+use Rattle.executive.specs.Entries.{withState}
+use Rattle.executive.specs.Plans.{nothing, met, holds, risers, setPlan, resetPlan, flagPlan, modeOf, waitPlan, alarmPlan, over}
 use Rattle.executive.specs.Queue.{pick}
 use Rattle.executive.specs.Rests.{withFlags, flagSet, flagReset, withAlarm}
-use Rattle.executive.specs.Table.{never, line, requests, taskAt, headOf, stays, leaves}
+use Rattle.executive.specs.Table.{never, requests, taskAt, stays, leaves}
+use Rattle.executive.specs.States.{maskOf, hasMask, waitMode}
 use Rattle.executive.specs.Time.{interval}
-use Rattle.executive.specs.WellFormed.{is, Stored, Unmet}
+use Rattle.executive.specs.WellFormed.{Stored, Unmet}
 use Rattle.executive.proofs.Law.{clash}
-use Rattle.executive.proofs.Formed.{Calm, Rested, Formed}
+use Rattle.executive.proofs.Formed.{Rested, Formed}
 use Rattle.executive.proofs.Interval.{interval-most, interval-some}
 use Rattle.executive.proofs.Sums.{set-all}
 use Rattle.executive.proofs.LinksKept.{ok-up, up-ok}
-use Rattle.executive.proofs.Links.{alike}
 use Rattle.executive.proofs.Kept.{puts, Good}
-use Rattle.executive.proofs.Plans.{Runs, runs, nothing-good, waits-own}
+use Rattle.executive.proofs.Plans.{nothing-good, waits-good}
 use Rattle.executive.proofs.Rising.{Tells, Done, all-risen}
 use Rattle.executive.proofs.Masks.{met-fewer}
+use Rattle.executive.proofs.Named.{mask-waits, mask-no-time, flags-mask, flags-mode}
+use Rattle.executive.proofs.Scans.{over-holds, holds-over}
+use Rattle.executive.proofs.Tick.{over-tells}
 
 -- ---- the test of 09: who waits for flags, and whose condition holds now
-module _ (c fa fs : ℕ) where
-  waits : (s : State) → holds fs s ≡ true → is 1 s + is 0 s + is 2 s + is 3 s ≡ 0
-  waits Dormant e = clash e
-  waits Ready e = clash e
-  waits (Paused x) e = clash e
-  waits (Due x) e = clash e
-  waits (Flags m mask) e = refl
-  waits AwaitStart e = clash e
-  waits AwaitEnd e = clash e
-
-  aims : (s : State) (at : Millis) → holds fs s ≡ true → at .0 ≤ c → aimed s at .0 ≤ c
-  aims Dormant at e l = l
-  aims Ready at e l = l
-  aims (Paused x) at e l = l
-  aims (Due x) at e l = clash e
-  aims (Flags m mask) at e l = l
-  aims AwaitStart at e l = l
-  aims AwaitEnd at e l = l
-
-  calms : (s : State) → holds fs s ≡ false → Calm c fa s → Calm c fs s
-  calms Dormant e x = x
-  calms Ready e x = x
-  calms (Paused n) e x = x
-  calms (Due n) e x = x
-  calms (Flags m mask) e x = (tt, (x .1 .0, e))
-  calms AwaitStart e x = x
-  calms AwaitEnd e x = x
-
-  pub holds-tells : Tells (holds fs) c fa c fs
-  holds-tells = record { onward = omega arith; waits = waits; aims = aims; calms = calms }
+holds-tells : (c fa fs : ℕ) → Tells (holds fs) c fa c fs
+holds-tells c fa fs =
+    let o : Tells (over c fs) c fa c fs = over-tells c fa c fs (omega arith) in
+    record {
+      onward = o .onward;
+      waits = λ s e. o .waits s (holds-over c fs s e);
+      aims = λ s at e l. o .aims s at (holds-over c fs s e) l;
+      calms = λ s e x. o .calms s (over-holds c fs s (x .0) ∙ e) x;
+    }
 
 -- fewer flags leave every wait as it is
 unmet-fewer : (fs x : ℕ) (s : State) → Unmet fs s → Unmet (bitAnd fs x) s
-unmet-fewer fs x Dormant u = u
-unmet-fewer fs x Ready u = u
-unmet-fewer fs x (Paused n) u = u
-unmet-fewer fs x (Due n) u = u
-unmet-fewer fs x (Flags m mask) u = (u .0, met-fewer fs x m mask (u .1))
-unmet-fewer fs x AwaitStart u = u
-unmet-fewer fs x AwaitEnd u = u
+unmet-fewer fs x s u e = (u e .0, met-fewer fs x (waitMode s) (maskOf s) (u e .1))
 
 module _ (t : Table) (w : Formed t) where
   -- the rest with other flags
@@ -128,23 +103,16 @@ module _ (t : Table) (w : Formed t) where
 
   -- ---- 0A
   pub wait-good : 0 < t .ready → (m mask : ℕ) → eqb mask 0 ≡ false → Good (waitPlan t m mask) t
-  unfolding waitPlan puts
+  unfolding waitPlan
   wait-good h m mask z = go (met (t .rest .flags) (modeOf m) mask) refl
     where
       go : (b : Bool) → met (t .rest .flags) (modeOf m) mask ≡ b
           → Good (pick b (nothing t) (record { out = leaves (withState (Flags (modeOf m) mask)); ins = []; rest = t .rest })) t
       go true e = nothing-good t w
       go false e =
-          let c : ℕ = headOf (line t) .0 in
-          let r : Runs (t .tasks) c = runs t w h in
-          let v : Task = withState (Flags (modeOf m) mask) (taskAt (t .tasks) c) in
-          record {
-            leaving = refl;
-            joining = tt;
-            linked = up-ok (alike (t .tasks) (requests (t .rest)) c v 0 0 0 (r .names) refl (sym (r .no-start)) (sym (r .no-end)) refl (r .is-busy) (ok-up (w .links)));
-            own = waits-own t w h (Flags (modeOf m) mask) (tt, (omega (arith, eqb-false mask 0 z), e)) refl;
-            rested = w .rested;
-          }
+          let s : State = Flags (modeOf m) mask in
+          let k : hasMask s ≡ true = flags-mask (modeOf m) mask in
+          waits-good t w h s (λ q. clash (sym (mask-no-time s k) ∙ q), λ _. (omega (arith, eqb-false mask 0 z), rw (flags-mode (modeOf m) mask) e)) (mask-waits s k)
 
   -- ---- 0B
   pub alarm-good : (unit n : ℕ) (f : FlagNo) → unit ≤ lastUnit → n < 256 → Good (alarmPlan t unit n f) t

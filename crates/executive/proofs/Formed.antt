@@ -1,5 +1,5 @@
 -- The working form of a well-formed table: the rules grouped by what a step changes. It says what `WellFormed` says, both ways.
-use mathlib.Core.Path.{_≡_, refl, ap, _∙_}
+use mathlib.Core.Path.{_≡_, refl, ap, _∙_, sym}
 use mathlib.Core.Bool.{Bool, true, false}
 use mathlib.Core.List.{List, [], _∷_}
 use Prim.Native.Nat.{ℕ, zero, suc, _+_, _≤_, _<_, zero-le}
@@ -7,6 +7,7 @@ use native.Mathlib.Omega.{arith}
 use lib.Dec.{eqb, ltb, eqb→eq}
 use lib.ListN.{length, getD}
 use Rattle.executive.specs.declared.State.{State}
+use Rattle.executive.specs.declared.State.the-variants.{Dormant}
 use Rattle.executive.specs.declared.Task.{Task}
 use Rattle.executive.specs.declared.Request.{Request}
 use Rattle.executive.specs.declared.Rest.{Rest}
@@ -14,9 +15,10 @@ use Rattle.executive.specs.declared.Table.{Table}
 use Rattle.executive.specs.Numbers.{mostTasks, flagCount, highest, mostGranule, endOfTime}
 use Rattle.executive.specs.Queue.{one}
 use Rattle.executive.specs.Table.{Neat, Fit, never, noTask, line, requests, taskAt}
-use Rattle.executive.specs.WellFormed.{sumOf, kindOf, is, targetsOf, startsOf, endsOf, runsOf, steepOf, wildOf, selfsOf, twiceOf, idleOf, Line, Stored, Timely, Unmet, Zeros, WellFormed}
+use Rattle.executive.specs.States.{dormant, ready, awaitStart, awaitEnd, is, isDormant, hasTime, hasMask}
+use Rattle.executive.specs.WellFormed.{sumOf, targetsOf, startsOf, endsOf, runsOf, steepOf, wildOf, selfsOf, twiceOf, idleOf, Line, Stored, Timely, Unmet, Zeros, WellFormed}
 use Rattle.executive.proofs.Named.{dormant-named, dormant-kind}
-use Rattle.executive.proofs.Law.{T-of, eqb-self, not-zero, Lt, lt-yes, lt-no, ltb-is}
+use Rattle.executive.proofs.Law.{T-of, eqb-self, not-zero, Lt, lt-yes, lt-no, ltb-is, clash}
 use Rattle.executive.proofs.Fits.{queue-length, pool-length}
 
 -- nothing in this state is due now, at the clock c with the flags fs
@@ -29,19 +31,19 @@ pub record Own (c fs n k : ℕ) (e : Task) : Type 0 where
   pub started : e .start .0 ≤ c
   pub level : e .priority ≤ highest
   pub home : e .own ≤ highest
-  pub zeros : is 0 (e .state) ≡ 1 → Zeros e
+  pub zeros : is dormant (e .state) ≡ 1 → Zeros e
   pub beyond : n < k → e ≡ noTask
 
 -- the links, and the requests' targets
 pub record LinksOk (ts : List Task) (p : List Request) : Type 0 where
-  pub starts : (k : ℕ) → 0 < k → startsOf k p ≡ is 2 (taskAt ts k .state)
-  pub ends : (k : ℕ) → 0 < k → endsOf k p + runsOf k ts ≡ is 3 (taskAt ts k .state)
+  pub starts : (k : ℕ) → 0 < k → startsOf k p ≡ is awaitStart (taskAt ts k .state)
+  pub ends : (k : ℕ) → 0 < k → endsOf k p + runsOf k ts ≡ is awaitEnd (taskAt ts k .state)
   pub others : selfsOf p ≡ 0
   pub apart : (k : ℕ) → 0 < k → eqb k (taskAt ts k .«end_waiter» .0) ≡ false
   pub single : twiceOf p ≡ 0
   pub named : targetsOf 0 p ≡ 0
-  pub busy : (k : ℕ) → 0 < k → is 0 (taskAt ts k .state) ≡ 1 → targetsOf k p ≡ 0
-  pub quiet : (k : ℕ) → is 0 (taskAt ts k .state) ≡ 1 → taskAt ts k .«end_waiter» .0 ≡ 0
+  pub busy : (k : ℕ) → 0 < k → is dormant (taskAt ts k .state) ≡ 1 → targetsOf k p ≡ 0
+  pub quiet : (k : ℕ) → is dormant (taskAt ts k .state) ≡ 1 → taskAt ts k .«end_waiter» .0 ≡ 0
 
 -- the rules on the rest alone
 pub record Rested (r : Rest) : Type 0 where
@@ -59,7 +61,7 @@ AllOwn r ts = (k : ℕ) → Own (r .clock .0) (r .flags) (r .count) k (taskAt ts
 
 pub record Formed (t : Table) : Type 0 where
   pub fit : Fit t
-  pub queue : Line 1 (t .tasks) (line t)
+  pub queue : Line ready (t .tasks) (line t)
   pub links : LinksOk (t .tasks) (requests (t .rest))
   pub own : AllOwn (t .rest) (t .tasks)
   pub rested : Rested (t .rest)
@@ -67,10 +69,10 @@ pub record Formed (t : Table) : Type 0 where
 -- ---- one entry
 -- the blank entry is in order at any number
 pub blank-own : {c fs n k : ℕ} → Own c fs n k noTask
-blank-own = record { calm = (tt, tt); started = zero-le; level = zero-le; home = zero-le; zeros = λ _. record { priority = refl; argument = refl; start = refl; waiter = refl }; beyond = λ _. refl }
+blank-own = record { calm = (clash, clash); started = zero-le; level = zero-le; home = zero-le; zeros = λ _. record { priority = refl; argument = refl; start = refl; waiter = refl }; beyond = λ _. refl }
 
 -- a busy task's number is at most the count
-pub within : {c fs n k : ℕ} {e : Task} → Own c fs n k e → is 0 (e .state) ≡ 0 → k ≤ n
+pub within : {c fs n k : ℕ} {e : Task} → Own c fs n k e → is dormant (e .state) ≡ 0 → k ≤ n
 within {c} {fs} {n} {k} {e} o b = go (ltb n k) (ltb-is n k)
   where
     go : (x : Bool) → Lt n k x → k ≤ n
@@ -78,25 +80,25 @@ within {c} {fs} {n} {k} {e} o b = go (ltb n k) (ltb-is n k)
     go false (lt-no h) = h
 
 -- a busy task's entry owes neither zeros nor blanks
-pub busy-own : {c fs n k : ℕ} {e : Task} → Calm c fs (e .state) → e .start .0 ≤ c → e .priority ≤ highest → e .own ≤ highest → is 0 (e .state) ≡ 0 → k ≤ n → Own c fs n k e
+pub busy-own : {c fs n k : ℕ} {e : Task} → Calm c fs (e .state) → e .start .0 ≤ c → e .priority ≤ highest → e .own ≤ highest → is dormant (e .state) ≡ 0 → k ≤ n → Own c fs n k e
 busy-own m s l h b i = record { calm = m; started = s; level = l; home = h; zeros = λ z. absurd (omega arith); beyond = λ z. absurd (omega arith) }
 
 -- ---- requests' targets: none is dormant, said of the sum and of each number
-idle-at : (ts : List Task) (p : List Request) → idleOf ts p ≡ 0 → (k : ℕ) → is 0 (taskAt ts k .state) ≡ 1 → targetsOf k p ≡ 0
+idle-at : (ts : List Task) (p : List Request) → idleOf ts p ≡ 0 → (k : ℕ) → is dormant (taskAt ts k .state) ≡ 1 → targetsOf k p ≡ 0
 unfolding sumOf
 idle-at ts [] z k d = refl
 idle-at ts (r ∷ p) z k d = go (eqb k (r .target .0)) refl (idle-at ts p (omega arith) k d)
   where
     go : (b : Bool) → eqb k (r .target .0) ≡ b → targetsOf k p ≡ 0 → one b + targetsOf k p ≡ 0
-    go true e ih = absurd (omega (arith, z, d, ap (λ (n : ℕ). is 0 (taskAt ts n .state)) (eqb→eq k (r .target .0) (T-of (eqb k (r .target .0)) e))))
+    go true e ih = absurd (omega (arith, z, d, ap (λ (n : ℕ). is dormant (taskAt ts n .state)) (eqb→eq k (r .target .0) (T-of (eqb k (r .target .0)) e))))
     go false e ih = omega arith
 
-idle-none : (ts : List Task) (p : List Request) → ((k : ℕ) → is 0 (taskAt ts k .state) ≡ 1 → targetsOf k p ≡ 0) → idleOf ts p ≡ 0
+idle-none : (ts : List Task) (p : List Request) → ((k : ℕ) → is dormant (taskAt ts k .state) ≡ 1 → targetsOf k p ≡ 0) → idleOf ts p ≡ 0
 unfolding sumOf
 idle-none ts [] h = refl
-idle-none ts (r ∷ p) h = go (eqb 0 (kindOf (taskAt ts (r .target .0) .state))) refl (idle-none ts p (λ k d. omega (arith, h k d)))
+idle-none ts (r ∷ p) h = go (isDormant (taskAt ts (r .target .0) .state)) refl (idle-none ts p (λ k d. omega (arith, h k d)))
   where
-    go : (b : Bool) → eqb 0 (kindOf (taskAt ts (r .target .0) .state)) ≡ b → idleOf ts p ≡ 0 → one b + idleOf ts p ≡ 0
+    go : (b : Bool) → isDormant (taskAt ts (r .target .0) .state) ≡ b → idleOf ts p ≡ 0 → one b + idleOf ts p ≡ 0
     go true e ih = absurd (omega (arith, h (r .target .0) (ap one e), ap one (eqb-self (r .target .0))))
     go false e ih = omega arith
 
@@ -195,7 +197,7 @@ module _ (t : Table) (w : Formed t) where
       ))
       go false (lt-no h) = h
 
-  any-idle : (k : ℕ) → is 0 (taskAt ts k .state) ≡ 1 → targetsOf k p ≡ 0
+  any-idle : (k : ℕ) → is dormant (taskAt ts k .state) ≡ 1 → targetsOf k p ≡ 0
   any-idle zero z = w .links .named
   any-idle (suc k) z = w .links .busy (suc k) (omega arith) z
 

@@ -17,12 +17,13 @@ use Rattle.records.specs.declared.Call.{Call}
 use Rattle.records.specs.declared.Call.the-variants as call
 use Rattle.records.specs.Kinds.{lengthOf, isCall}
 use Rattle.executive.specs.declared.State.{State}
-use Rattle.executive.specs.declared.State.the-variants.{Dormant, Ready, Paused, Due, Flags, AwaitStart, AwaitEnd}
+use Rattle.executive.specs.declared.State.the-variants.{Dormant}
 use Rattle.executive.specs.declared.Table.{Table}
 use Rattle.executive.specs.Queue.{pick}
 use Rattle.executive.specs.Numbers.{endOfTime}
 use Rattle.executive.specs.Table.{never, carry}
-use Rattle.executive.specs.Plans.{caller, stateAt, isDormant}
+use Rattle.executive.specs.States.{isDormant}
+use Rattle.executive.specs.Plans.{caller, stateAt}
 use Rattle.executive.specs.Check.{_and_, isWellFormed}
 use Rattle.executive.specs.Refusals.{_or_, planOf, kindIn, callIn, isTick, noSuchTask, nobodyActive, badBody, ofQueue, ofAlarm, namesCaller, alarmRunning, poolFull, endsTime, overfills, Refusal, refusals, firstOf}
 use Rattle.executive.specs.Steps.{stepOf}
@@ -30,6 +31,7 @@ use Rattle.executive.specs.Given.{Bit, NoCall, NoTask, BadBody, IsQueue,
 use Rattle.executive.proofs.Law.{clash}
 use Rattle.executive.proofs.Checked.{well-formed-iff}
 use Rattle.executive.proofs.Decided.{step-number}
+use Rattle.executive.proofs.Named.{dormant-is}
 
 -- ---- a test says a sentence
 abbrev Says : Bool → Type 0 → Type 0
@@ -137,16 +139,7 @@ says-no-call k = (to k, λ z. ⊎-elim (λ e. rw e refl) (λ y. ⊎-elim (λ e. 
     to kind.End e = inr (inr (inr refl))
 
 says-dormant : (x : State) → Says (isDormant x) (x ≡ Dormant)
-says-dormant x = (to x, λ e. rw e refl)
-  where
-    to : (x : State) → isDormant x ≡ true → x ≡ Dormant
-    to Dormant e = refl
-    to Ready e = clash e
-    to (Paused at) e = clash e
-    to (Due at) e = clash e
-    to (Flags m mask) e = clash e
-    to AwaitStart e = clash e
-    to AwaitEnd e = clash e
+says-dormant x = (dormant-is x, λ e. rw e refl)
 
 says-tick : (c : Call) → Says (isTick c) (c ≡ call.Tick)
 says-tick c = (to c, λ e. rw e refl)

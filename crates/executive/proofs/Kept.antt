@@ -12,7 +12,8 @@ use Rattle.executive.specs.declared.Table.{Table}
 use Rattle.executive.specs.declared.Work.{Work}
 use Rattle.executive.specs.Queue.{count}
 use Rattle.executive.specs.Table.{Fit, line, requests, taskAt, putAt, items, headOf, Out, stays, leaves, Join, Plan, entered, depart, join, joins, withRest, apply, begin, admit, admits, carry, change-at, outTasks}
-use Rattle.executive.specs.WellFormed.{is, Line}
+use Rattle.executive.specs.States.{ready, is}
+use Rattle.executive.specs.WellFormed.{Line}
 use Rattle.executive.proofs.Formed.{AllOwn, LinksOk, Rested, Formed}
 use Rattle.executive.proofs.Fits.{line-length, departed-fit, entered-fit}
 use Rattle.executive.proofs.Moved.{Entering, Sound, out-tasks, leave-line}
@@ -26,7 +27,7 @@ puts (j ∷ js) ts = puts js (change-at ts (j .who .0) (j .change))
 
 abbrev pub outReady : Out → Task → ℕ
 outReady stays e = 0
-outReady (leaves f) e = is 1 (f e .state)
+outReady (leaves f) e = is ready (f e .state)
 
 abbrev pub JoinsAll : List Join → List Task → Type 0
 JoinsAll [] ts = Unit {0}
@@ -56,7 +57,7 @@ pub record Through (js : List Join) (w : Work) (t : Table) : Type 0 where
 
 -- what the entries come to, one after the other
 pub record Came (js : List Join) (t : Table) : Type 0 where
-  pub queue : Line 1 (joins js t .tasks) (line (joins js t))
+  pub queue : Line ready (joins js t .tasks) (line (joins js t))
   pub entering : Entering js t
   pub fit : Fit (joins js t)
   pub room : (w : Work) → w .table ≡ t → Through js w t
@@ -74,7 +75,7 @@ joined-tasks : (j : Join) (t : Table) → join j t .tasks ≡ change-at (t .task
 unfolding join entered
 joined-tasks j t = refl
 
-pub joins-kept : (js : List Join) (t : Table) → Fit t → Line 1 (t .tasks) (line t) → JoinsAll js (t .tasks) → Came js t
+pub joins-kept : (js : List Join) (t : Table) → Fit t → Line ready (t .tasks) (line t) → JoinsAll js (t .tasks) → Came js t
 unfolding joins admits
 joins-kept [] t f q h = record { queue = q; entering = tt; fit = f; room = λ w e. record { table = e; full = refl } }
 joins-kept (j ∷ js) t f q h =
@@ -92,23 +93,23 @@ joins-kept (j ∷ js) t f q h =
           record { table = x .table; full = x .full ∙ a .1 };
     }
 
-nobody-put : (ts : List Task) (e : Task) → Line 1 ts [] → Line 1 (putAt ts 0 e) []
+nobody-put : (ts : List Task) (e : Task) → Line ready ts [] → Line ready (putAt ts 0 e) []
 unfolding putAt
 nobody-put ts e q = q
 
-out-kept : (o : Out) (t : Table) → Fit t → Line 1 (t .tasks) (line t) → outReady o (taskAt (t .tasks) (headOf (line t) .0)) ≡ 0 → Fit (depart o t) × Line 1 (depart o t .tasks) (line (depart o t))
+out-kept : (o : Out) (t : Table) → Fit t → Line ready (t .tasks) (line t) → outReady o (taskAt (t .tasks) (headOf (line t) .0)) ≡ 0 → Fit (depart o t) × Line ready (depart o t .tasks) (line (depart o t))
 unfolding depart
 out-kept stays t f q h = (f, q)
 out-kept (leaves g) t f q h = (departed-fit t f (g (taskAt (t .tasks) (headOf (line t) .0))), rw (leave-line g t, out-tasks (leaves g) t) (go (line t) q h))
   where
-    go : (r : List TaskNo) → Line 1 (t .tasks) r → is 1 (g (taskAt (t .tasks) (headOf r .0)) .state) ≡ 0 → Line 1 (change-at (t .tasks) (headOf r .0) g) (tail r)
+    go : (r : List TaskNo) → Line ready (t .tasks) r → is ready (g (taskAt (t .tasks) (headOf r .0)) .state) ≡ 0 → Line ready (change-at (t .tasks) (headOf r .0) g) (tail r)
     go [] q h = nobody-put (t .tasks) (g (taskAt (t .tasks) 0)) q
-    go (c ∷ r) q h = line-out 1 (t .tasks) c (g (taskAt (t .tasks) (c .0))) r (omega arith) q h
+    go (c ∷ r) q h = line-out ready (t .tasks) c (g (taskAt (t .tasks) (c .0))) r (omega arith) q h
 
-once : (ts : List Task) (r : List TaskNo) → Line 1 ts r → count (headOf r .0) (items ts (tail r)) ≡ 0
+once : (ts : List Task) (r : List TaskNo) → Line ready ts r → count (headOf r .0) (items ts (tail r)) ≡ 0
 unfolding items count
 once ts [] q = refl
-once ts (c ∷ r) q = head-is 1 ts c r (omega arith) q .alone
+once ts (c ∷ r) q = head-is ready ts c r (omega arith) q .alone
 
 pub record Kept (p : Plan) (t : Table) : Type 0 where
   pub formed : Formed (apply p t)
@@ -121,7 +122,7 @@ unfolding apply carry
 apply-kept p t w g =
     let d : Table = depart (p .out) t in
     let e : d .tasks ≡ outTasks (p .out) (t .tasks) (headOf (line t) .0) = out-tasks (p .out) t in
-    let q : Fit d × Line 1 (d .tasks) (line d) = out-kept (p .out) t (w .fit) (w .queue) (g .leaving) in
+    let q : Fit d × Line ready (d .tasks) (line d) = out-kept (p .out) t (w .fit) (w .queue) (g .leaving) in
     let k : Came (p .ins) d = joins-kept (p .ins) d (q .0) (q .1) (rw e (g .joining)) in
     let f : joins (p .ins) d .tasks ≡ after-tasks p t = joins-tasks (p .ins) d ∙ ap (puts (p .ins)) e in
     record {

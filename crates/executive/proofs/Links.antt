@@ -11,7 +11,8 @@ use Rattle.executive.specs.declared.Request.{Request}
 use Rattle.executive.specs.Queue.{pick, one}
 use Rattle.executive.specs.Rests.{placeOf, removed}
 use Rattle.executive.specs.Table.{Names, noRequest, taskAt, putAt}
-use Rattle.executive.specs.WellFormed.{sumOf, is, startsOf, endsOf, runsOf, targetsOf, selfsOf}
+use Rattle.executive.specs.States.{dormant, ready, awaitStart, awaitEnd, is}
+use Rattle.executive.specs.WellFormed.{sumOf, startsOf, endsOf, runsOf, targetsOf, selfsOf}
 use Rattle.executive.proofs.Law.{T-of, eqb-self, not-zero}
 use Rattle.executive.proofs.Moved.{eqb-no, eqb-swap}
 use Rattle.executive.proofs.Sums.{sum-snoc}
@@ -33,8 +34,8 @@ module _ (ts : List Task) (p : List Request) (j : ℕ) (e : Task) where
   old = taskAt ts j
 
   -- the reading of j as an end or a start waiter, and the named one, do not change: pause, end of a pause, restart
-  pub alike : (w s d : ℕ) → Names j ts → e .«end_waiter» .0 ≡ old .«end_waiter» .0 → is 2 (e .state) ≡ is 2 (old .state) → is 3 (e .state) ≡ is 3 (old .state)
-      → is 0 (e .state) ≡ 0 → is 0 (old .state) ≡ 0 → Up ts p w s d → Up (putAt ts j e) p w s d
+  pub alike : (w s d : ℕ) → Names j ts → e .«end_waiter» .0 ≡ old .«end_waiter» .0 → is awaitStart (e .state) ≡ is awaitStart (old .state) → is awaitEnd (e .state) ≡ is awaitEnd (old .state)
+      → is dormant (e .state) ≡ 0 → is dormant (old .state) ≡ 0 → Up ts p w s d → Up (putAt ts j e) p w s d
   alike w s d n g a b z z′ l = up-put ts p j e w s d w s d (record {
     names = n;
     starts = λ k h. omega (arith, ap (wt (eqb k j)) a);
@@ -46,15 +47,15 @@ module _ (ts : List Task) (p : List Request) (j : ℕ) (e : Task) where
   }) l
 
   -- the run of the caller ends: its end waiter is an orphan
-  pub retire : is 1 (old .state) ≡ 1 → is 0 (e .state) ≡ 1 → e .«end_waiter» .0 ≡ 0 → Up ts p 0 0 0 → Up (putAt ts j e) p (old .«end_waiter» .0) 0 j
+  pub retire : is ready (old .state) ≡ 1 → is dormant (e .state) ≡ 1 → e .«end_waiter» .0 ≡ 0 → Up ts p 0 0 0 → Up (putAt ts j e) p (old .«end_waiter» .0) 0 j
   retire r z g l =
-      let x : is 1 (old .state) + is 0 (old .state) + is 2 (old .state) + is 3 (old .state) ≤ 1 = not-both (old .state) in
-      let y : is 1 (e .state) + is 0 (e .state) + is 2 (e .state) + is 3 (e .state) ≤ 1 = not-both (e .state) in
+      let x : is ready (old .state) + is dormant (old .state) + is awaitStart (old .state) + is awaitEnd (old .state) ≤ 1 = not-both (old .state) in
+      let y : is ready (e .state) + is dormant (e .state) + is awaitStart (e .state) + is awaitEnd (e .state) ≤ 1 = not-both (e .state) in
       let n : Names j ts = busy-names ts j (omega arith) in
       up-put ts p j e 0 0 0 (old .«end_waiter» .0) 0 j (record {
         names = n;
-        starts = λ k h. omega (arith, w0 (eqb k j) (is 2 (old .state)) (omega arith), w0 (eqb k j) (is 2 (e .state)) (omega arith));
-        ends = λ k h. omega (arith, w0 (eqb k j) (is 3 (old .state)) (omega arith), w0 (eqb k j) (is 3 (e .state)) (omega arith), ap (λ x. one (eqb k x)) g);
+        starts = λ k h. omega (arith, w0 (eqb k j) (is awaitStart (old .state)) (omega arith), w0 (eqb k j) (is awaitStart (e .state)) (omega arith));
+        ends = λ k h. omega (arith, w0 (eqb k j) (is awaitEnd (old .state)) (omega arith), w0 (eqb k j) (is awaitEnd (e .state)) (omega arith), ap (λ x. one (eqb k x)) g);
         apart = ap (eqb j) g ∙ not-zero j (n .0);
         quiet = λ _. g;
         busy-own = λ x. absurd (eqb-no j j x refl);
@@ -62,15 +63,15 @@ module _ (ts : List Task) (p : List Request) (j : ℕ) (e : Task) where
       }) l
 
   -- the run of the caller ends, and it stays busy: its end waiter is an orphan
-  pub release : is 1 (old .state) ≡ 1 → is 1 (e .state) + is 0 (e .state) + is 2 (e .state) + is 3 (e .state) ≡ 0 → e .«end_waiter» .0 ≡ 0 → Up ts p 0 0 0
+  pub release : is ready (old .state) ≡ 1 → is ready (e .state) + is dormant (e .state) + is awaitStart (e .state) + is awaitEnd (e .state) ≡ 0 → e .«end_waiter» .0 ≡ 0 → Up ts p 0 0 0
       → Up (putAt ts j e) p (old .«end_waiter» .0) 0 0
   release r z g l =
-      let x : is 1 (old .state) + is 0 (old .state) + is 2 (old .state) + is 3 (old .state) ≤ 1 = not-both (old .state) in
+      let x : is ready (old .state) + is dormant (old .state) + is awaitStart (old .state) + is awaitEnd (old .state) ≤ 1 = not-both (old .state) in
       let n : Names j ts = busy-names ts j (omega arith) in
       up-put ts p j e 0 0 0 (old .«end_waiter» .0) 0 0 (record {
         names = n;
-        starts = λ k h. omega (arith, w0 (eqb k j) (is 2 (old .state)) (omega arith), w0 (eqb k j) (is 2 (e .state)) (omega arith));
-        ends = λ k h. omega (arith, w0 (eqb k j) (is 3 (old .state)) (omega arith), w0 (eqb k j) (is 3 (e .state)) (omega arith), ap (λ x. one (eqb k x)) g);
+        starts = λ k h. omega (arith, w0 (eqb k j) (is awaitStart (old .state)) (omega arith), w0 (eqb k j) (is awaitStart (e .state)) (omega arith));
+        ends = λ k h. omega (arith, w0 (eqb k j) (is awaitEnd (old .state)) (omega arith), w0 (eqb k j) (is awaitEnd (e .state)) (omega arith), ap (λ x. one (eqb k x)) g);
         apart = ap (eqb j) g ∙ not-zero j (n .0);
         quiet = λ _. g;
         busy-own = λ _. omega arith;
@@ -78,18 +79,18 @@ module _ (ts : List Task) (p : List Request) (j : ℕ) (e : Task) where
       }) l
 
   -- the orphan end waiter enters
-  pub wake-ender : (s d : ℕ) → 0 < j → e .«end_waiter» .0 ≡ old .«end_waiter» .0 → is 1 (e .state) ≡ 1 → Up ts p j s d → Names j ts × (is 1 (old .state) + is 0 (old .state) ≡ 0) × Up (putAt ts j e) p 0 s d
+  pub wake-ender : (s d : ℕ) → 0 < j → e .«end_waiter» .0 ≡ old .«end_waiter» .0 → is ready (e .state) ≡ 1 → Up ts p j s d → Names j ts × (is ready (old .state) + is dormant (old .state) ≡ 0) × Up (putAt ts j e) p 0 s d
   wake-ender s d h₀ g r l =
-      let a : endsOf j p + runsOf j ts + one (eqb j j) ≡ is 3 (old .state) = l .ends j h₀ in
+      let a : endsOf j p + runsOf j ts + one (eqb j j) ≡ is awaitEnd (old .state) = l .ends j h₀ in
       let b : one (eqb j j) ≡ 1 = ap one (eqb-self j) in
-      let x : is 1 (old .state) + is 0 (old .state) + is 2 (old .state) + is 3 (old .state) ≤ 1 = not-both (old .state) in
-      let y : is 1 (e .state) + is 0 (e .state) + is 2 (e .state) + is 3 (e .state) ≤ 1 = not-both (e .state) in (
+      let x : is ready (old .state) + is dormant (old .state) + is awaitStart (old .state) + is awaitEnd (old .state) ≤ 1 = not-both (old .state) in
+      let y : is ready (e .state) + is dormant (e .state) + is awaitStart (e .state) + is awaitEnd (e .state) ≤ 1 = not-both (e .state) in (
         busy-names ts j (omega arith),
         omega arith,
         up-put ts p j e j s d 0 s d (record {
           names = busy-names ts j (omega arith);
-          starts = λ k h. omega (arith, w0 (eqb k j) (is 2 (old .state)) (omega arith), w0 (eqb k j) (is 2 (e .state)) (omega arith));
-          ends = λ k h. omega (arith, w1 (eqb k j) (is 3 (old .state)) (omega arith), w0 (eqb k j) (is 3 (e .state)) (omega arith), ap (λ x. one (eqb k x)) g, ap one (not-zero k h));
+          starts = λ k h. omega (arith, w0 (eqb k j) (is awaitStart (old .state)) (omega arith), w0 (eqb k j) (is awaitStart (e .state)) (omega arith));
+          ends = λ k h. omega (arith, w1 (eqb k j) (is awaitEnd (old .state)) (omega arith), w0 (eqb k j) (is awaitEnd (e .state)) (omega arith), ap (λ x. one (eqb k x)) g, ap one (not-zero k h));
           apart = ap (eqb j) g ∙ l .apart j h₀;
           quiet = λ u. absurd (omega arith);
           busy-own = λ _. omega arith;
@@ -98,18 +99,18 @@ module _ (ts : List Task) (p : List Request) (j : ℕ) (e : Task) where
       )
 
   -- the orphan start waiter enters
-  pub wake-starter : (w d : ℕ) → 0 < j → e .«end_waiter» .0 ≡ old .«end_waiter» .0 → is 1 (e .state) ≡ 1 → Up ts p w j d → Names j ts × (is 1 (old .state) + is 0 (old .state) ≡ 0) × Up (putAt ts j e) p w 0 d
+  pub wake-starter : (w d : ℕ) → 0 < j → e .«end_waiter» .0 ≡ old .«end_waiter» .0 → is ready (e .state) ≡ 1 → Up ts p w j d → Names j ts × (is ready (old .state) + is dormant (old .state) ≡ 0) × Up (putAt ts j e) p w 0 d
   wake-starter w d h₀ g r l =
-      let a : startsOf j p + one (eqb j j) ≡ is 2 (old .state) = l .starts j h₀ in
+      let a : startsOf j p + one (eqb j j) ≡ is awaitStart (old .state) = l .starts j h₀ in
       let b : one (eqb j j) ≡ 1 = ap one (eqb-self j) in
-      let x : is 1 (old .state) + is 0 (old .state) + is 2 (old .state) + is 3 (old .state) ≤ 1 = not-both (old .state) in
-      let y : is 1 (e .state) + is 0 (e .state) + is 2 (e .state) + is 3 (e .state) ≤ 1 = not-both (e .state) in (
+      let x : is ready (old .state) + is dormant (old .state) + is awaitStart (old .state) + is awaitEnd (old .state) ≤ 1 = not-both (old .state) in
+      let y : is ready (e .state) + is dormant (e .state) + is awaitStart (e .state) + is awaitEnd (e .state) ≤ 1 = not-both (e .state) in (
         busy-names ts j (omega arith),
         omega arith,
         up-put ts p j e w j d w 0 d (record {
           names = busy-names ts j (omega arith);
-          starts = λ k h. omega (arith, w1 (eqb k j) (is 2 (old .state)) (omega arith), w0 (eqb k j) (is 2 (e .state)) (omega arith), ap one (not-zero k h));
-          ends = λ k h. omega (arith, w0 (eqb k j) (is 3 (old .state)) (omega arith), w0 (eqb k j) (is 3 (e .state)) (omega arith), ap (λ x. one (eqb k x)) g);
+          starts = λ k h. omega (arith, w1 (eqb k j) (is awaitStart (old .state)) (omega arith), w0 (eqb k j) (is awaitStart (e .state)) (omega arith), ap one (not-zero k h));
+          ends = λ k h. omega (arith, w0 (eqb k j) (is awaitEnd (old .state)) (omega arith), w0 (eqb k j) (is awaitEnd (e .state)) (omega arith), ap (λ x. one (eqb k x)) g);
           apart = ap (eqb j) g ∙ l .apart j h₀;
           quiet = λ u. absurd (omega arith);
           busy-own = λ _. omega arith;
@@ -118,18 +119,18 @@ module _ (ts : List Task) (p : List Request) (j : ℕ) (e : Task) where
       )
 
   -- a dormant task begins a run, whose end the orphan w waits for
-  pub begin : (w s : ℕ) → Names j ts → is 0 (old .state) ≡ 1 → is 1 (e .state) ≡ 1 → e .«end_waiter» .0 ≡ w → eqb j w ≡ false → (d : ℕ) → ((k : ℕ) → 0 < k → eqb k j ≡ false → eqb k d ≡ false)
+  pub begin : (w s : ℕ) → Names j ts → is dormant (old .state) ≡ 1 → is ready (e .state) ≡ 1 → e .«end_waiter» .0 ≡ w → eqb j w ≡ false → (d : ℕ) → ((k : ℕ) → 0 < k → eqb k j ≡ false → eqb k d ≡ false)
       → Up ts p w s d → Up (putAt ts j e) p 0 s 0
   begin w s n z r g o d f l =
-      let x : is 1 (old .state) + is 0 (old .state) + is 2 (old .state) + is 3 (old .state) ≤ 1 = not-both (old .state) in
-      let y : is 1 (e .state) + is 0 (e .state) + is 2 (e .state) + is 3 (e .state) ≤ 1 = not-both (e .state) in
+      let x : is ready (old .state) + is dormant (old .state) + is awaitStart (old .state) + is awaitEnd (old .state) ≤ 1 = not-both (old .state) in
+      let y : is ready (e .state) + is dormant (e .state) + is awaitStart (e .state) + is awaitEnd (e .state) ≤ 1 = not-both (e .state) in
       up-put ts p j e w s d 0 s 0 (record {
         names = n;
-        starts = λ k h. omega (arith, w0 (eqb k j) (is 2 (old .state)) (omega arith), w0 (eqb k j) (is 2 (e .state)) (omega arith));
+        starts = λ k h. omega (arith, w0 (eqb k j) (is awaitStart (old .state)) (omega arith), w0 (eqb k j) (is awaitStart (e .state)) (omega arith));
         ends = λ k h. omega (
           arith,
-          w0 (eqb k j) (is 3 (old .state)) (omega arith),
-          w0 (eqb k j) (is 3 (e .state)) (omega arith),
+          w0 (eqb k j) (is awaitEnd (old .state)) (omega arith),
+          w0 (eqb k j) (is awaitEnd (e .state)) (omega arith),
           ap (λ x. one (eqb k x)) g,
           ap (λ x. one (eqb k x)) (l .quiet j z),
           ap one (not-zero k h),
@@ -141,30 +142,30 @@ module _ (ts : List Task) (p : List Request) (j : ℕ) (e : Task) where
       }) l
 
   -- the caller departs to wait for an end, or for a start: an orphan until a link names it
-  pub await-end : (s d : ℕ) → is 1 (old .state) ≡ 1 → is 3 (e .state) ≡ 1 → e .«end_waiter» .0 ≡ old .«end_waiter» .0 → Up ts p 0 s d → Up (putAt ts j e) p j s d
+  pub await-end : (s d : ℕ) → is ready (old .state) ≡ 1 → is awaitEnd (e .state) ≡ 1 → e .«end_waiter» .0 ≡ old .«end_waiter» .0 → Up ts p 0 s d → Up (putAt ts j e) p j s d
   await-end s d r z g l =
-      let x : is 1 (old .state) + is 0 (old .state) + is 2 (old .state) + is 3 (old .state) ≤ 1 = not-both (old .state) in
-      let y : is 1 (e .state) + is 0 (e .state) + is 2 (e .state) + is 3 (e .state) ≤ 1 = not-both (e .state) in
+      let x : is ready (old .state) + is dormant (old .state) + is awaitStart (old .state) + is awaitEnd (old .state) ≤ 1 = not-both (old .state) in
+      let y : is ready (e .state) + is dormant (e .state) + is awaitStart (e .state) + is awaitEnd (e .state) ≤ 1 = not-both (e .state) in
       let n : Names j ts = busy-names ts j (omega arith) in
       up-put ts p j e 0 s d j s d (record {
         names = n;
-        starts = λ k h. omega (arith, w0 (eqb k j) (is 2 (old .state)) (omega arith), w0 (eqb k j) (is 2 (e .state)) (omega arith));
-        ends = λ k h. omega (arith, w0 (eqb k j) (is 3 (old .state)) (omega arith), w1 (eqb k j) (is 3 (e .state)) (omega arith), ap (λ x. one (eqb k x)) g, ap one (not-zero k h));
+        starts = λ k h. omega (arith, w0 (eqb k j) (is awaitStart (old .state)) (omega arith), w0 (eqb k j) (is awaitStart (e .state)) (omega arith));
+        ends = λ k h. omega (arith, w0 (eqb k j) (is awaitEnd (old .state)) (omega arith), w1 (eqb k j) (is awaitEnd (e .state)) (omega arith), ap (λ x. one (eqb k x)) g, ap one (not-zero k h));
         apart = ap (eqb j) g ∙ l .apart j (n .0);
         quiet = λ u. absurd (omega arith);
         busy-own = λ _. omega arith;
         busy-else = λ k h o x. x;
       }) l
 
-  pub await-start : (w d : ℕ) → is 1 (old .state) ≡ 1 → is 2 (e .state) ≡ 1 → e .«end_waiter» .0 ≡ old .«end_waiter» .0 → Up ts p w 0 d → Up (putAt ts j e) p w j d
+  pub await-start : (w d : ℕ) → is ready (old .state) ≡ 1 → is awaitStart (e .state) ≡ 1 → e .«end_waiter» .0 ≡ old .«end_waiter» .0 → Up ts p w 0 d → Up (putAt ts j e) p w j d
   await-start w d r z g l =
-      let x : is 1 (old .state) + is 0 (old .state) + is 2 (old .state) + is 3 (old .state) ≤ 1 = not-both (old .state) in
-      let y : is 1 (e .state) + is 0 (e .state) + is 2 (e .state) + is 3 (e .state) ≤ 1 = not-both (e .state) in
+      let x : is ready (old .state) + is dormant (old .state) + is awaitStart (old .state) + is awaitEnd (old .state) ≤ 1 = not-both (old .state) in
+      let y : is ready (e .state) + is dormant (e .state) + is awaitStart (e .state) + is awaitEnd (e .state) ≤ 1 = not-both (e .state) in
       let n : Names j ts = busy-names ts j (omega arith) in
       up-put ts p j e w 0 d w j d (record {
         names = n;
-        starts = λ k h. omega (arith, w0 (eqb k j) (is 2 (old .state)) (omega arith), w1 (eqb k j) (is 2 (e .state)) (omega arith), ap one (not-zero k h));
-        ends = λ k h. omega (arith, w0 (eqb k j) (is 3 (old .state)) (omega arith), w0 (eqb k j) (is 3 (e .state)) (omega arith), ap (λ x. one (eqb k x)) g);
+        starts = λ k h. omega (arith, w0 (eqb k j) (is awaitStart (old .state)) (omega arith), w1 (eqb k j) (is awaitStart (e .state)) (omega arith), ap one (not-zero k h));
+        ends = λ k h. omega (arith, w0 (eqb k j) (is awaitEnd (old .state)) (omega arith), w0 (eqb k j) (is awaitEnd (e .state)) (omega arith), ap (λ x. one (eqb k x)) g);
         apart = ap (eqb j) g ∙ l .apart j (n .0);
         quiet = λ u. absurd (omega arith);
         busy-own = λ _. omega arith;
@@ -174,7 +175,7 @@ module _ (ts : List Task) (p : List Request) (j : ℕ) (e : Task) where
 -- ---- the pool
 module _ (ts : List Task) (p : List Request) where
   -- a request joins, and names the orphans
-  pub adopt : (r : Request) → 0 < r .target .0 → is 0 (taskAt ts (r .target .0) .state) ≡ 0 → eqb (r .target .0) (r .«start_waiter» .0) ≡ false → eqb (r .target .0) (r .«end_waiter» .0) ≡ false
+  pub adopt : (r : Request) → 0 < r .target .0 → is dormant (taskAt ts (r .target .0) .state) ≡ 0 → eqb (r .target .0) (r .«start_waiter» .0) ≡ false → eqb (r .target .0) (r .«end_waiter» .0) ≡ false
       → pick (eqb (r .«start_waiter» .0) 0) 0 (one (not (eqb (r .«end_waiter» .0) 0))) ≡ 0
       → Up ts p (r .«end_waiter» .0) (r .«start_waiter» .0) 0 → Up ts (p ++ (r ∷ [])) 0 0 0
   adopt r h₀ z a b y l = record {
@@ -188,8 +189,8 @@ module _ (ts : List Task) (p : List Request) where
     quiet = l .quiet;
   }
     where
-      mine : (k : ℕ) → 0 < k → eqb k 0 ≡ false → is 0 (taskAt ts k .state) ≡ 1 → (b : Bool) → eqb k (r .target .0) ≡ b → targetsOf k (p ++ (r ∷ [])) ≡ 0
-      mine k h o x true g = absurd (omega (arith, z, ap (λ x. is 0 (taskAt ts x .state)) (eqb→eq k (r .target .0) (T-of (eqb k (r .target .0)) g))))
+      mine : (k : ℕ) → 0 < k → eqb k 0 ≡ false → is dormant (taskAt ts k .state) ≡ 1 → (b : Bool) → eqb k (r .target .0) ≡ b → targetsOf k (p ++ (r ∷ [])) ≡ 0
+      mine k h o x true g = absurd (omega (arith, z, ap (λ x. is dormant (taskAt ts x .state)) (eqb→eq k (r .target .0) (T-of (eqb k (r .target .0)) g))))
       mine k h o x false g = omega (arith, sum-snoc (λ (r : Request). one (eqb k (r .target .0))) p r, ap one g, l .busy k h o x)
 
   -- nothing is queued for d
@@ -205,7 +206,7 @@ module _ (ts : List Task) (p : List Request) where
     busy = λ k h o x. mine k h x (eqb k d) refl;
   }
     where
-      mine : (k : ℕ) → 0 < k → is 0 (taskAt ts k .state) ≡ 1 → (b : Bool) → eqb k d ≡ b → targetsOf k p ≡ 0
+      mine : (k : ℕ) → 0 < k → is dormant (taskAt ts k .state) ≡ 1 → (b : Bool) → eqb k d ≡ b → targetsOf k p ≡ 0
       mine k h x true g = rw (eqb→eq k d (T-of (eqb k d) g)) z
       mine k h x false g = l .busy k h g x
 

@@ -10,7 +10,8 @@ use Rattle.executive.specs.declared.Task.{Task}
 use Rattle.executive.specs.declared.Request.{Request}
 use Rattle.executive.specs.Queue.{pick, one}
 use Rattle.executive.specs.Table.{Names, taskAt, putAt}
-use Rattle.executive.specs.WellFormed.{is, startsOf, endsOf, runsOf, targetsOf, selfsOf, twiceOf}
+use Rattle.executive.specs.States.{dormant, awaitStart, awaitEnd, is}
+use Rattle.executive.specs.WellFormed.{startsOf, endsOf, runsOf, targetsOf, selfsOf, twiceOf}
 use Rattle.executive.proofs.Formed.{LinksOk}
 use Rattle.executive.proofs.Law.{T-of, not-zero}
 use Rattle.executive.proofs.Moved.{at-same, at-other}
@@ -46,14 +47,14 @@ put-all P ts j e n y k x = go (eqb k j) refl
     go false h = rw (at-other ts j k e h) (x h)
 
 pub record Up (ts : List Task) (p : List Request) (w s d : ℕ) : Type 0 where
-  pub starts : (k : ℕ) → 0 < k → startsOf k p + one (eqb k s) ≡ is 2 (taskAt ts k .state)
-  pub ends : (k : ℕ) → 0 < k → endsOf k p + runsOf k ts + one (eqb k w) ≡ is 3 (taskAt ts k .state)
+  pub starts : (k : ℕ) → 0 < k → startsOf k p + one (eqb k s) ≡ is awaitStart (taskAt ts k .state)
+  pub ends : (k : ℕ) → 0 < k → endsOf k p + runsOf k ts + one (eqb k w) ≡ is awaitEnd (taskAt ts k .state)
   pub others : selfsOf p ≡ 0
   pub apart : (k : ℕ) → 0 < k → eqb k (taskAt ts k .«end_waiter» .0) ≡ false
   pub single : twiceOf p ≡ 0
   pub named : targetsOf 0 p ≡ 0
-  pub busy : (k : ℕ) → 0 < k → eqb k d ≡ false → is 0 (taskAt ts k .state) ≡ 1 → targetsOf k p ≡ 0
-  pub quiet : (k : ℕ) → is 0 (taskAt ts k .state) ≡ 1 → taskAt ts k .«end_waiter» .0 ≡ 0
+  pub busy : (k : ℕ) → 0 < k → eqb k d ≡ false → is dormant (taskAt ts k .state) ≡ 1 → targetsOf k p ≡ 0
+  pub quiet : (k : ℕ) → is dormant (taskAt ts k .state) ≡ 1 → taskAt ts k .«end_waiter» .0 ≡ 0
 
 pub ok-up : {ts : List Task} {p : List Request} → LinksOk ts p → Up ts p 0 0 0
 ok-up l = record {
@@ -82,23 +83,23 @@ up-ok l = record {
 -- ---- one entry is stored: the orphans before and after
 pub record Put (ts : List Task) (j : ℕ) (e : Task) (w s d w′ s′ d′ : ℕ) : Type 0 where
   pub names : Names j ts
-  pub starts : (k : ℕ) → 0 < k → one (eqb k s′) + wt (eqb k j) (is 2 (taskAt ts j .state)) ≡ one (eqb k s) + wt (eqb k j) (is 2 (e .state))
-  pub ends : (k : ℕ) → 0 < k → one (eqb k w′) + one (eqb k (e .«end_waiter» .0)) + wt (eqb k j) (is 3 (taskAt ts j .state))
-      ≡ one (eqb k w) + one (eqb k (taskAt ts j .«end_waiter» .0)) + wt (eqb k j) (is 3 (e .state))
+  pub starts : (k : ℕ) → 0 < k → one (eqb k s′) + wt (eqb k j) (is awaitStart (taskAt ts j .state)) ≡ one (eqb k s) + wt (eqb k j) (is awaitStart (e .state))
+  pub ends : (k : ℕ) → 0 < k → one (eqb k w′) + one (eqb k (e .«end_waiter» .0)) + wt (eqb k j) (is awaitEnd (taskAt ts j .state))
+      ≡ one (eqb k w) + one (eqb k (taskAt ts j .«end_waiter» .0)) + wt (eqb k j) (is awaitEnd (e .state))
   pub apart : eqb j (e .«end_waiter» .0) ≡ false
-  pub quiet : is 0 (e .state) ≡ 1 → e .«end_waiter» .0 ≡ 0
-  pub busy-own : eqb j d′ ≡ false → is 0 (e .state) ≡ 0
+  pub quiet : is dormant (e .state) ≡ 1 → e .«end_waiter» .0 ≡ 0
+  pub busy-own : eqb j d′ ≡ false → is dormant (e .state) ≡ 0
   pub busy-else : (k : ℕ) → 0 < k → eqb k j ≡ false → eqb k d′ ≡ false → eqb k d ≡ false
 
 pub up-put : (ts : List Task) (p : List Request) (j : ℕ) (e : Task) (w s d w′ s′ d′ : ℕ) → Put ts j e w s d w′ s′ d′ → Up ts p w s d → Up (putAt ts j e) p w′ s′ d′
 up-put ts p j e w s d w′ s′ d′ u l = record {
-  starts = λ k h. omega (arith, l .starts k h, u .starts k h, put-add (λ (e : Task). is 2 (e .state)) ts j k e (u .names));
-  ends = λ k h. omega (arith, l .ends k h, u .ends k h, put-add (λ (e : Task). is 3 (e .state)) ts j k e (u .names), sum-put (λ (e : Task). one (eqb k (e .«end_waiter» .0))) ts j e (u .names));
+  starts = λ k h. omega (arith, l .starts k h, u .starts k h, put-add (λ (e : Task). is awaitStart (e .state)) ts j k e (u .names));
+  ends = λ k h. omega (arith, l .ends k h, u .ends k h, put-add (λ (e : Task). is awaitEnd (e .state)) ts j k e (u .names), sum-put (λ (e : Task). one (eqb k (e .«end_waiter» .0))) ts j e (u .names));
   others = l .others;
   apart = λ k. put-all (λ (k : ℕ) (e : Task). 0 < k → eqb k (e .«end_waiter» .0) ≡ false) ts j e (u .names) (λ _. u .apart) k (λ _. l .apart k);
   single = l .single;
   named = l .named;
-  busy = λ k h. put-all (λ (k : ℕ) (e : Task). eqb k d′ ≡ false → is 0 (e .state) ≡ 1 → targetsOf k p ≡ 0) ts j e (u .names)
+  busy = λ k h. put-all (λ (k : ℕ) (e : Task). eqb k d′ ≡ false → is dormant (e .state) ≡ 1 → targetsOf k p ≡ 0) ts j e (u .names)
       (λ g x. absurd (omega (arith, u .busy-own g))) k (λ o g x. l .busy k h (u .busy-else k h o g) x);
-  quiet = λ k. put-all (λ (k : ℕ) (e : Task). is 0 (e .state) ≡ 1 → e .«end_waiter» .0 ≡ 0) ts j e (u .names) (u .quiet) k (λ _. l .quiet k);
+  quiet = λ k. put-all (λ (k : ℕ) (e : Task). is dormant (e .state) ≡ 1 → e .«end_waiter» .0 ≡ 0) ts j e (u .names) (u .quiet) k (λ _. l .quiet k);
 }

@@ -14,7 +14,8 @@ use Rattle.executive.specs.declared.Request.{Request}
 use Rattle.executive.specs.declared.Table.{Table}
 use Rattle.executive.specs.Queue.{one}
 use Rattle.executive.specs.Table.{noTask, requests, taskAt, entryPlace}
-use Rattle.executive.specs.WellFormed.{kindOf, is, startsOf, endsOf, runsOf}
+use Rattle.executive.specs.States.{ready, awaitStart, awaitEnd, isOf, is, isDormant}
+use Rattle.executive.specs.WellFormed.{startsOf, endsOf, runsOf}
 use Rattle.executive.specs.Check.{_and_, upTo, allOf, entryInRange, requestInRange, isBlank, sizesRight, inBounds, numbersRight, standsIn, exactAt, queueRight, alarmRight, taskTimely, timesRight, isStarted, startedRight, taskUnmet, masksRight, targetBusy, busyRight, waitersAt, namesOthers, waitersRight, sleepsRight, dormantRight, poolRight, isWellFormed, entryRight, requestFits, requestRight, isQuiet, isLone, lineRight, inPasses, Tallies}
 use Rattle.executive.proofs.Tasks.{at-place, at-no-place}
 use Rattle.executive.proofs.Tally.{both, all-make}
@@ -54,9 +55,9 @@ at-next ts k = rw add-one refl
 
 -- that a task stands in the queue as often as its state says, by a tally of the line
 unfoldable pub talliedAt : List ℕ → List Task → ℕ → Bool
-talliedAt c ts k = eqb (getD c (k - 1) 0) (is 1 (taskAt ts k .state))
+talliedAt c ts k = eqb (getD c (k - 1) 0) (is ready (taskAt ts k .state))
 
-pub tallied-next : (c : List ℕ) (ts : List Task) (k : ℕ) → eqb (getD c k 0) (is 1 (getD ts k noTask .state)) ≡ talliedAt c ts (k + 1)
+pub tallied-next : (c : List ℕ) (ts : List Task) (k : ℕ) → eqb (getD c k 0) (is ready (getD ts k noTask .state)) ≡ talliedAt c ts (k + 1)
 unfolding talliedAt
 tallied-next c ts k = let z : k + 1 - 1 ≡ k = omega arith in rw (z, at-next ts k) refl
 
@@ -72,7 +73,7 @@ tallied-exact c ts xs n l t = same-up (talliedAt c ts) (exactAt ts xs) n at
     at : (k : ℕ) → 0 < k → k ≤ n → talliedAt c ts k ≡ exactAt ts xs k
     at k a b =
         let z : suc (k - 1) ≡ k = omega arith in
-        ap (λ (m : ℕ). eqb m (is 1 (taskAt ts k .state))) (t .counts (k - 1) (omega arith) ∙ ap (λ (m : ℕ). standsIn m xs) z)
+        ap (λ (m : ℕ). eqb m (is ready (taskAt ts k .state))) (t .counts (k - 1) (omega arith) ∙ ap (λ (m : ℕ). standsIn m xs) z)
 
 -- the rules on a request, with its target's entry read where it lies
 module _ (ts : List Task) (n : ℕ) (r : Request) where
@@ -84,7 +85,7 @@ module _ (ts : List Task) (n : ℕ) (r : Request) where
       go true b f = rw f refl
 
   module _ (l : length ts ≡ 16) (k : ℕ) (e : k ≡ entryPlace (r .target .0)) where
-    pub fits-busy : (b : Bool) → requestFits n r ≡ true → eqb 0 (kindOf (getD ts k noTask .state)) ≡ b → requestRight ts n r ≡ not b
+    pub fits-busy : (b : Bool) → requestFits n r ≡ true → isDormant (getD ts k noTask .state) ≡ b → requestRight ts n r ≡ not b
     fits-busy b f h =
         let a = split (requestInRange n r) _ f in
         rw (a .0, a .1, at-place ts l (r .target .0), ← e, h) refl
@@ -101,15 +102,15 @@ module _ (ts : List Task) (p : List Request) (q : allOf isQuiet ts ≡ true) (l 
   unfolding waitersAt
   quiet-at k h =
       let a = tasks-get isQuiet ts refl q k in
-      let b = split (not (eqb 2 (kindOf (taskAt ts k .state)))) _ a in
-      let d = split (not (eqb 3 (kindOf (taskAt ts k .state)))) _ (b .1) in
-      let x : is 2 (taskAt ts k .state) ≡ 0 = none-one (eqb 2 (kindOf (taskAt ts k .state))) (b .0) in
-      let y : is 3 (taskAt ts k .state) ≡ 0 = none-one (eqb 3 (kindOf (taskAt ts k .state))) (d .0) in
+      let b = split (not (isOf awaitStart (taskAt ts k .state))) _ a in
+      let d = split (not (isOf awaitEnd (taskAt ts k .state))) _ (b .1) in
+      let x : is awaitStart (taskAt ts k .state) ≡ 0 = none-one (isOf awaitStart (taskAt ts k .state)) (b .0) in
+      let y : is awaitEnd (taskAt ts k .state) ≡ 0 = none-one (isOf awaitEnd (taskAt ts k .state)) (d .0) in
       let s : startsOf k p ≡ 0 = sum-none isLone (λ (r : Request). one (eqb k (r .«start_waiter» .0))) (λ r e. none-named k (r .«start_waiter» .0) h (split (eqb (r .«start_waiter» .0) 0) _ e .0)) p l in
       let f : endsOf k p ≡ 0 = sum-none isLone (λ (r : Request). one (eqb k (r .«end_waiter» .0))) (λ r e. none-named k (r .«end_waiter» .0) h (split (eqb (r .«start_waiter» .0) 0) _ e .1)) p l in
-      let g : runsOf k ts ≡ 0 = sum-none isQuiet (λ (e : Task). one (eqb k (e .«end_waiter» .0))) (λ e z. none-named k (e .«end_waiter» .0) h (split (not (eqb 3 (kindOf (e .state)))) _ (split (not (eqb 2 (kindOf (e .state)))) _ z .1) .1)) ts q in
-      paired (eqb (startsOf k p) (is 2 (taskAt ts k .state))) _ (eq-eqb _ _ (s ∙ sym x))
-      (paired (eqb (endsOf k p + runsOf k ts) (is 3 (taskAt ts k .state))) _ (eq-eqb (endsOf k p + runsOf k ts) (is 3 (taskAt ts k .state)) (omega arith))
+      let g : runsOf k ts ≡ 0 = sum-none isQuiet (λ (e : Task). one (eqb k (e .«end_waiter» .0))) (λ e z. none-named k (e .«end_waiter» .0) h (split (not (isOf awaitEnd (e .state))) _ (split (not (isOf awaitStart (e .state))) _ z .1) .1)) ts q in
+      paired (eqb (startsOf k p) (is awaitStart (taskAt ts k .state))) _ (eq-eqb _ _ (s ∙ sym x))
+      (paired (eqb (endsOf k p + runsOf k ts) (is awaitEnd (taskAt ts k .state))) _ (eq-eqb (endsOf k p + runsOf k ts) (is awaitEnd (taskAt ts k .state)) (omega arith))
       (of-not (eqb k (taskAt ts k .«end_waiter» .0)) (ne-eqb k (taskAt ts k .«end_waiter» .0) (λ z. omega (arith, eqb-true (taskAt ts k .«end_waiter» .0) 0 (d .1))))))
 
   pub quiet-right : (n : ℕ) → upTo (waitersAt ts p) n ≡ true

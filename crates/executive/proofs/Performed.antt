@@ -20,7 +20,8 @@ use Rattle.executive.specs.declared.Table.{Table}
 use Rattle.executive.specs.declared.Outcome.{Outcome}
 use Rattle.executive.specs.Queue.{pick}
 use Rattle.executive.specs.Table.{Plan, depart, joins, apply}
-use Rattle.executive.specs.Plans.{stateAt, isDormant, nothing}
+use Rattle.executive.specs.States.{isDormant}
+use Rattle.executive.specs.Plans.{stateAt, nothing}
 use Rattle.executive.specs.WellFormed.{WellFormed}
 use Rattle.executive.specs.Check.{_and_}
 use Rattle.executive.specs.Refusals.{planOf, noSuchTask, nobodyActive, badBody, namesCaller, poolFull, endsTime, overfills, callRefusals, refusals, firstOf, calledBy, callIn}

@@ -1,5 +1,5 @@
 -- Each kind of call has a good plan.
-use mathlib.Core.Path.{_≡_, refl, sym, ap, _∙_}
+use mathlib.Core.Path.{_≡_, refl, ap, _∙_}
 use mathlib.Core.Bool.{Bool, true, false, not}
 use mathlib.Core.List.{List, [], _∷_, _++_}
 use Prim.Native.Nat.{ℕ, _+_, _≤_, _<_, zero-le}
@@ -13,7 +13,7 @@ use Rattle.executive.specs.declared.Millis.{Millis}
 use Rattle.executive.specs.declared.Wait.{Wait}
 use Rattle.executive.specs.declared.Wait.the-variants.{Goes, ForStart, ForEnd}
 use Rattle.executive.specs.declared.State.{State}
-use Rattle.executive.specs.declared.State.the-variants.{Ready, Paused, AwaitStart, AwaitEnd}
+use Rattle.executive.specs.declared.State.the-variants.{Ready, Paused, AwaitStart, AwaitEnd, Dormant}
 use Rattle.executive.specs.declared.Task.{Task}
 use Rattle.executive.specs.declared.Request.{Request}
 use Rattle.executive.specs.declared.Rest.{Rest}
@@ -23,10 +23,11 @@ use Rattle.executive.specs.Plans.{endWaiter, begins, waking, nothing, pa
 use Rattle.executive.specs.Queue.{pick, one}
 use Rattle.executive.specs.Rests.{placeOf, removed, withRequests}
 use Rattle.executive.specs.Table.{Neat, nobody, noRequest, outTasks, line, requests, Names, taskAt, putAt, headOf, Out, stays, leaves, Join, change-at}
+use Rattle.executive.specs.States.{dormant, ready, awaitStart, awaitEnd, is, kindOf}
 use Rattle.executive.specs.Time.{interval, aimAt}
-use Rattle.executive.specs.WellFormed.{is, steepOf, Line}
+use Rattle.executive.specs.WellFormed.{steepOf, Line}
 use Rattle.executive.proofs.Formed.{Calm, Own, AllOwn, LinksOk, Rested, Formed, within, busy-own}
-use Rattle.executive.proofs.Law.{not-zero, one-ge}
+use Rattle.executive.proofs.Law.{not-zero, one-ge, clash}
 use Rattle.executive.proofs.Pad.{line-pad}
 use Rattle.executive.proofs.Fits.{line-length, requests-length, removed-neat, queued-neat}
 use Rattle.executive.proofs.Interval.{interval-most, interval-some, aim-most}
@@ -36,6 +37,7 @@ use Rattle.executive.proofs.QueueKept.{not-both, busy-names, head-is}
 use Rattle.executive.proofs.LinksKept.{put-all, Up, ok-up, up-ok}
 use Rattle.executive.proofs.Links.{alike, retire, release, wake-ender, wake-starter, begin, await-end, await-start, adopt, settle, take, removed-sum, place-target, place-none}
 use Rattle.executive.proofs.Kept.{puts, outReady, JoinsAll, Good}
+use Rattle.executive.proofs.Named.{counted}
 
 -- the entry of task k is in order, beside the rest r
 abbrev pub OwnOf : Rest → ℕ → Task → Type 0
@@ -45,11 +47,11 @@ pub own-put : (r : Rest) (ts : List Task) (j : ℕ) (e : Task) → Names j ts �
 own-put r ts j e n h a k = put-all (OwnOf r) ts j e n h k (λ _. a k)
 
 -- a busy task's entry in another state that is busy
-pub state-own : {c fs n k : ℕ} {e : Task} (s : State) → Calm c fs s → is 0 s ≡ 0 → is 0 (e .state) ≡ 0 → Own c fs n k e → Own c fs n k (withState s e)
+pub state-own : {c fs n k : ℕ} {e : Task} (s : State) → Calm c fs s → is dormant s ≡ 0 → is dormant (e .state) ≡ 0 → Own c fs n k e → Own c fs n k (withState s e)
 state-own s m z b o = busy-own m (o .started) (o .level) (o .home) z (within o b)
 
-pub ready-own : {c fs n k : ℕ} {e : Task} → is 0 (e .state) ≡ 0 → Own c fs n k e → Own c fs n k (withState Ready e)
-ready-own b o = state-own Ready (tt, tt) refl b o
+pub ready-own : {c fs n k : ℕ} {e : Task} → is dormant (e .state) ≡ 0 → Own c fs n k e → Own c fs n k (withState Ready e)
+ready-own b o = state-own Ready (clash, clash) refl b o
 
 pub nothing-good : (t : Table) → Formed t → Good (nothing t) t
 unfolding puts
@@ -57,43 +59,51 @@ nothing-good t w = record { leaving = refl; joining = tt; linked = w .links; own
 
 -- what is known of the caller
 pub record Runs (ts : List Task) (c : ℕ) : Type 0 where
-  pub is-ready : is 1 (taskAt ts c .state) ≡ 1
-  pub is-busy : is 0 (taskAt ts c .state) ≡ 0
-  pub no-start : is 2 (taskAt ts c .state) ≡ 0
-  pub no-end : is 3 (taskAt ts c .state) ≡ 0
+  pub is-ready : is ready (taskAt ts c .state) ≡ 1
+  pub is-busy : is dormant (taskAt ts c .state) ≡ 0
+  pub no-start : is awaitStart (taskAt ts c .state) ≡ 0
+  pub no-end : is awaitEnd (taskAt ts c .state) ≡ 0
   pub names : Names c ts
 
-caller : (ts : List Task) (r : List TaskNo) → Line 1 ts r → 0 < length r → is 1 (taskAt ts (headOf r .0) .state) ≡ 1
+caller : (ts : List Task) (r : List TaskNo) → Line ready ts r → 0 < length r → is ready (taskAt ts (headOf r .0) .state) ≡ 1
 caller ts [] q h = absurd (omega arith)
-caller ts (c ∷ r) q h = head-is 1 ts c r (omega arith) q .is-of
+caller ts (c ∷ r) q h = head-is ready ts c r (omega arith) q .is-of
 
 pub runs : (t : Table) → Formed t → 0 < t .ready → Runs (t .tasks) (headOf (line t) .0)
 runs t w h =
-    let r : is 1 (taskAt (t .tasks) (headOf (line t) .0) .state) ≡ 1 = caller (t .tasks) (line t) (w .queue) (omega (arith, line-length t (w .fit))) in
+    let r : is ready (taskAt (t .tasks) (headOf (line t) .0) .state) ≡ 1 = caller (t .tasks) (line t) (w .queue) (omega (arith, line-length t (w .fit))) in
     let x = not-both (taskAt (t .tasks) (headOf (line t) .0) .state) in
     record { is-ready = r; is-busy = omega arith; no-start = omega arith; no-end = omega arith; names = busy-names (t .tasks) (headOf (line t) .0) (omega arith) }
 
+-- the caller departs to wait for a time or for flags: no link names it
+pub waits-good : (t : Table) → Formed t → 0 < t .ready → (s : State) → Calm (t .rest .clock .0) (t .rest .flags) s → counted (kindOf s) ≡ 0
+    → Good (record { out = leaves (withState s); ins = []; rest = t .rest }) t
+unfolding puts
+waits-good t w h s m z =
+    let c : ℕ = headOf (line t) .0 in
+    let r : Runs (t .tasks) c = runs t w h in
+    let e : Task = withState s (taskAt (t .tasks) c) in
+    let d : is dormant s ≡ 0 = omega arith in
+    record {
+      leaving = omega arith;
+      joining = tt;
+      linked = up-ok (alike (t .tasks) (requests (t .rest)) c e 0 0 0 (r .names) refl (omega (arith, r .no-start)) (omega (arith, r .no-end)) d (r .is-busy) (ok-up (w .links)));
+      own = own-put (t .rest) (t .tasks) c e (r .names) (state-own s m d (r .is-busy) (w .own c)) (w .own);
+      rested = w .rested;
+    }
+
 -- ---- 02
 pub pause-good : (t : Table) (u n : ℕ) → Formed t → 0 < t .ready → u ≤ lastUnit → n < 256 → Good (pausePlan t u n) t
-unfolding puts pausePlan
+unfolding pausePlan
 pause-good t u n w h hu hn = go (eqb n 0) refl
   where
     go : (b : Bool) → eqb n 0 ≡ b
         → Good (pick b (nothing t) (record { out = leaves (withState (Paused (record { 0 = t .rest .clock .0 + interval u n .0 }))); ins = []; rest = t .rest })) t
     go true z = nothing-good t w
     go false z =
-        let c : ℕ = headOf (line t) .0 in
-        let r : Runs (t .tasks) c = runs t w h in
-        let e : Task = withState (Paused (record { 0 = t .rest .clock .0 + interval u n .0 })) (taskAt (t .tasks) c) in
         let m : interval u n .0 ≤ longest = interval-most u n hn in
         let s : 0 < interval u n .0 = interval-some u n hu (omega (arith, eqb-false n 0 z)) in
-        record {
-          leaving = refl;
-          joining = tt;
-          linked = up-ok (alike (t .tasks) (requests (t .rest)) c e 0 0 0 (r .names) refl (sym (r .no-start)) (sym (r .no-end)) refl (r .is-busy) (ok-up (w .links)));
-          own = own-put (t .rest) (t .tasks) c e (r .names) (state-own (Paused (record { 0 = t .rest .clock .0 + interval u n .0 })) ((omega arith, omega arith), tt) refl (r .is-busy) (w .own c)) (w .own);
-          rested = w .rested;
-        }
+        waits-good t w h (Paused (record { 0 = t .rest .clock .0 + interval u n .0 })) (λ _. (omega arith, omega arith), clash) refl
 
 -- ---- 00
 -- those named enter, one after the other; P is what is to hold of each entry
@@ -102,7 +112,7 @@ pub record Woken (P : ℕ → Task → Type 0) (js : List Join) (ts : List Task)
   pub linked : Up (puts js ts) p w s d
   pub own : (k : ℕ) → P k (taskAt (puts js ts) k)
 
-module _ (P : ℕ → Task → Type 0) (readied : (k : ℕ) (e : Task) → is 0 (e .state) ≡ 0 → P k e → P k (withState Ready e)) where
+module _ (P : ℕ → Task → Type 0) (readied : (k : ℕ) (e : Task) → is dormant (e .state) ≡ 0 → P k e → P k (withState Ready e)) where
   ender-in : (ts : List Task) (p : List Request) (w : TaskNo) (s d : ℕ) → Up ts p (w .0) s d → ((k : ℕ) → P k (taskAt ts k)) → Woken P (waking w) ts p 0 s d
   unfolding puts waking
   ender-in ts p w s d l a = go (eqb (w .0) 0) refl
@@ -195,7 +205,7 @@ module _ (t : Table) (w : Formed t) (h : 0 < t .ready) where
 
   asleep-own : AllOwn (t .rest) ts₁
   asleep-own = own-put (t .rest) (t .tasks) (c .0) (sleeping e) (runs t w h .names) (record {
-    calm = (tt, tt);
+    calm = (clash, clash);
     started = zero-le;
     level = zero-le;
     home = w .own (c .0) .home;
@@ -233,7 +243,7 @@ module _ (t : Table) (w : Formed t) (h : 0 < t .ready) where
       let z : one (ltb 15 (q .priority)) + steepOf (removed i rs) ≡ steepOf rs = rw eq at (removed-sum i rs (λ (r : Request). one (ltb 15 (r .priority))) m) in
       let lv : q .priority ≤ 15 = ltb-false 15 (q .priority) (one-none (ltb 15 (q .priority)) (omega (arith, w .rested .levels))) in
       let v : Woken Q (waking (q .«start_waiter»)) ts₃ (removed i rs) 0 0 0 =
-      starter-in Q (λ k e. ready-own) ts₃ (removed i rs) 0 (q .«start_waiter») 0 b (own-put (t .rest) ts₂ (c .0) e₃ n₂ (busy-own (tt, tt) (omega arith) lv (x .own (c .0) .home) refl inside) (x .own)) in
+      starter-in Q (λ k e. ready-own) ts₃ (removed i rs) 0 (q .«start_waiter») 0 b (own-put (t .rest) ts₂ (c .0) e₃ n₂ (busy-own (clash, clash) (omega arith) lv (x .own (c .0) .home) refl inside) (x .own)) in
       let js : List Join = begins c q (t .rest .clock) ∷ waking (q .«start_waiter») in
       let u = puts-append (waking (endWaiter t c)) js ts₁ in
       record {
@@ -302,7 +312,7 @@ module _ (t : Table) (w : Formed t) (h : 0 < t .ready) where
           leaving = refl;
           joining = joins-append (waking (endWaiter t c)) [] ts₄ (freed .joining) tt;
           linked = rw u (up-ok (freed .linked));
-          own = rw u (and-caller (busy-own ((z, far), tt) (w .own (c .0) .started) (w .own (c .0) .level) (w .own (c .0) .home) refl inside));
+          own = rw u (and-caller (busy-own (λ _. (z, far), clash) (w .own (c .0) .started) (w .own (c .0) .level) (w .own (c .0) .home) refl inside));
           rested = w .rested;
         }
 
@@ -312,7 +322,7 @@ module _ (t : Table) (w : Formed t) (h : 0 < t .ready) where
     now-good z =
         let u = puts-append (waking (endWaiter t c)) (raising c ∷ []) ts₄ in
         let v : Task = risen (taskAt ts₅ (c .0)) in
-        let o : OwnOf (t .rest) (c .0) (risen e₁) = busy-own (tt, tt) z (w .own (c .0) .level) (w .own (c .0) .home) refl inside in
+        let o : OwnOf (t .rest) (c .0) (risen e₁) = busy-own (clash, clash) z (w .own (c .0) .level) (w .own (c .0) .home) refl inside in
         record {
           leaving = refl;
           joining = joins-append (waking (endWaiter t c)) (raising c ∷ []) ts₄ (freed .joining) (record { names = there; before = rw still refl; after = refl }, tt);
@@ -339,7 +349,7 @@ module _ (t : Table) (w : Formed t) (h : 0 < t .ready) where
   MayWait ForEnd k = eqb k (c .0) ≡ false
 
   -- the caller departs to wait: its entry, in order
-  pub waits-own : (s : State) → Calm now fs s → is 0 s ≡ 0 → AllOwn (t .rest) (putAt (t .tasks) (c .0) (withState s e))
+  pub waits-own : (s : State) → Calm now fs s → is dormant s ≡ 0 → AllOwn (t .rest) (putAt (t .tasks) (c .0) (withState s e))
   waits-own s m z = own-put (t .rest) (t .tasks) (c .0) (withState s e) (runs t w h .names) (state-own s m z (runs t w h .is-busy) (w .own (c .0))) (w .own)
 
   module _ (k : TaskNo) (p a : ℕ) (lv : p ≤ 15) where
@@ -351,7 +361,7 @@ module _ (t : Table) (w : Formed t) (h : 0 < t .ready) where
     steep-more : (q : Request) → q .priority ≡ p → steepOf (rs ++ (q ∷ [])) ≡ 0
     steep-more q g = omega (arith, sum-snoc (λ (r : Request). one (ltb 15 (r .priority))) rs q, w .rested .levels, ap (λ (n : ℕ). one (ltb 15 n)) g, one-ge 15 p lv)
 
-    module _ (hk : 0 < k .0) (busy : is 0 (taskAt (t .tasks) (k .0) .state) ≡ 0) (room : t .rest .queued < 32) where
+    module _ (hk : 0 < k .0) (busy : is dormant (taskAt (t .tasks) (k .0) .state) ≡ 0) (room : t .rest .queued < 32) where
       queued : (wt : Wait) → (o : Out) (ts : List Task) → outOf wt ≡ o → outTasks o (t .tasks) (c .0) ≡ ts → outReady o e ≡ 0
           → LinksOk ts (rs ++ (asks c wt k p a ∷ [])) → AllOwn (t .rest) ts → Good (queuePlan t (asks c wt k p a) wt) t
       unfolding queuePlan puts
@@ -373,15 +383,15 @@ module _ (t : Table) (w : Formed t) (h : 0 < t .ready) where
           let v : Task = withState AwaitStart e in
           queued ForStart (leaves (withState AwaitStart)) (putAt (t .tasks) (c .0) v) refl refl refl
           (up-ok (adopt (putAt (t .tasks) (c .0) v) rs (asks c ForStart k p a) hk (rw (at-other (t .tasks) (c .0) (k .0) v x) busy) x (not-zero (k .0) hk) (sole (eqb (c .0) 0))
-          (await-start (t .tasks) rs (c .0) v 0 0 (runs t w h .is-ready) refl refl (ok-up (w .links))))) (waits-own AwaitStart (tt, tt) refl)
+          (await-start (t .tasks) rs (c .0) v 0 0 (runs t w h .is-ready) refl refl (ok-up (w .links))))) (waits-own AwaitStart (clash, clash) refl)
       queue-good ForEnd x =
           let v : Task = withState AwaitEnd e in
           queued ForEnd (leaves (withState AwaitEnd)) (putAt (t .tasks) (c .0) v) refl refl refl
           (up-ok (adopt (putAt (t .tasks) (c .0) v) rs (asks c ForEnd k p a) hk (rw (at-other (t .tasks) (c .0) (k .0) v x) busy) (not-zero (k .0) hk) x refl
-          (await-end (t .tasks) rs (c .0) v 0 0 (runs t w h .is-ready) refl refl (ok-up (w .links))))) (waits-own AwaitEnd (tt, tt) refl)
+          (await-end (t .tasks) rs (c .0) v 0 0 (runs t w h .is-ready) refl refl (ok-up (w .links))))) (waits-own AwaitEnd (clash, clash) refl)
 
-    module _ (n : Names (k .0) (t .tasks)) (few : k .0 ≤ t .rest .count) (idle : is 0 (taskAt (t .tasks) (k .0) .state) ≡ 1) where
-      fresh : is 1 (taskAt (t .tasks) (k .0) .state) ≡ 0
+    module _ (n : Names (k .0) (t .tasks)) (few : k .0 ≤ t .rest .count) (idle : is dormant (taskAt (t .tasks) (k .0) .state) ≡ 1) where
+      fresh : is ready (taskAt (t .tasks) (k .0) .state) ≡ 0
       fresh = omega (arith, not-both (taskAt (t .tasks) (k .0) .state))
 
       alone : (q : Request) → q .target ≡ k → q .priority ≡ p → q .«end_waiter» ≡ nobody → Good (record { out = stays; ins = begins (q .target) q (t .rest .clock) ∷ []; rest = t .rest }) t
@@ -392,7 +402,7 @@ module _ (t : Table) (w : Formed t) (h : 0 < t .ready) where
             leaving = refl;
             joining = rw ek (record { names = n; before = fresh; after = refl }, tt);
             linked = rw ek (up-ok (begin (t .tasks) rs (k .0) v 0 0 n idle refl (ap (λ (x : TaskNo). x .0) ee) (not-zero (k .0) (n .0)) 0 (λ k h _. not-zero k h) (ok-up (w .links))));
-            own = rw ek (own-put (t .rest) (t .tasks) (k .0) v n (busy-own (tt, tt) (omega arith) (omega (arith, ep)) (w .own (k .0) .home) refl few) (w .own));
+            own = rw ek (own-put (t .rest) (t .tasks) (k .0) v n (busy-own (clash, clash) (omega arith) (omega (arith, ep)) (w .own (k .0) .home) refl few) (w .own));
             rested = w .rested;
           }
 
@@ -411,6 +421,6 @@ module _ (t : Table) (w : Formed t) (h : 0 < t .ready) where
             leaving = refl;
             joining = (record { names = m; before = rw y fresh; after = refl }, tt);
             linked = up-ok (begin ts rs (k .0) b (c .0) 0 m (rw y idle) refl refl x 0 (λ k h _. not-zero k h) (await-end (t .tasks) rs (c .0) v 0 0 (runs t w h .is-ready) refl refl (ok-up (w .links))));
-            own = own-put (t .rest) ts (k .0) b m (busy-own (tt, tt) (omega arith) lv (rw y (w .own (k .0) .home)) refl few) (waits-own AwaitEnd (tt, tt) refl);
+            own = own-put (t .rest) ts (k .0) b m (busy-own (clash, clash) (omega arith) lv (rw y (w .own (k .0) .home)) refl few) (waits-own AwaitEnd (clash, clash) refl);
             rested = w .rested;
           }

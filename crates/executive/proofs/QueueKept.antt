@@ -13,13 +13,15 @@ use Rattle.executive.specs.declared.Task.{Task}
 use Rattle.executive.specs.declared.Table.{Table}
 use Rattle.executive.specs.Queue.{pick, one, count}
 use Rattle.executive.specs.Table.{Names, noTask, line, taskAt, putAt, items, enterAt, Join, entered, join}
-use Rattle.executive.specs.WellFormed.{kindOf, is, Line}
+use Rattle.executive.specs.States.{dormant, ready, awaitStart, awaitEnd, kindOf, is, isDormant}
+use Rattle.executive.specs.WellFormed.{Line}
 use Rattle.executive.proofs.Law.{Le, le-yes, le-no, leb-is, T-of, eqb-self, insert-count, insert-desc}
 use Rattle.executive.proofs.Moved.{items-put, enter-items, join-line}
 use Rattle.executive.proofs.Sums.{put-at}
+use Rattle.executive.proofs.Named.{counted}
 
 -- a task that is busy is one of the list
-pub busy-names : (ts : List Task) (k : ℕ) → is 0 (taskAt ts k .state) ≡ 0 → Names k ts
+pub busy-names : (ts : List Task) (k : ℕ) → is dormant (taskAt ts k .state) ≡ 0 → Names k ts
 unfolding taskAt
 busy-names ts zero h = absurd (omega arith)
 busy-names ts (suc i) h = (omega arith, go (leb (suc i) (length ts)) (leb-is (suc i) (length ts)))
@@ -29,26 +31,26 @@ busy-names ts (suc i) h = (omega arith, go (leb (suc i) (length ts)) (leb-is (su
     go false (le-no g) = absurd (omega (arith, rw (List·getD-eq-default ts noTask {n = i} (omega arith)) at h))
 
 -- a state is of one kind
-kinds : (x : ℕ) → one (eqb 1 x) + one (eqb 0 x) + one (eqb 2 x) + one (eqb 3 x) ≤ 1
-kinds x = go (eqb 1 x) (eqb 0 x) (eqb 2 x) (eqb 3 x) refl refl refl refl
+kinds : (x : ℕ) → counted x ≤ 1
+kinds x = go (eqb ready x) (eqb dormant x) (eqb awaitStart x) (eqb awaitEnd x) refl refl refl refl
   where
     eq : (n : ℕ) → eqb n x ≡ true → n ≡ x
     eq n e = eqb→eq n x (T-of (eqb n x) e)
 
-    go : (a b c d : Bool) → eqb 1 x ≡ a → eqb 0 x ≡ b → eqb 2 x ≡ c → eqb 3 x ≡ d → one a + one b + one c + one d ≤ 1
+    go : (a b c d : Bool) → eqb ready x ≡ a → eqb dormant x ≡ b → eqb awaitStart x ≡ c → eqb awaitEnd x ≡ d → one a + one b + one c + one d ≤ 1
     go false false false false p q r s = lit≤ tt
     go true false false false p q r s = lit≤ tt
     go false true false false p q r s = lit≤ tt
     go false false true false p q r s = lit≤ tt
     go false false false true p q r s = lit≤ tt
-    go true true c d p q r s = absurd (omega (arith, eq 1 p, eq 0 q))
-    go true false true d p q r s = absurd (omega (arith, eq 1 p, eq 2 r))
-    go true false false true p q r s = absurd (omega (arith, eq 1 p, eq 3 s))
-    go false true true d p q r s = absurd (omega (arith, eq 0 q, eq 2 r))
-    go false true false true p q r s = absurd (omega (arith, eq 0 q, eq 3 s))
-    go false false true true p q r s = absurd (omega (arith, eq 2 r, eq 3 s))
+    go true true c d p q r s = absurd (omega (arith, eq ready p, eq dormant q))
+    go true false true d p q r s = absurd (omega (arith, eq ready p, eq awaitStart r))
+    go true false false true p q r s = absurd (omega (arith, eq ready p, eq awaitEnd s))
+    go false true true d p q r s = absurd (omega (arith, eq dormant q, eq awaitStart r))
+    go false true false true p q r s = absurd (omega (arith, eq dormant q, eq awaitEnd s))
+    go false false true true p q r s = absurd (omega (arith, eq awaitStart r, eq awaitEnd s))
 
-pub not-both : (s : State) → is 1 s + is 0 s + is 2 s + is 3 s ≤ 1
+pub not-both : (s : State) → counted (kindOf s) ≤ 1
 not-both s = kinds (kindOf s)
 
 pub is-le : (n : ℕ) (s : State) → is n s ≤ 1
@@ -99,12 +101,12 @@ head-is n ts c r z q =
     let e : one (eqb (c .0) (c .0)) + count (c .0) (items ts r) ≡ is n (taskAt ts (c .0) .state) = q .exact (c .0) in
     let e′ : 1 + count (c .0) (items ts r) ≡ is n (taskAt ts (c .0) .state) = rw (eqb-self (c .0)) at e in
     let a : is n (taskAt ts (c .0) .state) ≤ 1 = is-le n (taskAt ts (c .0) .state) in
-    record { is-of = omega arith; names = busy-names ts (c .0) (busy (eqb n (kindOf (taskAt ts (c .0) .state))) refl (eqb 0 (kindOf (taskAt ts (c .0) .state))) refl (omega arith)); alone = omega arith }
+    record { is-of = omega arith; names = busy-names ts (c .0) (busy (eqb n (kindOf (taskAt ts (c .0) .state))) refl (isDormant (taskAt ts (c .0) .state)) refl (omega arith)); alone = omega arith }
   where
-    busy : (a : Bool) → eqb n (kindOf (taskAt ts (c .0) .state)) ≡ a → (b : Bool) → eqb 0 (kindOf (taskAt ts (c .0) .state)) ≡ b → 0 < one a → one b ≡ 0
+    busy : (a : Bool) → eqb n (kindOf (taskAt ts (c .0) .state)) ≡ a → (b : Bool) → isDormant (taskAt ts (c .0) .state) ≡ b → 0 < one a → one b ≡ 0
     busy a f false g h = refl
     busy false f true g h = absurd (omega arith)
-    busy true f true g h = absurd (z (eqb→eq n _ (T-of _ f) ∙ sym (eqb→eq 0 _ (T-of _ g))))
+    busy true f true g h = absurd (z (eqb→eq n _ (T-of _ f) ∙ sym (eqb→eq dormant _ (T-of _ g))))
 
 pub line-out : (n : ℕ) (ts : List Task) (c : TaskNo) (e : Task) (r : List TaskNo) → n ≢ 0 → Line n ts (c ∷ r) → is n (e .state) ≡ 0 → Line n (putAt ts (c .0) e) r
 unfolding items count
@@ -124,9 +126,9 @@ line-out n ts c e r nz q z =
 -- ---- the ready queue
 pub record Joins (j : Join) (ts : List Task) : Type 0 where
   pub names : Names (j .who .0) ts
-  pub before : is 1 (taskAt ts (j .who .0) .state) ≡ 0
-  pub after : is 1 (j .change (taskAt ts (j .who .0)) .state) ≡ 1
+  pub before : is ready (taskAt ts (j .who .0) .state) ≡ 0
+  pub after : is ready (j .change (taskAt ts (j .who .0)) .state) ≡ 1
 
-pub join-kept : (j : Join) (t : Table) → Line 1 (t .tasks) (line t) → Joins j (t .tasks) → Line 1 (join j t .tasks) (line (join j t))
+pub join-kept : (j : Join) (t : Table) → Line ready (t .tasks) (line t) → Joins j (t .tasks) → Line ready (join j t .tasks) (line (join j t))
 unfolding join entered
-join-kept j t q h = rw (join-line j t) (line-in 1 (t .tasks) (j .who) (j .change (taskAt (t .tasks) (j .who .0))) (line t) q (h .names) (h .before) (h .after))
+join-kept j t q h = rw (join-line j t) (line-in ready (t .tasks) (j .who) (j .change (taskAt (t .tasks) (j .who .0))) (line t) q (h .names) (h .before) (h .after))

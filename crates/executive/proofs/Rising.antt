@@ -8,26 +8,28 @@ use lib.Dec.{leb, eqb, eqb→eq}
 use lib.ListN.{getD}
 use Rattle.executive.specs.declared.Millis.{Millis}
 use Rattle.executive.specs.declared.State.{State}
+use Rattle.executive.specs.declared.State.the-variants.{Ready}
 use Rattle.executive.specs.declared.Task.{Task}
 use Rattle.executive.specs.declared.Request.{Request}
 use Rattle.executive.specs.Entries.{aimed, risen}
 use Rattle.executive.specs.Plans.{rises, risers}
 use Rattle.executive.specs.Queue.{pick}
 use Rattle.executive.specs.Table.{Names, noTask, taskAt, Join}
-use Rattle.executive.specs.WellFormed.{is}
+use Rattle.executive.specs.States.{dormant, ready, awaitStart, awaitEnd, is, kindOf}
 use Rattle.executive.proofs.Formed.{Calm, Own, blank-own, within, busy-own}
-use Rattle.executive.proofs.Law.{T-of, Le, le-yes, le-no, leb-is}
+use Rattle.executive.proofs.Law.{clash, T-of, Le, le-yes, le-no, leb-is}
 use Rattle.executive.proofs.Moved.{at-same, at-other, eqb-no}
 use Rattle.executive.proofs.QueueKept.{busy-names}
 use Rattle.executive.proofs.LinksKept.{Up}
 use Rattle.executive.proofs.Links.{alike}
 use Rattle.executive.proofs.Kept.{puts, JoinsAll}
 use Rattle.executive.proofs.Plans.{joins-append, puts-append}
+use Rattle.executive.proofs.Named.{counted}
 
 -- from the clock a and the flags fa to the clock c and the flags fs, the test f tells who waits no longer
 pub record Tells (f : State → Bool) (a fa c fs : ℕ) : Type 0 where
   pub onward : a ≤ c
-  pub waits : (s : State) → f s ≡ true → is 1 s + is 0 s + is 2 s + is 3 s ≡ 0
+  pub waits : (s : State) → f s ≡ true → counted (kindOf s) ≡ 0
   pub aims : (s : State) (at : Millis) → f s ≡ true → at .0 ≤ a → aimed s at .0 ≤ c
   pub calms : (s : State) → f s ≡ false → Calm a fa s → Calm c fs s
 
@@ -64,11 +66,11 @@ module _ (f : State → Bool) (p : List Request) (a fa c fs n : ℕ) (tells : Te
     where
       go : (b : Bool) → f (e .state) ≡ b → One (pick b (record { who = record { 0 = k }; change = risen } ∷ []) []) ts p c fs n k
       go true g =
-          let z : is 1 (e .state) + is 0 (e .state) + is 2 (e .state) + is 3 (e .state) ≡ 0 = tells .waits (e .state) g in
-          let z′ : is 1 (taskAt ts k .state) + is 0 (taskAt ts k .state) + is 2 (taskAt ts k .state) + is 3 (taskAt ts k .state) ≡ 0 = rw x z in
+          let z : is ready (e .state) + is dormant (e .state) + is awaitStart (e .state) + is awaitEnd (e .state) ≡ 0 = tells .waits (e .state) g in
+          let z′ : is ready (taskAt ts k .state) + is dormant (taskAt ts k .state) + is awaitStart (taskAt ts k .state) + is awaitEnd (taskAt ts k .state) ≡ 0 = rw x z in
           let m : Names k ts = busy-names ts k (omega arith) in
           let v : Task = risen (taskAt ts k) in
-          let o : Own c fs n k (risen e) = busy-own (tt, tt) (tells .aims (e .state) (e .start) g (y .started)) (y .level) (y .home) refl (within y (omega arith)) in
+          let o : Own c fs n k (risen e) = busy-own (clash, clash) (tells .aims (e .state) (e .start) g (y .started)) (y .level) (y .home) refl (within y (omega arith)) in
           record {
             joining = (record { names = m; before = omega arith; after = refl }, tt);
             linked = alike ts p k v 0 0 0 m refl (omega arith) (omega arith) refl (omega arith) l;

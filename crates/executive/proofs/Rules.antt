@@ -10,16 +10,17 @@ use lib.ListN.{length, drop, getD}
 use Rattle.records.specs.declared.TaskNo.{TaskNo}
 use Rattle.executive.specs.declared.Millis.{Millis}
 use Rattle.executive.specs.declared.State.{State}
-use Rattle.executive.specs.declared.State.the-variants.{Dormant, Ready, Paused, Due, Flags, AwaitStart, AwaitEnd}
+use Rattle.executive.specs.declared.State.the-variants.{Dormant}
 use Rattle.executive.specs.declared.Task.{Task}
 use Rattle.executive.specs.declared.Request.{Request}
 use Rattle.executive.specs.declared.Table.{Table}
 use Rattle.executive.specs.Numbers.{mostTasks, mostQueued, highest, mostGranule, endOfTime, longest}
 use Rattle.executive.specs.Queue.{pick, one, count}
 use Rattle.executive.specs.Table.{nobody, never, noTask, noRequest, pad, line, requests, taskAt, items}
+use Rattle.executive.specs.States.{dormant, ready, awaitStart, awaitEnd, is, isDormant, timeOf, maskOf, hasTime, hasMask, waitMode}
 use Rattle.executive.specs.Plans.{met}
-use Rattle.executive.specs.WellFormed.{InRange, Queue, Stored, Timely, Times, Unmet, Waiters, Zeros, sumOf, kindOf, is, startsOf, endsOf, runsOf, idleOf}
-use Rattle.executive.specs.Check.{upTo, allOf, entryInRange, requestInRange, isBlank, sizesRight, inBounds, numbersRight, isTask, isNobody, falls, standsIn, exactAt, queueRight, isStored, isTimely, alarmRight, taskTimely, timesRight, isStarted, startedRight, isUnmet, taskUnmet, masksRight, targetBusy, busyRight, waitersAt, namesOthers, waitersRight, isZero, sleepsRight, dormantRight, isFree, poolRight}
+use Rattle.executive.specs.WellFormed.{InRange, Queue, Stored, Timely, Times, Unmet, Waiters, Zeros, sumOf, startsOf, endsOf, runsOf, idleOf}
+use Rattle.executive.specs.Check.{_and_, upTo, allOf, entryInRange, requestInRange, isBlank, sizesRight, inBounds, numbersRight, isTask, isNobody, falls, standsIn, exactAt, queueRight, isStored, isTimely, alarmRight, taskTimely, timesRight, isStarted, startedRight, isUnmet, taskUnmet, masksRight, targetBusy, busyRight, waitersAt, namesOthers, waitersRight, isZero, sleepsRight, dormantRight, isFree, poolRight}
 use Rattle.executive.proofs.Named.{dormant-named, dormant-kind}
 use Rattle.executive.proofs.Tasks.{at-none}
 use Rattle.executive.proofs.Tally.{all-get, all-make, every-get, every-make}
@@ -177,13 +178,13 @@ place n (suc i) = go (leb (suc i) n) refl
 
 module _ (t : Table) (w : InRange t) where
   -- a ready task's number is a task's
-  ready-no : (x : TaskNo) → 0 < is 1 (taskAt (t .tasks) (x .0) .state) → isTask (t .rest .count) x ≡ true
+  ready-no : (x : TaskNo) → 0 < is ready (taskAt (t .tasks) (x .0) .state) → isTask (t .rest .count) x ≡ true
   ready-no x h = go (place (t .rest .count) (x .0))
     where
       go : Place (t .rest .count) (x .0) → isTask (t .rest .count) x ≡ true
-      go (nought e) = absurd (let y : is 1 (taskAt (t .tasks) (x .0) .state) ≡ 0 = rw (at-none (t .tasks) (x .0) e) refl in omega arith)
+      go (nought e) = absurd (let y : is ready (taskAt (t .tasks) (x .0) .state) ≡ 0 = rw (at-none (t .tasks) (x .0) e) refl in omega arith)
       go (among a b) = paired (ltb 0 (x .0)) _ (lt-ltb 0 (x .0) a) (le-leb _ _ b)
-      go (past l) = absurd (let y : is 1 (taskAt (t .tasks) (x .0) .state) ≡ 0 = rw (w .beyond (x .0) l) refl in omega arith)
+      go (past l) = absurd (let y : is ready (taskAt (t .tasks) (x .0) .state) ≡ 0 = rw (w .beyond (x .0) l) refl in omega arith)
 
   pub queue-make : Queue t → queueRight t ≡ true
   unfolding queueRight exactAt
@@ -199,14 +200,14 @@ module _ (t : Table) (w : InRange t) where
 
 module _ (t : Table) (w : InRange t) where
   exact-get : allOf (isTask (t .rest .count)) (line t) ≡ true → upTo (exactAt (t .tasks) (line t)) (t .rest .count) ≡ true
-      → (k : ℕ) → count k (items (t .tasks) (line t)) ≡ is 1 (taskAt (t .tasks) k .state)
+      → (k : ℕ) → count k (items (t .tasks) (line t)) ≡ is ready (taskAt (t .tasks) k .state)
   unfolding exactAt
   exact-get a u k = sym (stands-count (t .tasks) k (line t)) ∙ go (place (t .rest .count) k)
     where
       none : (0 < k → t .rest .count < k) → standsIn k (line t) ≡ 0
       none h = sum-none (isTask (t .rest .count)) (λ (x : TaskNo). one (eqb k (x .0))) (λ x. out-of (t .tasks) (t .rest .count) k x h) (line t) a
 
-      go : Place (t .rest .count) k → standsIn k (line t) ≡ is 1 (taskAt (t .tasks) k .state)
+      go : Place (t .rest .count) k → standsIn k (line t) ≡ is ready (taskAt (t .tasks) k .state)
       go (nought e) = none (λ z. absurd (omega arith)) ∙ sym (rw (at-none (t .tasks) k e) refl)
       go (among g h) = eqb-true _ _ (all-get (exactAt (t .tasks) (line t)) (t .rest .count) k u g h)
       go (past h) = none (λ z. h) ∙ sym (rw (w .beyond k h) refl)
@@ -236,22 +237,14 @@ stored-make : (c at : ℕ) → Stored c at → isStored c at ≡ true
 stored-make c at s = paired (ltb c at) _ (lt-ltb _ _ (s .0)) (le-leb (at - c) longest (omega arith))
 
 timely-get : (c : ℕ) (s : State) → isTimely c s ≡ true → Timely c s
-timely-get c Dormant e = tt
-timely-get c Ready e = tt
-timely-get c (Paused at) e = stored-get c (at .0) e
-timely-get c (Due at) e = stored-get c (at .0) e
-timely-get c (Flags m mask) e = tt
-timely-get c AwaitStart e = tt
-timely-get c AwaitEnd e = tt
+timely-get c s e h = stored-get c (timeOf s .0) (rw h at e)
 
 timely-make : (c : ℕ) (s : State) → Timely c s → isTimely c s ≡ true
-timely-make c Dormant e = refl
-timely-make c Ready e = refl
-timely-make c (Paused at) e = stored-make c (at .0) e
-timely-make c (Due at) e = stored-make c (at .0) e
-timely-make c (Flags m mask) e = refl
-timely-make c AwaitStart e = refl
-timely-make c AwaitEnd e = refl
+timely-make c s h = go (hasTime s) h
+  where
+    go : (b : Bool) → (b ≡ true → Stored c (timeOf s .0)) → pick b (isStored c (timeOf s .0)) true ≡ true
+    go true g = stored-make c (timeOf s .0) (g refl)
+    go false g = refl
 
 alarm-get : (c : ℕ) (a : Millis) → alarmRight c a ≡ true → 0 < a .0 → Stored c (a .0)
 alarm-get c a e h = stored-get c (a .0) (rw (ne-eqb (a .0) 0 (λ z. omega arith)) at e)
@@ -293,24 +286,16 @@ module _ (t : Table) where
 
 -- ---- wait masks
 unmet-get : (fs : ℕ) (s : State) → isUnmet fs s ≡ true → Unmet fs s
-unmet-get fs Dormant e = tt
-unmet-get fs Ready e = tt
-unmet-get fs (Paused at) e = tt
-unmet-get fs (Due at) e = tt
-unmet-get fs (Flags m mask) e =
-    let a = split (ltb 0 mask) (not (met fs m mask)) e in
-    (ltb-true _ _ (a .0), not-of (met fs m mask) (a .1))
-unmet-get fs AwaitStart e = tt
-unmet-get fs AwaitEnd e = tt
+unmet-get fs s e h =
+    let a = split (ltb 0 (maskOf s)) (not (met fs (waitMode s) (maskOf s))) (rw h at e) in
+    (ltb-true _ _ (a .0), not-of (met fs (waitMode s) (maskOf s)) (a .1))
 
 unmet-make : (fs : ℕ) (s : State) → Unmet fs s → isUnmet fs s ≡ true
-unmet-make fs Dormant e = refl
-unmet-make fs Ready e = refl
-unmet-make fs (Paused at) e = refl
-unmet-make fs (Due at) e = refl
-unmet-make fs (Flags m mask) e = paired (ltb 0 mask) (not (met fs m mask)) (lt-ltb 0 mask (e .0)) (of-not (met fs m mask) (e .1))
-unmet-make fs AwaitStart e = refl
-unmet-make fs AwaitEnd e = refl
+unmet-make fs s h = go (hasMask s) h
+  where
+    go : (b : Bool) → (b ≡ true → (0 < maskOf s) × (met fs (waitMode s) (maskOf s) ≡ false)) → pick b (ltb 0 (maskOf s) and not (met fs (waitMode s) (maskOf s))) true ≡ true
+    go true g = let u = g refl in paired (ltb 0 (maskOf s)) _ (lt-ltb 0 (maskOf s) (u .0)) (of-not (met fs (waitMode s) (maskOf s)) (u .1))
+    go false g = refl
 
 module _ (t : Table) where
   pub masks-get : masksRight t ≡ true → (k : ℕ) → Unmet (t .rest .flags) (taskAt (t .tasks) k .state)
@@ -323,15 +308,15 @@ module _ (t : Table) where
 
   -- ---- queued requests name busy tasks only
   idle : Request → ℕ
-  idle r = is 0 (taskAt (t .tasks) (r .target .0) .state)
+  idle r = is dormant (taskAt (t .tasks) (r .target .0) .state)
 
   pub busy-get : busyRight t ≡ true → idleOf (t .tasks) (requests (t .rest)) ≡ 0
   unfolding busyRight idle
-  busy-get e = sum-none (targetBusy (t .tasks)) idle (λ r. none-one (eqb 0 (kindOf (taskAt (t .tasks) (r .target .0) .state)))) (requests (t .rest)) e
+  busy-get e = sum-none (targetBusy (t .tasks)) idle (λ r. none-one (isDormant (taskAt (t .tasks) (r .target .0) .state))) (requests (t .rest)) e
 
   pub busy-make : idleOf (t .tasks) (requests (t .rest)) ≡ 0 → busyRight t ≡ true
   unfolding busyRight idle
-  busy-make w = none-all (targetBusy (t .tasks)) idle idle (λ r a b. one-none (eqb 0 (kindOf (taskAt (t .tasks) (r .target .0) .state))) a) (requests (t .rest)) w w
+  busy-make w = none-all (targetBusy (t .tasks)) idle idle (λ r a b. one-none (isDormant (taskAt (t .tasks) (r .target .0) .state)) a) (requests (t .rest)) w w
 
 -- ---- waiters
 twice-none : (a b : Bool) → pick a true b ≡ true → pick a 0 (one (not b)) ≡ 0
@@ -372,16 +357,16 @@ module _ (t : Table) where
       let ps = requests (t .rest) in
       paired (upTo (waitersAt ts ps) (t .rest .count)) _
       (all-make (waitersAt ts ps) (t .rest .count) (λ k g h.
-      paired (eqb (startsOf k ps) (is 2 (taskAt ts k .state))) _ (eq-eqb _ _ (w .starts k g))
-      (paired (eqb (endsOf k ps + runsOf k ts) (is 3 (taskAt ts k .state))) _ (eq-eqb _ _ (w .ends k g)) (of-not _ (w .apart k g)))))
+      paired (eqb (startsOf k ps) (is awaitStart (taskAt ts k .state))) _ (eq-eqb _ _ (w .starts k g))
+      (paired (eqb (endsOf k ps + runsOf k ts) (is awaitEnd (taskAt ts k .state))) _ (eq-eqb _ _ (w .ends k g)) (of-not _ (w .apart k g)))))
       (none-all namesOthers selfs twice none-others ps (w .others) (w .single))
 
   module _ (w : Known t) where
     -- what the test at number k says; a number past the count is named by nobody, and its entry is blank
     Told : ℕ → Type 0
     Told k =
-        (startsOf k (requests (t .rest)) ≡ is 2 (taskAt (t .tasks) k .state))
-        × (endsOf k (requests (t .rest)) + runsOf k (t .tasks) ≡ is 3 (taskAt (t .tasks) k .state))
+        (startsOf k (requests (t .rest)) ≡ is awaitStart (taskAt (t .tasks) k .state))
+        × (endsOf k (requests (t .rest)) + runsOf k (t .tasks) ≡ is awaitEnd (taskAt (t .tasks) k .state))
         × (eqb k (taskAt (t .tasks) k .«end_waiter» .0) ≡ false)
 
     told-at : (k : ℕ) → waitersAt (t .tasks) (requests (t .rest)) k ≡ true → Told k
@@ -389,8 +374,8 @@ module _ (t : Table) where
     told-at k e =
         let ts = t .tasks in
         let ps = requests (t .rest) in
-        let a = split (eqb (startsOf k ps) (is 2 (taskAt ts k .state))) _ e in
-        let b = split (eqb (endsOf k ps + runsOf k ts) (is 3 (taskAt ts k .state))) _ (a .1) in
+        let a = split (eqb (startsOf k ps) (is awaitStart (taskAt ts k .state))) _ e in
+        let b = split (eqb (endsOf k ps + runsOf k ts) (is awaitEnd (taskAt ts k .state))) _ (a .1) in
         (eqb-true _ _ (a .0), eqb-true _ _ (b .0), not-of _ (b .1))
 
     told-past : (k : ℕ) → t .rest .count < k → Told k
@@ -423,15 +408,15 @@ module _ (t : Table) where
         }
 
 -- ---- a dormant task's entry
-sleeps-get : (e : Task) → sleepsRight e ≡ true → is 0 (e .state) ≡ 1 → Zeros e
-sleeps-get e h s = go (eqb 0 (kindOf (e .state))) h s
+sleeps-get : (e : Task) → sleepsRight e ≡ true → is dormant (e .state) ≡ 1 → Zeros e
+sleeps-get e h s = go (isDormant (e .state)) h s
   where
     go : (b : Bool) → pick b (isZero e) true ≡ true → one b ≡ 1 → Zeros e
     go true f z = zero-is e f
     go false f z = absurd (omega arith)
 
-sleeps-make : (e : Task) → (is 0 (e .state) ≡ 1 → Zeros e) → sleepsRight e ≡ true
-sleeps-make e h = go (eqb 0 (kindOf (e .state))) h
+sleeps-make : (e : Task) → (is dormant (e .state) ≡ 1 → Zeros e) → sleepsRight e ≡ true
+sleeps-make e h = go (isDormant (e .state)) h
   where
     go : (b : Bool) → (one b ≡ 1 → Zeros e) → pick b (isZero e) true ≡ true
     go true f = is-zero e (f refl)

@@ -11,7 +11,8 @@ use Rattle.records.specs.declared.TaskNo.{TaskNo}
 use Rattle.executive.specs.declared.Task.{Task}
 use Rattle.executive.specs.Queue.{Item, one, count, atLeast}
 use Rattle.executive.specs.Table.{noTask, taskAt, putAt, items, Join}
-use Rattle.executive.specs.WellFormed.{sumOf, is, Line}
+use Rattle.executive.specs.States.{ready, is}
+use Rattle.executive.specs.WellFormed.{sumOf, Line}
 use Rattle.executive.proofs.Law.{T-of}
 use Rattle.executive.proofs.Sums.{sum-put, put-length}
 use Rattle.executive.proofs.QueueKept.{is-le, Head, head-is, line-out, Joins}
@@ -42,17 +43,17 @@ line-size n h (c ∷ r) ts q =
     omega (arith, line-size n h r (putAt ts (c .0) noTask) (line-out n ts c noTask r h q (not-dormant-kind n h)), sum-put (λ (e : Task). is n (e .state)) ts (c .0) noTask (x .names), x .is-of, not-dormant-kind n h)
 
 -- one that may enter finds at most fifteen
-pub room-to-enter : (j : Join) (ts : List Task) (r : List TaskNo) → length ts ≡ 16 → Line 1 ts r → Joins j ts → length r < 16
+pub room-to-enter : (j : Join) (ts : List Task) (r : List TaskNo) → length ts ≡ 16 → Line ready ts r → Joins j ts → length r < 16
 room-to-enter j ts r l q h =
     let e : Task = j .change (taskAt ts (j .who .0)) in
-    let f : Task → ℕ = λ (e : Task). is 1 (e .state) in
+    let f : Task → ℕ = λ (e : Task). is ready (e .state) in
     omega (
       arith,
       line-size 1 (omega arith) r ts q,
       sum-put f ts (j .who .0) e (h .names),
       h .before,
       h .after,
-      sum-le f (putAt ts (j .who .0) e) (λ e. is-le 1 (e .state)),
+      sum-le f (putAt ts (j .who .0) e) (λ e. is-le ready (e .state)),
       put-length ts (j .who .0) e,
     )
 

@@ -18,6 +18,7 @@ use Rattle.executive.specs.declared.Request.{Request}
 use Rattle.executive.specs.declared.Table.{Table}
 use Rattle.executive.specs.Queue.{Item, Moves, pick, count, ahead, prioIn, activeOf, left, play, plays, Fresh, Legal, Waiting, departures, entriesAbove, one}
 use Rattle.executive.specs.Table.{nobody, noRequest, line, requests, taskAt, view, Join, entries, apply, movesOf}
+use Rattle.executive.specs.States.{ready}
 use Rattle.executive.specs.Entries.{withState, begun, risen}
 use Rattle.executive.specs.Time.{aimAt}
 use Rattle.executive.specs.Rests.{placeOf}
@@ -105,7 +106,7 @@ overtaking t k ss w b y n =
     let p : prioIn k (view t) ≡ taskAt (t .tasks) k .priority = prio-is (t .tasks) (line t) k h in
     let p′ : prioIn k (view (after t ss)) ≡ prioIn k (view t) = rw (d .queue) (s .prio) in
     record {
-      still-ready = ready-named _ (omega (arith, v .queue .exactly .exact k, is-le 1 (taskAt (after t ss .tasks) k .state)));
+      still-ready = ready-named _ (omega (arith, v .queue .exactly .exact k, is-le ready (taskAt (after t ss .tasks) k .state)));
       same-priority = sym (prio-is (after t ss .tasks) (line (after t ss)) k there) ∙ p′ ∙ p;
       number = rw (d .queue, ← p) (s .number);
       active-at-nought = (first (view (after t ss)) k there, first-only (view (after t ss)) k there);

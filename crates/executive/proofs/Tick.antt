@@ -1,31 +1,31 @@
 -- The tick's plan is good.
 use mathlib.Core.Path.{_≡_, refl, _∙_}
-use mathlib.Core.Bool.{Bool, true, false}
+use mathlib.Core.Bool.{Bool, true, false, _&&_}
 use mathlib.Core.List.{List, [], _∷_}
 use Prim.Native.Nat.{ℕ, zero, suc, _+_, _^_, _≤_, _<_, zero-le}
 use native.Mathlib.Omega.{arith}
 use borrow.Author.Tests.{ne-eqb, leb-true, leb-false, eqb-true, eqb-false}
-use lib.Dec.{ltb, eqb}
+use lib.Dec.{ltb, eqb, leb}
 use lib.ListN.{length, getD, set, length-set, List·getD-eq-default}
 use lib.Bits.{bitOr}
 use Rattle.executive.specs.declared.Millis.{Millis}
 use Rattle.executive.specs.declared.State.{State}
-use Rattle.executive.specs.declared.State.the-variants.{Dormant, Ready, Paused, Due, Flags, AwaitStart, AwaitEnd}
 use Rattle.executive.specs.declared.Rest.{Rest}
 use Rattle.executive.specs.declared.Table.{Table}
 use Rattle.executive.specs.Entries.{aimed}
-use Rattle.executive.specs.Plans.{over, risers, tickPlan}
+use Rattle.executive.specs.Plans.{over, risers, tickPlan, met}
 use Rattle.executive.specs.Numbers.{flagCount, endOfTime, longest}
 use Rattle.executive.specs.Queue.{pick}
 use Rattle.executive.specs.Rests.{remade, withFlags, flagSet, withAlarm, withClock, each, isDue, rung, advanced}
 use Rattle.executive.specs.Table.{never, requests}
-use Rattle.executive.specs.WellFormed.{is}
+use Rattle.executive.specs.States.{due, kindOf, timeOf, maskOf, isOf, hasTime, hasMask, waitMode}
 use Rattle.executive.proofs.Formed.{Calm, Rested, Formed}
 use Rattle.executive.proofs.Law.{clash, Lt, lt-yes, lt-no, ltb-is}
 use Rattle.executive.proofs.Sums.{set-all}
 use Rattle.executive.proofs.LinksKept.{ok-up, up-ok}
 use Rattle.executive.proofs.Kept.{Good}
 use Rattle.executive.proofs.Rising.{Tells, Done, all-risen}
+use Rattle.executive.proofs.Named.{counted, time-waits, mask-waits, mask-no-time, due-time}
 
 -- what an alarm leaves alone: anything but the flags and the alarms
 module _ {B : Type 0} (g : Rest → B)
@@ -48,32 +48,23 @@ module _ {B : Type 0} (g : Rest → B)
   advanced-alone r = rings-alone 32 0 (withClock (record { 0 = r .clock .0 + r .granule }) r)
 
 module _ (a fa c fs : ℕ) where
-  waits : (s : State) → over c fs s ≡ true → is 1 s + is 0 s + is 2 s + is 3 s ≡ 0
-  waits Dormant e = clash e
-  waits Ready e = clash e
-  waits (Paused x) e = refl
-  waits (Due x) e = refl
-  waits (Flags m mask) e = refl
-  waits AwaitStart e = clash e
-  waits AwaitEnd e = clash e
+  waits : (s : State) → over c fs s ≡ true → counted (kindOf s) ≡ 0
+  waits s = go (hasTime s) refl (hasMask s) refl
+    where
+      go : (b : Bool) → hasTime s ≡ b → (d : Bool) → hasMask s ≡ d → pick b (leb (timeOf s .0) c) (d && met fs (waitMode s) (maskOf s)) ≡ true → counted (kindOf s) ≡ 0
+      go true t d m e = time-waits s t
+      go false t true m e = mask-waits s m
+      go false t false m e = clash e
 
   aims : a ≤ c → (s : State) (at : Millis) → over c fs s ≡ true → at .0 ≤ a → aimed s at .0 ≤ c
-  aims h Dormant at e l = omega arith
-  aims h Ready at e l = omega arith
-  aims h (Paused x) at e l = omega arith
-  aims h (Due x) at e l = leb-true (x .0) c e
-  aims h (Flags m mask) at e l = omega arith
-  aims h AwaitStart at e l = omega arith
-  aims h AwaitEnd at e l = omega arith
+  aims h s at e l = go (isOf due s) refl
+    where
+      go : (b : Bool) → isOf due s ≡ b → pick b (timeOf s) at .0 ≤ c
+      go true d = leb-true (timeOf s .0) c (rw (due-time s d) at e)
+      go false d = omega arith
 
   calms : a ≤ c → (s : State) → over c fs s ≡ false → Calm a fa s → Calm c fs s
-  calms h Dormant e x = x
-  calms h Ready e x = x
-  calms h (Paused n) e x = ((leb-false (n .0) c e, omega (arith, x .0 .1)), tt)
-  calms h (Due n) e x = ((leb-false (n .0) c e, omega (arith, x .0 .1)), tt)
-  calms h (Flags m mask) e x = (tt, (x .1 .0, e))
-  calms h AwaitStart e x = x
-  calms h AwaitEnd e x = x
+  calms h s e x = (λ t. (leb-false (timeOf s .0) c (rw t at e), omega (arith, x .0 t .1)), λ m. (x .1 m .0, rw (mask-no-time s m, m) at e))
 
   pub over-tells : a ≤ c → Tells (over c fs) a fa c fs
   over-tells h = record { onward = h; waits = waits; aims = aims h; calms = calms h }

@@ -9,7 +9,6 @@ use lib.ListN.{length, drop, take, getD}
 use Rattle.records.specs.declared.TaskNo.{TaskNo}
 use Rattle.executive.specs.declared.Millis.{Millis}
 use Rattle.executive.specs.declared.State.{State}
-use Rattle.executive.specs.declared.State.the-variants.{Dormant, Ready, Paused, Due, Flags, AwaitStart, AwaitEnd}
 use Rattle.executive.specs.declared.Task.{Task}
 use Rattle.executive.specs.declared.Request.{Request}
 use Rattle.executive.specs.declared.Table.{Table}
@@ -18,8 +17,9 @@ use Rattle.executive.specs.declared.check.Link.the-variants.{AtStart, At
 use Rattle.executive.specs.Numbers.{mostTasks, mostQueued, flagCount, highest, mostGranule, endOfTime, longest}
 use Rattle.executive.specs.Queue.{pick, one}
 use Rattle.executive.specs.Table.{line, requests, taskAt}
+use Rattle.executive.specs.States.{ready, awaitStart, awaitEnd, timeOf, maskOf, isOf, is, isDormant, hasTime, hasMask, waitMode}
 use Rattle.executive.specs.Plans.{met}
-use Rattle.executive.specs.WellFormed.{WellFormed, sumOf, kindOf, is, startsOf, endsOf, runsOf}
+use Rattle.executive.specs.WellFormed.{WellFormed, sumOf, startsOf, endsOf, runsOf}
 
 infixr 30 _and_
 abbrev pub _and_ : Bool → Bool → Bool
@@ -48,7 +48,7 @@ abbrev pub isZero : Task → Bool
 isZero e = eqb (e .priority) 0 and eqb (e .argument) 0 and eqb (e .start .0) 0 and eqb (e .«end_waiter» .0) 0
 
 abbrev pub isBlank : Task → Bool
-isBlank e = eqb 0 (kindOf (e .state)) and eqb (e .own) 0 and isZero e
+isBlank e = isDormant (e .state) and eqb (e .own) 0 and isZero e
 
 abbrev pub sizesRight : Table → Bool
 sizesRight t =
@@ -87,7 +87,7 @@ abbrev pub standsIn : ℕ → List TaskNo → ℕ
 standsIn k xs = sumOf (λ (x : TaskNo). one (eqb k (x .0))) xs
 
 unfoldable pub exactAt : List Task → List TaskNo → ℕ → Bool
-exactAt ts xs k = eqb (standsIn k xs) (is 1 (taskAt ts k .state))
+exactAt ts xs k = eqb (standsIn k xs) (is ready (taskAt ts k .state))
 
 unfoldable pub queueRight : Table → Bool
 queueRight t =
@@ -100,13 +100,7 @@ abbrev pub isStored : ℕ → ℕ → Bool
 isStored c at = ltb c at and leb (at - c) longest
 
 abbrev pub isTimely : ℕ → State → Bool
-isTimely c Dormant = true
-isTimely c Ready = true
-isTimely c (Paused at) = isStored c (at .0)
-isTimely c (Due at) = isStored c (at .0)
-isTimely c (Flags m mask) = true
-isTimely c AwaitStart = true
-isTimely c AwaitEnd = true
+isTimely c s = pick (hasTime s) (isStored c (timeOf s .0)) true
 
 abbrev pub alarmRight : ℕ → Millis → Bool
 alarmRight c a = pick (eqb (a .0) 0) true (isStored c (a .0))
@@ -126,13 +120,7 @@ startedRight t = allOf (isStarted (t .rest .clock .0)) (t .tasks)
 
 -- ---- wait masks, at the flags fs
 abbrev pub isUnmet : ℕ → State → Bool
-isUnmet fs Dormant = true
-isUnmet fs Ready = true
-isUnmet fs (Paused at) = true
-isUnmet fs (Due at) = true
-isUnmet fs (Flags m mask) = ltb 0 mask and not (met fs m mask)
-isUnmet fs AwaitStart = true
-isUnmet fs AwaitEnd = true
+isUnmet fs s = pick (hasMask s) (ltb 0 (maskOf s) and not (met fs (waitMode s) (maskOf s))) true
 
 abbrev pub taskUnmet : ℕ → Task → Bool
 taskUnmet fs e = isUnmet fs (e .state)
@@ -142,7 +130,7 @@ masksRight t = allOf (taskUnmet (t .rest .flags)) (t .tasks)
 
 -- ---- queued requests name busy tasks only
 abbrev pub targetBusy : List Task → Request → Bool
-targetBusy ts r = not (eqb 0 (kindOf (taskAt ts (r .target .0) .state)))
+targetBusy ts r = not (isDormant (taskAt ts (r .target .0) .state))
 
 unfoldable pub busyRight : Table → Bool
 busyRight t = allOf (targetBusy (t .tasks)) (requests (t .rest))
@@ -150,8 +138,8 @@ busyRight t = allOf (targetBusy (t .tasks)) (requests (t .rest))
 -- ---- waiters: what is said of number k; what is said of one request
 unfoldable pub waitersAt : List Task → List Request → ℕ → Bool
 waitersAt ts p k =
-    eqb (startsOf k p) (is 2 (taskAt ts k .state))
-    and eqb (endsOf k p + runsOf k ts) (is 3 (taskAt ts k .state))
+    eqb (startsOf k p) (is awaitStart (taskAt ts k .state))
+    and eqb (endsOf k p + runsOf k ts) (is awaitEnd (taskAt ts k .state))
     and not (eqb k (taskAt ts k .«end_waiter» .0))
 
 abbrev pub namesOthers : Request → Bool
@@ -165,7 +153,7 @@ waitersRight t = upTo (waitersAt (t .tasks) (requests (t .rest))) (t .rest .coun
 
 -- ---- a dormant task's entry
 abbrev pub sleepsRight : Task → Bool
-sleepsRight e = pick (eqb 0 (kindOf (e .state))) (isZero e) true
+sleepsRight e = pick (isDormant (e .state)) (isZero e) true
 
 unfoldable pub dormantRight : Table → Bool
 dormantRight t = allOf sleepsRight (t .tasks)
@@ -219,7 +207,7 @@ requestRight ts n r = requestInRange n r and namesOthers r and targetBusy ts r
 
 -- a task that waits for no start and no end, and for whose end nobody waits; a request that names no waiter
 abbrev pub isQuiet : Task → Bool
-isQuiet e = not (eqb 2 (kindOf (e .state))) and not (eqb 3 (kindOf (e .state))) and eqb (e .«end_waiter» .0) 0
+isQuiet e = not (isOf awaitStart (e .state)) and not (isOf awaitEnd (e .state)) and eqb (e .«end_waiter» .0) 0
 
 abbrev pub isLone : Request → Bool
 isLone r = eqb (r .«start_waiter» .0) 0 and eqb (r .«end_waiter» .0) 0

@@ -1,10 +1,12 @@
 -- One task's entry, and what a departure or an entry makes of it.
 use Rattle.executive.specs.declared.Millis.{Millis}
 use Rattle.executive.specs.declared.State.{State}
-use Rattle.executive.specs.declared.State.the-variants.{Dormant, Ready, Paused, Due, Flags, AwaitStart, AwaitEnd}
+use Rattle.executive.specs.declared.State.the-variants.{Dormant, Ready, Due}
 use Rattle.executive.specs.declared.Task.{Task}
 use Rattle.executive.specs.declared.Request.{Request}
+use Rattle.executive.specs.Queue.{pick}
 use Rattle.executive.specs.Table.{nobody, never}
+use Rattle.executive.specs.States.{due, timeOf, isOf}
 
 -- the entry with another state and another last scheduled start, and everything else as it was
 abbrev pub scheduled : State → Millis → Task → Task
@@ -29,13 +31,7 @@ dueAt at e = record { own = e .own; state = Due at; priority = e .priority; argu
 
 -- a due task's scheduled start becomes the time aimed at when it enters; any other task keeps its own
 abbrev pub aimed : State → Millis → Millis
-aimed Dormant s = s
-aimed Ready s = s
-aimed (Paused at) s = s
-aimed (Due at) s = at
-aimed (Flags m mask) s = s
-aimed AwaitStart s = s
-aimed AwaitEnd s = s
+aimed s start = pick (isOf due s) (timeOf s) start
 
 -- the entry of a task whose wait is over
 abbrev pub risen : Task → Task

@@ -1,6 +1,7 @@
 pub mod Numbers
 pub mod Queue
 pub mod Table
+pub mod States
 pub mod Entries
 pub mod Time
 pub mod Rests

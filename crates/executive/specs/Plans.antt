@@ -2,7 +2,7 @@
 -- what the rest of the table is afterwards.
 -- Rulings that 01 marks H are marked H here.
 use Prim.Native.Nat.{ℕ, suc, _+_, _/_, _%_}
-use mathlib.Core.Bool.{Bool, true, false, not}
+use mathlib.Core.Bool.{Bool, _&&_, not}
 use mathlib.Core.List.{List, [], _∷_, _++_}
 use lib.Dec.{leb, ltb, eqb}
 use lib.Bits.{bitAnd}
@@ -15,12 +15,13 @@ use Rattle.executive.specs.declared.Mode.the-variants.{Any, All}
 use Rattle.executive.specs.declared.Wait.{Wait}
 use Rattle.executive.specs.declared.Wait.the-variants.{Goes, ForStart, ForEnd}
 use Rattle.executive.specs.declared.State.{State}
-use Rattle.executive.specs.declared.State.the-variants.{Dormant, Ready, Paused, Due, Flags, AwaitStart, AwaitEnd}
+use Rattle.executive.specs.declared.State.the-variants.{Ready, Paused, Flags, AwaitStart, AwaitEnd}
 use Rattle.executive.specs.declared.Task.{Task}
 use Rattle.executive.specs.declared.Request.{Request}
 use Rattle.executive.specs.declared.Table.{Table}
 use Rattle.executive.specs.Queue.{pick}
 use Rattle.executive.specs.Table.{nobody, noRequest, line, requests, taskAt, headOf, Out, stays, leaves, Join, Plan}
+use Rattle.executive.specs.States.{timeOf, maskOf, isDormant, isPaused, hasTime, hasMask, waitMode}
 use Rattle.executive.specs.Entries.{withState, sleeping, begun, dueAt, risen}
 use Rattle.executive.specs.Time.{interval, aimAt}
 use Rattle.executive.specs.Rests.{withRequests, placeOf, removed, withFlags, flagSet, flagReset, withAlarm, advanced}
@@ -31,24 +32,6 @@ caller t = headOf (line t)
 
 abbrev pub stateAt : Table → TaskNo → State
 stateAt t k = taskAt (t .tasks) (k .0) .state
-
-abbrev pub isDormant : State → Bool
-isDormant Dormant = true
-isDormant Ready = false
-isDormant (Paused at) = false
-isDormant (Due at) = false
-isDormant (Flags m mask) = false
-isDormant AwaitStart = false
-isDormant AwaitEnd = false
-
-abbrev pub isPaused : State → Bool
-isPaused Dormant = false
-isPaused Ready = false
-isPaused (Paused at) = true
-isPaused (Due at) = false
-isPaused (Flags m mask) = false
-isPaused AwaitStart = false
-isPaused AwaitEnd = false
 
 -- ---- who enters
 -- whoever is named enters; 0 names nobody
@@ -175,13 +158,7 @@ met fs All mask = eqb (bitAnd fs mask) mask
 
 -- whether a task waits for flags and its condition holds
 abbrev pub holds : ℕ → State → Bool
-holds fs Dormant = false
-holds fs Ready = false
-holds fs (Paused at) = false
-holds fs (Due at) = false
-holds fs (Flags m mask) = met fs m mask
-holds fs AwaitStart = false
-holds fs AwaitEnd = false
+holds fs s = hasMask s && met fs (waitMode s) (maskOf s)
 
 -- task k enters if its state passes a test; all tasks from number k on, in ascending number
 unfoldable pub rises : (State → Bool) → ℕ → Task → List Join
@@ -222,13 +199,7 @@ alarmPlan t unit n f =
 
 -- ---- 80: whether a wait is over, at the clock c with the flags fs
 abbrev pub over : ℕ → ℕ → State → Bool
-over c fs Dormant = false
-over c fs Ready = false
-over c fs (Paused at) = leb (at .0) c
-over c fs (Due at) = leb (at .0) c
-over c fs (Flags m mask) = met fs m mask
-over c fs AwaitStart = false
-over c fs AwaitEnd = false
+over c fs s = pick (hasTime s) (leb (timeOf s .0) c) (holds fs s)
 
 -- the clock gains one granule and due alarms set their flags; then, in ascending task number, each paused or due
 -- task whose time is at or before the

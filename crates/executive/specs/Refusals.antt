@@ -18,7 +18,8 @@ use Rattle.executive.specs.declared.Table.{Table}
 use Rattle.executive.specs.Numbers.{lastUnit, mostQueued, endOfTime}
 use Rattle.executive.specs.Queue.{pick}
 use Rattle.executive.specs.Table.{never, Plan, carry}
-use Rattle.executive.specs.Plans.{caller, stateAt, isDormant, nothing, endPlan, restartPlan, pausePlan, cancelPlan, startOnlyPlan, askPlan}
+use Rattle.executive.specs.States.{isDormant}
+use Rattle.executive.specs.Plans.{caller, stateAt, nothing, endPlan, restartPlan, pausePlan, cancelPlan, startOnlyPlan, askPlan}
 use Rattle.executive.specs.Plans.{flagPlan, waitPlan, alarmPlan, tickPlan}
 use Rattle.executive.specs.Check.{_and_, isWellFormed}
 

@@ -18,7 +18,8 @@ use Rattle.executive.specs.Queue.{pick}
 use Rattle.executive.specs.Table.{nobody, taskAt, carry}
 use Rattle.executive.specs.Time.{skippedOf}
 use Rattle.executive.specs.Rests.{isSet}
-use Rattle.executive.specs.Plans.{caller, stateAt, isDormant, isPaused, met, modeOf}
+use Rattle.executive.specs.Plans.{caller, stateAt, met, modeOf}
+use Rattle.executive.specs.States.{isDormant, isPaused}
 use Rattle.executive.specs.Check.{_and_}
 use Rattle.executive.specs.Refusals.{_or_, planOf, callIn, callRefusals, refusals, firstOf}
 

@@ -1,39 +1,27 @@
 -- A well-formed table (01, "A table is well formed when"): a field for each of its rules, in 01's order. Rules on
 -- links and names are counts.
 use mathlib.Core.Path.{_≡_}
-use mathlib.Core.Bool.{false, not}
+use mathlib.Core.Bool.{true, false, not}
 use mathlib.Core.List.{List, [], _∷_}
 use Prim.Native.Nat.{ℕ, _+_, _≤_, _<_}
 use lib.Dec.{eqb, ltb}
 use lib.ListN.{length, getD}
 use Rattle.records.specs.declared.TaskNo.{TaskNo}
 use Rattle.executive.specs.declared.State.{State}
-use Rattle.executive.specs.declared.State.the-variants.{Dormant, Ready, Paused, Due, Flags, AwaitStart, AwaitEnd}
+use Rattle.executive.specs.declared.State.the-variants.{Dormant}
 use Rattle.executive.specs.declared.Task.{Task}
 use Rattle.executive.specs.declared.Request.{Request}
 use Rattle.executive.specs.declared.Table.{Table}
 use Rattle.executive.specs.Numbers.{mostTasks, mostQueued, flagCount, highest, mostGranule, endOfTime, longest}
 use Rattle.executive.specs.Queue.{pick, one, count, Desc}
 use Rattle.executive.specs.Table.{nobody, never, noTask, noRequest, pad, line, requests, taskAt, items}
+use Rattle.executive.specs.States.{dormant, ready, awaitStart, awaitEnd, timeOf, maskOf, is, hasTime, hasMask, waitMode}
 use Rattle.executive.specs.Plans.{met}
 
 -- ---- counting
 unfoldable pub sumOf : {A : Type 0} → (A → ℕ) → List A → ℕ
 sumOf f [] = 0
 sumOf f (x ∷ xs) = f x + sumOf f xs
-
--- a number for the kind of a state, which is named by one of its states; 1 where a state is of kind n, else 0
-abbrev pub kindOf : State → ℕ
-kindOf Dormant = 0
-kindOf Ready = 1
-kindOf AwaitStart = 2
-kindOf AwaitEnd = 3
-kindOf (Paused n) = 4
-kindOf (Due n) = 5
-kindOf (Flags m mask) = 6
-
-abbrev pub is : ℕ → State → ℕ
-is n s = one (eqb n (kindOf s))
 
 -- how many requests name task k: as their target, as the waiter for their start, as the waiter for the end of the
 -- run that they begin
@@ -65,7 +53,7 @@ abbrev pub twiceOf : List Request → ℕ
 twiceOf p = sumOf (λ (r : Request). pick (eqb (r .«start_waiter» .0) 0) 0 (one (not (eqb (r .«end_waiter» .0) 0)))) p
 
 abbrev pub idleOf : List Task → List Request → ℕ
-idleOf ts p = sumOf (λ (r : Request). is (kindOf Dormant) (taskAt ts (r .target .0) .state)) p
+idleOf ts p = sumOf (λ (r : Request). is dormant (taskAt ts (r .target .0) .state)) p
 
 -- ---- every number is in range: entries past the task count are zero, and no name is over the count
 pub record Sizes (t : Table) : Type 0 where
@@ -95,43 +83,32 @@ pub record Line (n : ℕ) (ts : List Task) (r : List TaskNo) : Type 0 where
 
 -- the ready queue holds exactly the ready tasks; its free places are zero
 pub record Queue (t : Table) : Type 0 where
-  pub exactly : Line (kindOf Ready) (t .tasks) (line t)
+  pub exactly : Line ready (t .tasks) (line t)
   pub tidy : t .queue ≡ pad mostTasks nobody (line t)
 
 -- ---- a stored time is after the clock c and at most the largest interval after it
 abbrev pub Stored : ℕ → ℕ → Type 0
 Stored c at = (c < at) × (at ≤ c + longest)
 
+-- the time of a paused or due task is such a time
 abbrev pub Timely : ℕ → State → Type 0
-Timely c Dormant = Unit {0}
-Timely c Ready = Unit {0}
-Timely c AwaitStart = Unit {0}
-Timely c AwaitEnd = Unit {0}
-Timely c (Paused at) = Stored c (at .0)
-Timely c (Due at) = Stored c (at .0)
-Timely c (Flags m mask) = Unit {0}
+Timely c s = hasTime s ≡ true → Stored c (timeOf s .0)
 
 -- pause and due times; an alarm that is running
 pub record Times (t : Table) : Type 0 where
   pub tasks : (k : ℕ) → Timely (t .rest .clock .0) (taskAt (t .tasks) k .state)
   pub alarms : (i : ℕ) → 0 < getD (t .rest .alarms) i never .0 → Stored (t .rest .clock .0) (getD (t .rest .alarms) i never .0)
 
--- ---- a wait mask is nonzero and its condition is false, at the flags fs
+-- ---- the mask of a task that waits for flags is nonzero and its condition is false, at the flags fs
 abbrev pub Unmet : ℕ → State → Type 0
-Unmet fs Dormant = Unit {0}
-Unmet fs Ready = Unit {0}
-Unmet fs AwaitStart = Unit {0}
-Unmet fs AwaitEnd = Unit {0}
-Unmet fs (Paused at) = Unit {0}
-Unmet fs (Due at) = Unit {0}
-Unmet fs (Flags m mask) = (0 < mask) × (met fs m mask ≡ false)
+Unmet fs s = hasMask s ≡ true → (0 < maskOf s) × (met fs (waitMode s) (maskOf s) ≡ false)
 
 -- ---- each request or run that names a waiter names a different task in the matching state; each such state is
 -- named once.
 -- A request names one waiter at most
 pub record Waiters (ts : List Task) (p : List Request) : Type 0 where
-  pub starts : (k : ℕ) → 0 < k → startsOf k p ≡ is (kindOf AwaitStart) (taskAt ts k .state)
-  pub ends : (k : ℕ) → 0 < k → endsOf k p + runsOf k ts ≡ is (kindOf AwaitEnd) (taskAt ts k .state)
+  pub starts : (k : ℕ) → 0 < k → startsOf k p ≡ is awaitStart (taskAt ts k .state)
+  pub ends : (k : ℕ) → 0 < k → endsOf k p + runsOf k ts ≡ is awaitEnd (taskAt ts k .state)
   pub others : selfsOf p ≡ 0
   pub apart : (k : ℕ) → 0 < k → eqb k (taskAt ts k .«end_waiter» .0) ≡ false
   pub single : twiceOf p ≡ 0

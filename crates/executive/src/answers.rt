@@ -3,11 +3,10 @@ use crate::Answer;
 use crate::Marks;
 use crate::Outcome;
 use crate::Table;
-use crate::calls;
 use crate::clock;
-use crate::entries;
 use crate::flags;
 use crate::places;
+use crate::states;
 use records::Call;
 use records::FlagNo;
 use records::TaskNo;
@@ -102,7 +101,7 @@ impl Table {
         ensures { λ r. ⌜ r ≡ marksOf self (Call.CancelPause k) ⌝ }
     {
         let s = self.state_at(k);
-        let paused = calls::is_paused(s);
+        let paused = states::is_paused(s);
         only_z(!paused)
     }
 
@@ -111,7 +110,7 @@ impl Table {
         ensures { λ r. ⌜ r ≡ marksOf self (Call.Start 0 k) ⌝ }
     {
         let s = self.state_at(k);
-        let dormant = entries::is_dormant(s);
+        let dormant = states::is_dormant(s);
         only_z(!dormant)
     }
 

@@ -8,28 +8,14 @@ use crate::entries;
 use crate::places;
 use crate::pool;
 use crate::pool::Found;
+use crate::states;
 use records::TaskNo;
 ghost use mathlib.Core.Path.{_≡_};
 ghost use Prim.Native.Nat.{_<_, _≤_, _+_};
 ghost use Rattle.executive.specs.Numbers.{lastUnit, endOfTime};
 ghost use Rattle.executive.specs.Table.{Fit, Standing, Out, depart, carry};
 ghost use Rattle.executive.specs.Entries.{withState};
-ghost use Rattle.executive.specs.Plans.{isPaused, endPlan, restartPlan, pausePlan, cancelPlan, tickPlan};
-
-// Whether a task is paused; one that is due to restart is not.
-pub(crate) fn is_paused(s: State) -> bool
-    ensures { λ r. ⌜ r ≡ isPaused s ⌝ }
-{
-    match s {
-        State::Paused(_) => true,
-        State::Dormant => false,
-        State::Ready => false,
-        State::Due(_) => false,
-        State::Flags(_, _) => false,
-        State::AwaitStart => false,
-        State::AwaitEnd => false,
-    }
-}
+ghost use Rattle.executive.specs.Plans.{endPlan, restartPlan, pausePlan, cancelPlan, tickPlan};
 
 impl Table {
     // The caller departs, in another state.
@@ -122,7 +108,7 @@ impl Table {
         let e = places::task_at(tasks, k);
         let s = e.state;
         let w = self.begin();
-        if is_paused(s) {
+        if states::is_paused(s) {
             return w.raise(k);
         }
         w

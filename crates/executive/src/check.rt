@@ -1,13 +1,14 @@
 // The check of a table (01, "A table is well formed when"): the rules on one entry and on one request each in one
 // pass; number 0 exactly for a well-formed table, else 1.
 use crate::Millis;
-use crate::Mode;
 use crate::Request;
 use crate::State;
 use crate::Table;
 use crate::Task;
 use crate::clock;
+use crate::flags;
 use crate::places;
+use crate::states;
 use records::TaskNo;
 ghost use mathlib.Core.Path.{_≡_};
 ghost use Prim.Native.Nat.{_≤_, _<_, _+_};
@@ -15,7 +16,8 @@ ghost use lib.Dec.{eqb};
 ghost use lib.ListN.{drop, take};
 ghost use Rattle.executive.specs.Queue.{one};
 ghost use Rattle.executive.specs.Table.{taskAt};
-ghost use Rattle.executive.specs.WellFormed.{kindOf, is, runsOf};
+ghost use Rattle.executive.specs.WellFormed.{runsOf};
+ghost use Rattle.executive.specs.States.{ready, is};
 ghost use Rattle.executive.specs.Check.{upTo, allOf, inBounds, entryInRange, isZero, isBlank, requestInRange, isNobody, falls, exactAt};
 ghost use Rattle.executive.specs.Check.{isStored, isTimely, alarmRight, isUnmet, waitersAt, namesOthers, sleepsRight, isFree, entryRight};
 ghost use Rattle.executive.specs.Check.{requestFits, requestRight, isQuiet, isLone, lineRight, askedRight, linkOf, linksIn, isWellFormed};
@@ -26,20 +28,6 @@ ghost use Rattle.executive.specs.Broken.{Broken};
 enum Link {
     AtStart,
     AtEnd,
-}
-
-fn kind_of(s: State) -> u8
-    ensures { λ r. ⌜ r ≡ kindOf s ⌝ }
-{
-    match s {
-        State::Dormant => 0,
-        State::Ready => 1,
-        State::AwaitStart => 2,
-        State::AwaitEnd => 3,
-        State::Paused(_) => 4,
-        State::Due(_) => 5,
-        State::Flags(_, _) => 6,
-    }
 }
 
 // The counts, the granule and the clock are in range.
@@ -97,7 +85,7 @@ fn is_blank(e: Task) -> bool
     ensures { λ r. ⌜ r ≡ isBlank e ⌝ }
 {
     let s = e.state;
-    if 0 != kind_of(s) {
+    if !states::is_dormant(s) {
         return false;
     }
     if e.own != 0 {
@@ -111,7 +99,7 @@ fn sleeps_right(e: Task) -> bool
     ensures { λ r. ⌜ r ≡ sleepsRight e ⌝ }
 {
     let s = e.state;
-    if 0 != kind_of(s) {
+    if !states::is_dormant(s) {
         return true;
     }
     is_zero(e)
@@ -127,33 +115,23 @@ fn is_stored(at: Millis, now: Millis) -> bool
 fn is_timely(s: State, now: Millis) -> bool
     ensures { λ r. ⌜ r ≡ isTimely (now .0) s ⌝ }
 {
-    match s {
-        State::Paused(at) => is_stored(at, now),
-        State::Due(at) => is_stored(at, now),
-        State::Dormant => true,
-        State::Ready => true,
-        State::Flags(_, _) => true,
-        State::AwaitStart => true,
-        State::AwaitEnd => true,
+    if !states::has_time(s) {
+        return true;
     }
+    let at = states::time_of(s);
+    is_stored(at, now)
 }
 
 // A wait mask is nonzero and its condition is false.
 fn is_unmet(s: State, flags: u32) -> bool
     ensures { λ r. ⌜ r ≡ isUnmet flags s ⌝ }
 {
-    match s {
-        State::Flags(mode, mask) => match mode {
-            Mode::Any => 0 < mask && flags & mask == 0,
-            Mode::All => 0 < mask && flags & mask != mask,
-        },
-        State::Paused(_) => true,
-        State::Due(_) => true,
-        State::Dormant => true,
-        State::Ready => true,
-        State::AwaitStart => true,
-        State::AwaitEnd => true,
+    if !states::has_mask(s) {
+        return true;
     }
+    let mode = states::wait_mode(s);
+    let mask = states::mask_of(s);
+    0 < mask && !flags::is_met(flags, mode, mask)
 }
 
 // The rules on one entry alone: its numbers, its stored time, its last scheduled start, its wait mask, its zeros
@@ -300,7 +278,7 @@ fn requests_right(tasks: [Task; 16], pool: [Request; 32], queued: usize, count: 
         }
         let e = tasks[target];
         let s = e.state;
-        if 0 == kind_of(s) {
+        if states::is_dormant(s) {
             return false;
         }
         i += 1;
@@ -443,10 +421,10 @@ fn runs_in(tasks: [Task; 16], k: TaskNo) -> u8
 // Whether a task that stands n times in the queue stands there as often as its state says: once if it is ready,
 // else never.
 fn exact_at(s: State, n: u8) -> bool
-    ensures { λ r. ⌜ r ≡ eqb n (is 1 s) ⌝ }
+    ensures { λ r. ⌜ r ≡ eqb n (is ready s) ⌝ }
 {
-    let kind = kind_of(s);
-    let want = plus_if(0, 1, kind);
+    let kind = states::kind_of(s);
+    let want = plus_if(0, states::READY, kind);
     n == want
 }
 
@@ -474,15 +452,15 @@ fn waiters_at(e: Task, tasks: [Task; 16], pool: [Request; 32], queued: usize, k:
     ensures { λ r. ⌜ r ≡ waitersAt tasks (take queued pool) (k .0) ⌝ }
 {
     let s = e.state;
-    let kind = kind_of(s);
+    let kind = states::kind_of(s);
     let starts = links_in(pool, queued, Link::AtStart, k);
-    let start = plus_if(0, 2, kind);
+    let start = plus_if(0, states::AWAIT_START, kind);
     if starts != start {
         return false;
     }
     let ends = links_in(pool, queued, Link::AtEnd, k);
     let runs = runs_in(tasks, k);
-    let end = plus_if(0, 3, kind);
+    let end = plus_if(0, states::AWAIT_END, kind);
     ends + runs == end && k.0 != e.end_waiter.0
 }
 
@@ -506,11 +484,11 @@ fn is_quiet(e: Task) -> bool
     ensures { λ r. ⌜ r ≡ isQuiet e ⌝ }
 {
     let s = e.state;
-    let kind = kind_of(s);
-    if 2 == kind {
+    let kind = states::kind_of(s);
+    if states::AWAIT_START == kind {
         return false;
     }
-    if 3 == kind {
+    if states::AWAIT_END == kind {
         return false;
     }
     e.end_waiter.0 == 0

@@ -3,25 +3,10 @@ use crate::Millis;
 use crate::Request;
 use crate::State;
 use crate::Task;
+use crate::states;
 use records::TaskNo;
 ghost use mathlib.Core.Path.{_≡_};
 ghost use Rattle.executive.specs.Entries.{scheduled, withState, sleeping, begun, aimed, risen, dueAt};
-ghost use Rattle.executive.specs.Plans.{isDormant};
-
-// Whether a task is dormant.
-pub(crate) fn is_dormant(s: State) -> bool
-    ensures { λ r. ⌜ r ≡ isDormant s ⌝ }
-{
-    match s {
-        State::Dormant => true,
-        State::Ready => false,
-        State::Paused(_) => false,
-        State::Due(_) => false,
-        State::Flags(_, _) => false,
-        State::AwaitStart => false,
-        State::AwaitEnd => false,
-    }
-}
 
 // One task's entry, lent: its state and its time are set, and nothing else is.
 pub(crate) fn set_state(task: &mut Task, state: State, start: Millis)
@@ -81,15 +66,10 @@ pub(crate) fn begin(e: Task, r: Request, now: Millis) -> Task
 pub(crate) fn aim(s: State, start: Millis) -> Millis
     ensures { λ r. ⌜ r ≡ aimed s start ⌝ }
 {
-    match s {
-        State::Due(at) => at,
-        State::Dormant => start,
-        State::Ready => start,
-        State::Paused(_) => start,
-        State::Flags(_, _) => start,
-        State::AwaitStart => start,
-        State::AwaitEnd => start,
+    if states::is_of(s, states::DUE) {
+        return states::time_of(s);
     }
+    start
 }
 
 // The entry of a task whose wait is over.

@@ -17,6 +17,7 @@ mod pool;
 mod queue;
 mod refusals;
 mod starts;
+pub mod states;
 mod step;
 mod waking;
 

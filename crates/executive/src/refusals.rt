@@ -2,7 +2,7 @@
 use crate::Millis;
 use crate::Table;
 use crate::clock;
-use crate::entries;
+use crate::states;
 use records::Call;
 use records::FlagNo;
 use records::TaskNo;
@@ -167,7 +167,7 @@ impl Table {
             return false;
         };
         let s = self.state_at(task);
-        if entries::is_dormant(s) {
+        if states::is_dormant(s) {
             return false;
         }
         32 <= self.rest.queued

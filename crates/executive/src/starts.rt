@@ -4,14 +4,15 @@ use crate::State;
 use crate::Table;
 use crate::Wait;
 use crate::Work;
-use crate::entries;
 use crate::places;
+use crate::states;
 use records::TaskNo;
 ghost use mathlib.Core.Path.{_≡_};
 ghost use mathlib.Core.Bool.{false};
 ghost use Prim.Native.Nat.{_<_};
 ghost use Rattle.executive.specs.Table.{Fit, taskAt, depart, carry};
-ghost use Rattle.executive.specs.Plans.{caller, stateAt, isDormant, levelOf, waitOf, argumentOf, atOnce, outOf, startWaiterOf, endWaiterOf};
+ghost use Rattle.executive.specs.States.{isDormant};
+ghost use Rattle.executive.specs.Plans.{caller, stateAt, levelOf, waitOf, argumentOf, atOnce, outOf, startWaiterOf, endWaiterOf};
 ghost use Rattle.executive.specs.Plans.{asks, startPlan, queuePlan, startOnlyPlan, askPlan};
 
 // The priority that an option of 04 or 05 asks for: the target's own (bit 7), or bits 3..0.
@@ -144,7 +145,7 @@ impl Table {
         let tasks = self.tasks;
         let e = places::task_at(tasks, k);
         let s = e.state;
-        if entries::is_dormant(s) {
+        if states::is_dormant(s) {
             let q = self.request(Wait::Goes, option, k, 0);
             return self.start(q, Wait::Goes);
         }
@@ -162,7 +163,7 @@ impl Table {
         let tasks = self.tasks;
         let e = places::task_at(tasks, k);
         let s = e.state;
-        if entries::is_dormant(s) {
+        if states::is_dormant(s) {
             return self.start(q, wt);
         }
         self.ask(q, wt)

@@ -1,6 +1,6 @@
 -- `loading::state_of` meets its contract: each arm's byte picks its state.
 use borrow.Author.Tests.{ne-eqb}
-use Rattle.board.specs.Image.{stateOf}
+use Rattle.executive.specs.States.{stateOf}
 use Rattle.board.proofs.loading.state_of.Statement.{statement}
 use Rattle.board.proofs.loading.state_of.Tie as tie
 

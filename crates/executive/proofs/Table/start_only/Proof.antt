@@ -1,6 +1,7 @@
 use mathlib.Core.Path.{_≡_, refl, sym, _∙_}
 use mathlib.Core.Bool.{true, false}
-use Rattle.executive.specs.Plans.{stateAt, isDormant, startOnlyPlan}
+use Rattle.executive.specs.Plans.{stateAt, startOnlyPlan}
+use Rattle.executive.specs.States.{isDormant}
 use Rattle.executive.proofs.Scans.{unchanged}
 use borrow.Author.Needs.{needs}
 use Rattle.executive.proofs.Table.start_only.Statement.{statement}

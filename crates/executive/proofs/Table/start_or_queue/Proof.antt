@@ -1,6 +1,7 @@
 use mathlib.Core.Path.{_≡_, refl, sym, _∙_}
 use mathlib.Core.Bool.{true, false}
-use Rattle.executive.specs.Plans.{stateAt, isDormant, requestOf, askPlan}
+use Rattle.executive.specs.Plans.{stateAt, requestOf, askPlan}
+use Rattle.executive.specs.States.{isDormant}
 use borrow.Author.Needs.{needs}
 use Rattle.executive.proofs.Table.start_or_queue.Statement.{statement}
 use Rattle.executive.proofs.Table.start_or_queue.Tie as tie

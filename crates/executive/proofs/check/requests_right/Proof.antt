@@ -3,7 +3,7 @@ use mathlib.Core.Path.{_≡_, refl, sym, _∙_}
 use mathlib.Core.Bool.{true, false}
 use native.Mathlib.Omega.{arith}
 use borrow.Author.Needs.{needs}
-use borrow.Author.Tests.{not-true, not-false, eq-eqb, ne-eqb}
+use borrow.Author.Tests.{not-true, not-false}
 use lib.ListN.{take, drop, getD}
 use Rattle.executive.specs.Table.{noRequest}
 use Rattle.executive.specs.Check.{allOf, requestRight}
@@ -37,14 +37,14 @@ returns-3 c =
     let s = c .before .before .before .before .before .before .before .before .before .before in
     let v = c .before .before .before .before .before .before .before .before .before .loop in
     let l = s .good .1 .0 .1 .0 .1 in
-    sym (sym (v .inv .1) ∙ first-not (requestRight (s .args .t1) (s .args .count)) noRequest (s .args .t2) (s .args .queued) (omega arith) (v .i) (omega arith) (fits-busy (s .args .t1) (s .args .count) (getD (s .args .t2) (v .i) noRequest) (s .good .0 .1 .0 .1) _ (c .before .before .before .before .entry-place .ensures) true (sym (c .before .before .before .before .before .before .request-fits .ensures) ∙ not-false _ (c .before .before .before .before .before .if1 .left)) (eq-eqb _ _ (rw (c .before .kind-of .ensures) at (c .if3 .taken)))))
+    sym (sym (v .inv .1) ∙ first-not (requestRight (s .args .t1) (s .args .count)) noRequest (s .args .t2) (s .args .queued) (omega arith) (v .i) (omega arith) (fits-busy (s .args .t1) (s .args .count) (getD (s .args .t2) (v .i) noRequest) (s .good .0 .1 .0 .1) _ (c .before .before .before .before .entry-place .ensures) true (sym (c .before .before .before .before .before .before .request-fits .ensures) ∙ not-false _ (c .before .before .before .before .before .if1 .left)) (sym (c .before .is-dormant .ensures) ∙ c .if3 .taken)))
 
 loop-again : tie.Need-loop-again Inv-loop μ-loop
 loop-again c =
     let s = c .before .before .before .before .before .before .before .before .before .before in
     let v = c .before .before .before .before .before .before .before .before .before .loop in
     let l = s .good .1 .0 .1 .0 .1 in
-    (omega arith, first-turn (requestRight (s .args .t1) (s .args .count)) noRequest (s .args .t2) (s .args .queued) (omega arith) (v .i) (omega arith) (fits-busy (s .args .t1) (s .args .count) (getD (s .args .t2) (v .i) noRequest) (s .good .0 .1 .0 .1) _ (c .before .before .before .before .entry-place .ensures) false (sym (c .before .before .before .before .before .before .request-fits .ensures) ∙ not-false _ (c .before .before .before .before .before .if1 .left)) (ne-eqb _ _ (rw (c .before .kind-of .ensures) at (c .if3 .left)))) ∙ v .inv .1)
+    (omega arith, first-turn (requestRight (s .args .t1) (s .args .count)) noRequest (s .args .t2) (s .args .queued) (omega arith) (v .i) (omega arith) (fits-busy (s .args .t1) (s .args .count) (getD (s .args .t2) (v .i) noRequest) (s .good .0 .1 .0 .1) _ (c .before .before .before .before .entry-place .ensures) false (sym (c .before .before .before .before .before .before .request-fits .ensures) ∙ not-false _ (c .before .before .before .before .before .if1 .left)) (sym (c .before .is-dormant .ensures) ∙ c .if3 .left)) ∙ v .inv .1)
 
 returns-4 : tie.Need-returns-4 Inv-loop μ-loop
 returns-4 c =

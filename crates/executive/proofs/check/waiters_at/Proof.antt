@@ -3,7 +3,8 @@ use Rattle.executive.specs.Check.{waitersAt}
 use lib.Dec.{eqb}
 use lib.ListN.{take}
 use Rattle.executive.specs.Table.{taskAt}
-use Rattle.executive.specs.WellFormed.{is, startsOf}
+use Rattle.executive.specs.States.{awaitStart, is}
+use Rattle.executive.specs.WellFormed.{startsOf}
 use native.Mathlib.Nat.{add-zero}
 use borrow.Author.Tests.{eq-eqb, ne-eqb}
 use borrow.Author.Needs.{needs}
@@ -57,7 +58,7 @@ returns-3 c =
     let k = n .before .kind-of .ensures in
     let s = n .before .before in
     let a = s .args in
-    let starts = eqb (startsOf (a .k .0) (take (a .queued) (a .pool))) (is 2 (taskAt (a .tasks) (a .k .0) .state)) in
+    let starts = eqb (startsOf (a .k .0) (take (a .queued) (a .pool))) (is awaitStart (taskAt (a .tasks) (a .k .0) .state)) in
     let runs = c .before .before .runs-in .ensures .1 in
     let want = c .before .plus-if2 .ensures in
     let ends = rw (m .links-in2 .ensures .1, runs, want, k, s .pre .1, add-zero) at (c .if2 .left) in

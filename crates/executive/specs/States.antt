@@ -1,0 +1,123 @@
+-- What a task's state is and holds: its kind, its time and its mask. Only these, and `stateOf` which puts a state
+-- together again, name each state; all else that is said of a state is said by them.
+use Prim.Native.Nat.{ℕ}
+use mathlib.Core.Path.{_≡_}
+use mathlib.Core.Bool.{Bool, _||_}
+use lib.Dec.{eqb}
+use Rattle.executive.specs.declared.Millis.{Millis}
+use Rattle.executive.specs.declared.Mode.{Mode}
+use Rattle.executive.specs.declared.Mode.the-variants.{Any, All}
+use Rattle.executive.specs.declared.State.{State}
+use Rattle.executive.specs.declared.State.the-variants.{Dormant, Ready, Paused, Due, Flags, AwaitStart, AwaitEnd}
+use Rattle.executive.specs.Queue.{pick, one}
+use Rattle.executive.specs.Table.{never}
+
+-- ---- the kinds of state, numbered: the check goes by these numbers, and a table's image holds them
+abbrev pub dormant : ℕ
+dormant = 0
+
+abbrev pub ready : ℕ
+ready = 1
+
+abbrev pub paused : ℕ
+paused = 2
+
+abbrev pub due : ℕ
+due = 3
+
+abbrev pub awaitAny : ℕ
+awaitAny = 4
+
+abbrev pub awaitAll : ℕ
+awaitAll = 5
+
+abbrev pub awaitStart : ℕ
+awaitStart = 6
+
+abbrev pub awaitEnd : ℕ
+awaitEnd = 7
+
+abbrev pub kindOf : State → ℕ
+kindOf Dormant = dormant
+kindOf Ready = ready
+kindOf (Paused at) = paused
+kindOf (Due at) = due
+kindOf (Flags Any mask) = awaitAny
+kindOf (Flags All mask) = awaitAll
+kindOf AwaitStart = awaitStart
+kindOf AwaitEnd = awaitEnd
+
+-- ---- the time until which it waits, and the flags for which it waits; 0 where it holds none
+abbrev pub timeOf : State → Millis
+timeOf Dormant = never
+timeOf Ready = never
+timeOf (Paused at) = at
+timeOf (Due at) = at
+timeOf (Flags m mask) = never
+timeOf AwaitStart = never
+timeOf AwaitEnd = never
+
+abbrev pub maskOf : State → ℕ
+maskOf Dormant = 0
+maskOf Ready = 0
+maskOf (Paused at) = 0
+maskOf (Due at) = 0
+maskOf (Flags m mask) = mask
+maskOf AwaitStart = 0
+maskOf AwaitEnd = 0
+
+-- ---- the state of a kind, a time and a mask; a number that is no kind is a wait for any flag of no mask, which no
+-- well-formed table holds
+unfoldable pub stateOf : ℕ → Millis → ℕ → State
+stateOf kind time mask =
+    pick (eqb kind dormant) Dormant
+    (pick (eqb kind ready) Ready
+    (pick (eqb kind paused) (Paused time)
+    (pick (eqb kind due) (Due time)
+    (pick (eqb kind awaitAny) (Flags Any mask)
+    (pick (eqb kind awaitAll) (Flags All mask)
+    (pick (eqb kind awaitStart) AwaitStart
+    (pick (eqb kind awaitEnd) AwaitEnd
+    (Flags Any 0))))))))
+
+-- ---- whether a state is of kind n; the same as a count, 1 where it is, else 0
+abbrev pub isOf : ℕ → State → Bool
+isOf n s = eqb n (kindOf s)
+
+abbrev pub is : ℕ → State → ℕ
+is n s = one (isOf n s)
+
+abbrev pub isDormant : State → Bool
+isDormant s = isOf dormant s
+
+-- one that is due to restart is not paused
+abbrev pub isPaused : State → Bool
+isPaused s = isOf paused s
+
+-- a paused and a due task have a time
+abbrev pub hasTime : State → Bool
+hasTime s = isOf paused s || isOf due s
+
+-- a task that waits for flags has a mask, and waits for any or for all of it
+abbrev pub hasMask : State → Bool
+hasMask s = isOf awaitAny s || isOf awaitAll s
+
+abbrev pub waitMode : State → Mode
+waitMode s = pick (isOf awaitAll s) All Any
+
+-- ---- the contracts: r is the state's kind, its time, its mask
+abbrev pub KindIs : State → ℕ → Type 0
+KindIs s r = r ≡ kindOf s
+
+abbrev pub TimeIs : State → Millis → Type 0
+TimeIs s r = r ≡ timeOf s
+
+abbrev pub MaskIs : State → ℕ → Type 0
+MaskIs s r = r ≡ maskOf s
+
+-- the three tell the state, and there is one answer each
+pub record StatesTold : Type 0 where
+  pub back : (s : State) → stateOf (kindOf s) (timeOf s) (maskOf s) ≡ s
+  pub kind-determined : (s : State) (x y : ℕ) → KindIs s x → KindIs s y → x ≡ y
+  pub time-determined : (s : State) (x y : Millis) → TimeIs s x → TimeIs s y → x ≡ y
+  pub mask-determined : (s : State) (x y : ℕ) → MaskIs s x → MaskIs s y → x ≡ y

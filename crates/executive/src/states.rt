@@ -1,0 +1,121 @@
+// A task's state: its kind, its time and its mask. Only these match each state; all else asks them.
+use crate::Millis;
+use crate::Mode;
+use crate::State;
+ghost use mathlib.Core.Path.{_≡_};
+ghost use Rattle.executive.specs.States.{KindIs, TimeIs, MaskIs, StatesTold, isOf, isDormant, isPaused, hasTime, hasMask, waitMode};
+
+// The kinds of state. The check goes by these numbers, and a table's image holds them.
+const DORMANT: u8 = 0;
+
+pub(crate) const READY: u8 = 1;
+
+const PAUSED: u8 = 2;
+
+pub(crate) const DUE: u8 = 3;
+
+const AWAIT_ANY: u8 = 4;
+
+const AWAIT_ALL: u8 = 5;
+
+pub(crate) const AWAIT_START: u8 = 6;
+
+pub(crate) const AWAIT_END: u8 = 7;
+
+// The kind of a state.
+pub fn kind_of(s: State) -> u8
+    ensures { λ r. ⌜ KindIs s r ⌝ }
+{
+    match s {
+        State::Dormant => DORMANT,
+        State::Ready => READY,
+        State::Paused(_) => PAUSED,
+        State::Due(_) => DUE,
+        State::Flags(mode, _) => match mode {
+            Mode::Any => AWAIT_ANY,
+            Mode::All => AWAIT_ALL,
+        },
+        State::AwaitStart => AWAIT_START,
+        State::AwaitEnd => AWAIT_END,
+    }
+}
+
+// The time until which a task in this state waits; 0 where it waits for none.
+pub fn time_of(s: State) -> Millis
+    ensures { λ r. ⌜ TimeIs s r ⌝ }
+{
+    match s {
+        State::Paused(at) => at,
+        State::Due(at) => at,
+        State::Dormant => Millis(0),
+        State::Ready => Millis(0),
+        State::Flags(_, _) => Millis(0),
+        State::AwaitStart => Millis(0),
+        State::AwaitEnd => Millis(0),
+    }
+}
+
+// The flags for which a task in this state waits; 0 where it waits for none.
+pub fn mask_of(s: State) -> u32
+    ensures { λ r. ⌜ MaskIs s r ⌝ }
+{
+    match s {
+        State::Flags(_, mask) => mask,
+        State::Dormant => 0,
+        State::Ready => 0,
+        State::Paused(_) => 0,
+        State::Due(_) => 0,
+        State::AwaitStart => 0,
+        State::AwaitEnd => 0,
+    }
+}
+
+// Whether a state is of a kind.
+pub(crate) fn is_of(s: State, kind: u8) -> bool
+    ensures { λ r. ⌜ r ≡ isOf kind s ⌝ }
+{
+    kind == kind_of(s)
+}
+
+// Whether a task is dormant.
+pub(crate) fn is_dormant(s: State) -> bool
+    ensures { λ r. ⌜ r ≡ isDormant s ⌝ }
+{
+    is_of(s, DORMANT)
+}
+
+// Whether a task is paused; one that is due to restart is not.
+pub(crate) fn is_paused(s: State) -> bool
+    ensures { λ r. ⌜ r ≡ isPaused s ⌝ }
+{
+    is_of(s, PAUSED)
+}
+
+// Whether a task waits for a time: a paused or a due one.
+pub(crate) fn has_time(s: State) -> bool
+    ensures { λ r. ⌜ r ≡ hasTime s ⌝ }
+{
+    is_paused(s) || is_of(s, DUE)
+}
+
+// Whether a task waits for flags.
+pub(crate) fn has_mask(s: State) -> bool
+    ensures { λ r. ⌜ r ≡ hasMask s ⌝ }
+{
+    is_of(s, AWAIT_ANY) || is_of(s, AWAIT_ALL)
+}
+
+// Whether it waits for any or for all of them.
+pub(crate) fn wait_mode(s: State) -> Mode
+    ensures { λ r. ⌜ r ≡ waitMode s ⌝ }
+{
+    if is_of(s, AWAIT_ALL) {
+        return Mode::All;
+    }
+    Mode::Any
+}
+
+// What is shown of them: kind, time and mask tell the state, and each has one answer.
+fn states_told()
+    ensures { λ r. ⌜ StatesTold ⌝ }
+{}
