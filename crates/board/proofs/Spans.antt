@@ -5,7 +5,7 @@ use mathlib.Core.List.{List, [], _∷_, _++_, append-nil, append-assoc}
 use native.Mathlib.Omega.{arith}
 use native.Mathlib.Nat.{add-zero, add-assoc, add-comm, suc-mul, zero-mul, not-suc-le-zero, le-of-suc-le-suc}
 use native.Mathlib.Numerals.{add-one}
-use lib.ListN.{length, getD, take, drop, set, length-append, length-drop, take-append-drop, drop-of-length-le}
+use lib.ListN.{length, getD, take, drop, set, length-append, take-append-drop, drop-of-length-le}
 use lib.Seq.{take-at, drop-at, drop-drop, length-take-le, take-set-le, set-split, take-suc, take-suc-set, take-all}
 use Rattle.records.specs.Numbers.{bytesIn}
 use Rattle.board.specs.Blocks.{row, blocks, written}
@@ -19,13 +19,6 @@ written-none o at = rw (add-zero at) (take-append-drop at o)
 module _ (o : List ℕ) (at : ℕ) (bs : List ℕ) (h : at + length bs ≤ length o) where
   head-length : length (take at o ++ bs) ≡ at + length bs
   head-length = length-append (take at o) bs ∙ ap (λ n. n + length bs) (length-take-le at o (omega arith))
-
-  pub length-written : length (written o at bs) ≡ length o
-  unfolding written
-  length-written =
-      ap length (sym (append-assoc (take at o) bs (drop (at + length bs) o)))
-      ∙ length-append (take at o ++ bs) (drop (at + length bs) o)
-      ∙ rw (head-length, length-drop (at + length bs) o) (omega arith)
 
   take-written : take (at + length bs) (written o at bs) ≡ take at o ++ bs
   unfolding written

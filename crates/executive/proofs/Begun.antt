@@ -22,7 +22,7 @@ use Rattle.executive.proofs.Chosen.{dispatches}
 use Rattle.executive.proofs.Law.{clash, not-zero}
 use Rattle.executive.proofs.Flight.{admits-rest, carry-still}
 use Rattle.executive.proofs.Moved.{at-other}
-use Rattle.executive.proofs.Size.{sum-none}
+use Rattle.executive.proofs.Size.{sum-zeros}
 use Rattle.executive.proofs.Sums.{put-length}
 use Rattle.executive.proofs.QueueKept.{not-both}
 use Rattle.executive.proofs.LinksKept.{put-all, Up, ok-up, up-ok}
@@ -31,8 +31,7 @@ use Rattle.executive.proofs.Formed.{Own, blank-own, busy-own, LinksOk, 
 use Rattle.executive.proofs.Kept.{puts, Good, Kept, apply-kept}
 use Rattle.executive.proofs.Rising.{Done, differ}
 use Rattle.executive.proofs.Settings.{dormant-fit}
-use Rattle.executive.proofs.Shape.{Told, told}
-use Rattle.executive.specs.declared.State.the-variants.{Dormant, Ready}
+use Rattle.executive.proofs.Shape.{Configured, configured}
 
 -- ---- the dormant table
 pad-at : {A : Type 0} (d : A) (n : ℕ) (xs : List A) (i : ℕ) → getD (pad n d xs) i d ≡ getD xs i d
@@ -66,7 +65,7 @@ module _ (s : List ℕ) (n : ℕ) where
 
   runs-none : (k : ℕ) → 0 < k → runsOf k asleep ≡ 0
   unfolding taskAt
-  runs-none k h = sum-none (λ (e : Task). one (eqb k (e .«end_waiter» .0))) asleep (λ i. any-asleep (λ e. one (eqb k (e .«end_waiter» .0)) ≡ 0) (λ _. ap one (not-zero k h)) (suc i))
+  runs-none k h = sum-zeros (λ (e : Task). one (eqb k (e .«end_waiter» .0))) asleep (λ i. any-asleep (λ e. one (eqb k (e .«end_waiter» .0)) ≡ 0) (λ _. ap one (not-zero k h)) (suc i))
 
   asleep-links : LinksOk asleep []
   unfolding sumOf
@@ -107,7 +106,7 @@ blank-rested n g h l m u = record {
   neat = record { room = zero-le; clear = refl };
 }
 
-pub dormant-formed : (s : List ℕ) → Bytes s → Told s → Formed (dormantTable s)
+pub dormant-formed : (s : List ℕ) → Bytes s → Configured s → Formed (dormantTable s)
 unfolding dormantTable
 dormant-formed s b c = record {
   fit = dormant-fit s (tasksIn s) (granuleIn s) (c .few);
@@ -161,7 +160,7 @@ module _ (s : List ℕ) (n : ℕ) (few : n ≤ 16) (right : (k : ℕ) → 0 < k 
 abbrev pub startsPlan : List ℕ → Plan
 startsPlan s = record { out = stays; ins = starters s (tasksIn s) 1; rest = dormantTable s .rest }
 
-starts-good : (s : List ℕ) → Bytes s → Told s → Good (startsPlan s) (dormantTable s)
+starts-good : (s : List ℕ) → Bytes s → Configured s → Good (startsPlan s) (dormantTable s)
 unfolding dormantTable
 starts-good s b c =
     let f : Formed (dormantTable s) = dormant-formed s b c in
@@ -174,7 +173,7 @@ starts-good s b c =
     record { leaving = refl; joining = d .joining; linked = up-ok (d .linked); own = d .own; rested = f .rested }
 
 pub starts-kept : (s : List ℕ) → Bytes s → isConfiguration s ≡ true → Kept (startsPlan s) (dormantTable s)
-starts-kept s b e = let c = told s e in apply-kept (startsPlan s) (dormantTable s) (dormant-formed s b c) (starts-good s b c)
+starts-kept s b e = let c = configured s e in apply-kept (startsPlan s) (dormantTable s) (dormant-formed s b c) (starts-good s b c)
 
 -- in flight it is the fresh table
 starts-are : (s : List ℕ) → carry (startsPlan s) (dormantTable s) ≡ admits (starters s (tasksIn s) 1) (begin (dormantTable s))

@@ -49,8 +49,8 @@ not-of false e = refl
 pub of-not : (b : Bool) → b ≡ false → not b ≡ true
 of-not b e = rw e refl
 
-pub within : (m n : ℕ) → leb m n ≡ true → one (ltb n m) ≡ 0
-within m n e = ap one (le-ltb n m (leb-true m n e))
+pub leb-none : (m n : ℕ) → leb m n ≡ true → one (ltb n m) ≡ 0
+leb-none m n e = ap one (le-ltb n m (leb-true m n e))
 
 pub in-reach : (m n : ℕ) → one (ltb n m) ≡ 0 → leb m n ≡ true
 in-reach m n e = go (ltb n m) refl e

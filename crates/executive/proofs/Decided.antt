@@ -105,9 +105,9 @@ pub step-number : (t : Table) (s : List ℕ) → stepOf t s .answer .number ≡ 
 unfolding stepOf
 step-number t s = number-is t (firstOf (refusals t s)) (callIn s)
 
-pub decided : (t : Table) (s : List ℕ) → Decides (refusals t s) (stepOf t s .answer .number)
+pub number-decided : (t : Table) (s : List ℕ) → Decides (refusals t s) (stepOf t s .answer .number)
 unfolding stepOf
-decided t s = rw (number-is t (firstOf (refusals t s)) (callIn s)) (first-decides (refusals t s) (numbers t s))
+number-decided t s = rw (number-is t (firstOf (refusals t s)) (callIn s)) (first-decides (refusals t s) (numbers t s))
 
 -- accepted: no condition holds, and the table is well formed
 pub allowed : (t : Table) (s : List ℕ) → stepOf t s .answer .number ≡ 0 → firstOf (refusals t s) ≡ 0

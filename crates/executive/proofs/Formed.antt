@@ -1,5 +1,5 @@
 -- The working form of a well-formed table: the rules grouped by what a step changes. It says what `WellFormed` says, both ways.
-use mathlib.Core.Path.{_≡_, refl, ap, _∙_, sym}
+use mathlib.Core.Path.{_≡_, refl, ap, _∙_}
 use mathlib.Core.Bool.{Bool, true, false}
 use mathlib.Core.List.{List, [], _∷_}
 use Prim.Native.Nat.{ℕ, zero, suc, _+_, _≤_, _<_, zero-le}
@@ -7,7 +7,6 @@ use native.Mathlib.Omega.{arith}
 use lib.Dec.{eqb, ltb, eqb→eq}
 use lib.ListN.{length, getD}
 use Rattle.executive.specs.declared.State.{State}
-use Rattle.executive.specs.declared.State.the-variants.{Dormant}
 use Rattle.executive.specs.declared.Task.{Task}
 use Rattle.executive.specs.declared.Request.{Request}
 use Rattle.executive.specs.declared.Rest.{Rest}
@@ -15,7 +14,7 @@ use Rattle.executive.specs.declared.Table.{Table}
 use Rattle.executive.specs.Numbers.{mostTasks, flagCount, highest, mostGranule, endOfTime}
 use Rattle.executive.specs.Queue.{one}
 use Rattle.executive.specs.Table.{Neat, Fit, never, noTask, line, requests, taskAt}
-use Rattle.executive.specs.States.{dormant, ready, awaitStart, awaitEnd, is, isDormant, hasTime, hasMask}
+use Rattle.executive.specs.States.{dormant, ready, awaitStart, awaitEnd, is, isDormant}
 use Rattle.executive.specs.WellFormed.{sumOf, targetsOf, startsOf, endsOf, runsOf, steepOf, wildOf, selfsOf, twiceOf, idleOf, Line, Stored, Timely, Unmet, Zeros, WellFormed}
 use Rattle.executive.proofs.Named.{dormant-named, dormant-kind}
 use Rattle.executive.proofs.Law.{T-of, eqb-self, not-zero, Lt, lt-yes, lt-no, ltb-is, clash}
@@ -72,8 +71,8 @@ pub blank-own : {c fs n k : ℕ} → Own c fs n k noTask
 blank-own = record { calm = (clash, clash); started = zero-le; level = zero-le; home = zero-le; zeros = λ _. record { priority = refl; argument = refl; start = refl; waiter = refl }; beyond = λ _. refl }
 
 -- a busy task's number is at most the count
-pub within : {c fs n k : ℕ} {e : Task} → Own c fs n k e → is dormant (e .state) ≡ 0 → k ≤ n
-within {c} {fs} {n} {k} {e} o b = go (ltb n k) (ltb-is n k)
+pub busy-within : {c fs n k : ℕ} {e : Task} → Own c fs n k e → is dormant (e .state) ≡ 0 → k ≤ n
+busy-within {c} {fs} {n} {k} {e} o b = go (ltb n k) (ltb-is n k)
   where
     go : (x : Bool) → Lt n k x → k ≤ n
     go true (lt-yes h) = absurd (omega (arith, rw (o .beyond h) at b))

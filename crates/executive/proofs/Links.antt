@@ -13,21 +13,11 @@ use Rattle.executive.specs.Rests.{placeOf, removed}
 use Rattle.executive.specs.Table.{Names, noRequest, taskAt, putAt}
 use Rattle.executive.specs.States.{dormant, ready, awaitStart, awaitEnd, is}
 use Rattle.executive.specs.WellFormed.{sumOf, startsOf, endsOf, runsOf, targetsOf, selfsOf}
-use Rattle.executive.proofs.Law.{T-of, eqb-self, not-zero}
+use Rattle.executive.proofs.Law.{T-of, eqb-self, not-zero, one-zero}
 use Rattle.executive.proofs.Moved.{eqb-no, eqb-swap}
 use Rattle.executive.proofs.Sums.{sum-snoc}
 use Rattle.executive.proofs.QueueKept.{not-both, busy-names}
 use Rattle.executive.proofs.LinksKept.{wt, wt-zero, wt-one, Up, up-put}
-
-w0 : (b : Bool) (n : ℕ) → n ≡ 0 → wt b n ≡ 0
-w0 b n h = ap (wt b) h ∙ wt-zero b
-
-w1 : (b : Bool) (n : ℕ) → n ≡ 1 → wt b n ≡ one b
-w1 b n h = ap (wt b) h ∙ wt-one b
-
-one-zero : (b : Bool) → one b ≡ 0 → b ≡ false
-one-zero true h = absurd (omega arith)
-one-zero false h = refl
 
 module _ (ts : List Task) (p : List Request) (j : ℕ) (e : Task) where
   abbrev old : Task
@@ -54,8 +44,8 @@ module _ (ts : List Task) (p : List Request) (j : ℕ) (e : Task) where
       let n : Names j ts = busy-names ts j (omega arith) in
       up-put ts p j e 0 0 0 (old .«end_waiter» .0) 0 j (record {
         names = n;
-        starts = λ k h. omega (arith, w0 (eqb k j) (is awaitStart (old .state)) (omega arith), w0 (eqb k j) (is awaitStart (e .state)) (omega arith));
-        ends = λ k h. omega (arith, w0 (eqb k j) (is awaitEnd (old .state)) (omega arith), w0 (eqb k j) (is awaitEnd (e .state)) (omega arith), ap (λ x. one (eqb k x)) g);
+        starts = λ k h. omega (arith, wt-zero (eqb k j) (is awaitStart (old .state)) (omega arith), wt-zero (eqb k j) (is awaitStart (e .state)) (omega arith));
+        ends = λ k h. omega (arith, wt-zero (eqb k j) (is awaitEnd (old .state)) (omega arith), wt-zero (eqb k j) (is awaitEnd (e .state)) (omega arith), ap (λ x. one (eqb k x)) g);
         apart = ap (eqb j) g ∙ not-zero j (n .0);
         quiet = λ _. g;
         busy-own = λ x. absurd (eqb-no j j x refl);
@@ -70,8 +60,8 @@ module _ (ts : List Task) (p : List Request) (j : ℕ) (e : Task) where
       let n : Names j ts = busy-names ts j (omega arith) in
       up-put ts p j e 0 0 0 (old .«end_waiter» .0) 0 0 (record {
         names = n;
-        starts = λ k h. omega (arith, w0 (eqb k j) (is awaitStart (old .state)) (omega arith), w0 (eqb k j) (is awaitStart (e .state)) (omega arith));
-        ends = λ k h. omega (arith, w0 (eqb k j) (is awaitEnd (old .state)) (omega arith), w0 (eqb k j) (is awaitEnd (e .state)) (omega arith), ap (λ x. one (eqb k x)) g);
+        starts = λ k h. omega (arith, wt-zero (eqb k j) (is awaitStart (old .state)) (omega arith), wt-zero (eqb k j) (is awaitStart (e .state)) (omega arith));
+        ends = λ k h. omega (arith, wt-zero (eqb k j) (is awaitEnd (old .state)) (omega arith), wt-zero (eqb k j) (is awaitEnd (e .state)) (omega arith), ap (λ x. one (eqb k x)) g);
         apart = ap (eqb j) g ∙ not-zero j (n .0);
         quiet = λ _. g;
         busy-own = λ _. omega arith;
@@ -89,8 +79,8 @@ module _ (ts : List Task) (p : List Request) (j : ℕ) (e : Task) where
         omega arith,
         up-put ts p j e j s d 0 s d (record {
           names = busy-names ts j (omega arith);
-          starts = λ k h. omega (arith, w0 (eqb k j) (is awaitStart (old .state)) (omega arith), w0 (eqb k j) (is awaitStart (e .state)) (omega arith));
-          ends = λ k h. omega (arith, w1 (eqb k j) (is awaitEnd (old .state)) (omega arith), w0 (eqb k j) (is awaitEnd (e .state)) (omega arith), ap (λ x. one (eqb k x)) g, ap one (not-zero k h));
+          starts = λ k h. omega (arith, wt-zero (eqb k j) (is awaitStart (old .state)) (omega arith), wt-zero (eqb k j) (is awaitStart (e .state)) (omega arith));
+          ends = λ k h. omega (arith, wt-one (eqb k j) (is awaitEnd (old .state)) (omega arith), wt-zero (eqb k j) (is awaitEnd (e .state)) (omega arith), ap (λ x. one (eqb k x)) g, ap one (not-zero k h));
           apart = ap (eqb j) g ∙ l .apart j h₀;
           quiet = λ u. absurd (omega arith);
           busy-own = λ _. omega arith;
@@ -109,8 +99,8 @@ module _ (ts : List Task) (p : List Request) (j : ℕ) (e : Task) where
         omega arith,
         up-put ts p j e w j d w 0 d (record {
           names = busy-names ts j (omega arith);
-          starts = λ k h. omega (arith, w1 (eqb k j) (is awaitStart (old .state)) (omega arith), w0 (eqb k j) (is awaitStart (e .state)) (omega arith), ap one (not-zero k h));
-          ends = λ k h. omega (arith, w0 (eqb k j) (is awaitEnd (old .state)) (omega arith), w0 (eqb k j) (is awaitEnd (e .state)) (omega arith), ap (λ x. one (eqb k x)) g);
+          starts = λ k h. omega (arith, wt-one (eqb k j) (is awaitStart (old .state)) (omega arith), wt-zero (eqb k j) (is awaitStart (e .state)) (omega arith), ap one (not-zero k h));
+          ends = λ k h. omega (arith, wt-zero (eqb k j) (is awaitEnd (old .state)) (omega arith), wt-zero (eqb k j) (is awaitEnd (e .state)) (omega arith), ap (λ x. one (eqb k x)) g);
           apart = ap (eqb j) g ∙ l .apart j h₀;
           quiet = λ u. absurd (omega arith);
           busy-own = λ _. omega arith;
@@ -126,11 +116,11 @@ module _ (ts : List Task) (p : List Request) (j : ℕ) (e : Task) where
       let y : is ready (e .state) + is dormant (e .state) + is awaitStart (e .state) + is awaitEnd (e .state) ≤ 1 = not-both (e .state) in
       up-put ts p j e w s d 0 s 0 (record {
         names = n;
-        starts = λ k h. omega (arith, w0 (eqb k j) (is awaitStart (old .state)) (omega arith), w0 (eqb k j) (is awaitStart (e .state)) (omega arith));
+        starts = λ k h. omega (arith, wt-zero (eqb k j) (is awaitStart (old .state)) (omega arith), wt-zero (eqb k j) (is awaitStart (e .state)) (omega arith));
         ends = λ k h. omega (
           arith,
-          w0 (eqb k j) (is awaitEnd (old .state)) (omega arith),
-          w0 (eqb k j) (is awaitEnd (e .state)) (omega arith),
+          wt-zero (eqb k j) (is awaitEnd (old .state)) (omega arith),
+          wt-zero (eqb k j) (is awaitEnd (e .state)) (omega arith),
           ap (λ x. one (eqb k x)) g,
           ap (λ x. one (eqb k x)) (l .quiet j z),
           ap one (not-zero k h),
@@ -149,8 +139,8 @@ module _ (ts : List Task) (p : List Request) (j : ℕ) (e : Task) where
       let n : Names j ts = busy-names ts j (omega arith) in
       up-put ts p j e 0 s d j s d (record {
         names = n;
-        starts = λ k h. omega (arith, w0 (eqb k j) (is awaitStart (old .state)) (omega arith), w0 (eqb k j) (is awaitStart (e .state)) (omega arith));
-        ends = λ k h. omega (arith, w0 (eqb k j) (is awaitEnd (old .state)) (omega arith), w1 (eqb k j) (is awaitEnd (e .state)) (omega arith), ap (λ x. one (eqb k x)) g, ap one (not-zero k h));
+        starts = λ k h. omega (arith, wt-zero (eqb k j) (is awaitStart (old .state)) (omega arith), wt-zero (eqb k j) (is awaitStart (e .state)) (omega arith));
+        ends = λ k h. omega (arith, wt-zero (eqb k j) (is awaitEnd (old .state)) (omega arith), wt-one (eqb k j) (is awaitEnd (e .state)) (omega arith), ap (λ x. one (eqb k x)) g, ap one (not-zero k h));
         apart = ap (eqb j) g ∙ l .apart j (n .0);
         quiet = λ u. absurd (omega arith);
         busy-own = λ _. omega arith;
@@ -164,8 +154,8 @@ module _ (ts : List Task) (p : List Request) (j : ℕ) (e : Task) where
       let n : Names j ts = busy-names ts j (omega arith) in
       up-put ts p j e w 0 d w j d (record {
         names = n;
-        starts = λ k h. omega (arith, w0 (eqb k j) (is awaitStart (old .state)) (omega arith), w1 (eqb k j) (is awaitStart (e .state)) (omega arith), ap one (not-zero k h));
-        ends = λ k h. omega (arith, w0 (eqb k j) (is awaitEnd (old .state)) (omega arith), w0 (eqb k j) (is awaitEnd (e .state)) (omega arith), ap (λ x. one (eqb k x)) g);
+        starts = λ k h. omega (arith, wt-zero (eqb k j) (is awaitStart (old .state)) (omega arith), wt-one (eqb k j) (is awaitStart (e .state)) (omega arith), ap one (not-zero k h));
+        ends = λ k h. omega (arith, wt-zero (eqb k j) (is awaitEnd (old .state)) (omega arith), wt-zero (eqb k j) (is awaitEnd (e .state)) (omega arith), ap (λ x. one (eqb k x)) g);
         apart = ap (eqb j) g ∙ l .apart j (n .0);
         quiet = λ u. absurd (omega arith);
         busy-own = λ _. omega arith;
@@ -226,10 +216,10 @@ place-target c (r ∷ p) h = go (eqb c (r .target .0)) refl h (place-target c p)
     go true e h ih = sym (eqb→eq c (r .target .0) (T-of (eqb c (r .target .0)) e))
     go false e h ih = ih (omega arith)
 
-pub place-none : (c : ℕ) (p : List Request) → length p ≤ placeOf c p → targetsOf c p ≡ 0
+pub none-asked : (c : ℕ) (p : List Request) → length p ≤ placeOf c p → targetsOf c p ≡ 0
 unfolding placeOf sumOf
-place-none c [] h = refl
-place-none c (r ∷ p) h = go (eqb c (r .target .0)) h (place-none c p)
+none-asked c [] h = refl
+none-asked c (r ∷ p) h = go (eqb c (r .target .0)) h (none-asked c p)
   where
     go : (b : Bool) → suc (length p) ≤ pick b 0 (suc (placeOf c p)) → (length p ≤ placeOf c p → targetsOf c p ≡ 0) → one b + targetsOf c p ≡ 0
     go true h ih = absurd (omega arith)

@@ -21,13 +21,13 @@ use Rattle.executive.proofs.Sums.{sum-put, put-at}
 abbrev pub wt : Bool → ℕ → ℕ
 wt b n = pick b n 0
 
-pub wt-zero : (b : Bool) → wt b 0 ≡ 0
-wt-zero true = refl
-wt-zero false = refl
+pub wt-zero : (b : Bool) (n : ℕ) → n ≡ 0 → wt b n ≡ 0
+wt-zero true n h = h
+wt-zero false n h = refl
 
-pub wt-one : (b : Bool) → wt b 1 ≡ one b
-wt-one true = refl
-wt-one false = refl
+pub wt-one : (b : Bool) (n : ℕ) → n ≡ 1 → wt b n ≡ one b
+wt-one true n h = h
+wt-one false n h = refl
 
 -- what a reading of a task says after a store, as a sum: what was there goes, what is stored comes
 pub put-add : (f : Task → ℕ) (ts : List Task) (j k : ℕ) (e : Task) → Names j ts

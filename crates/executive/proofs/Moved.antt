@@ -1,7 +1,7 @@
 -- A step's table has the queue that its plan's moves make: shown once, for every plan.
 use mathlib.Core.Path.{_≡_, refl, sym, ap, ap₂, subst, subst₂, _∙_}
 use mathlib.Core.Bool.{Bool, true, false}
-use mathlib.Core.List.{List, [], _∷_, _++_, tail}
+use mathlib.Core.List.{List, [], _∷_, tail}
 use Prim.Native.Nat.{ℕ, zero, suc, _+_}
 use native.Mathlib.Omega.{arith}
 use mathlib.Core.Logic.{_≢_}
@@ -9,10 +9,9 @@ use lib.Dec.{eqb, eqb→eq}
 use lib.Seq.{getD-set-same, getD-set-other}
 use Rattle.records.specs.declared.TaskNo.{TaskNo}
 use Rattle.executive.specs.declared.Task.{Task}
-use Rattle.executive.specs.declared.Rest.{Rest}
 use Rattle.executive.specs.declared.Table.{Table}
 use Rattle.executive.specs.Queue.{Item, one, insert, inserts, left, play, count, Fresh}
-use Rattle.executive.specs.Table.{Names, withRest, noTask, nobody, line, taskAt, putAt, items, view, enterAt, headOf, Out, stays, leaves, Join, Plan, departed, entered, depart, join, joins, apply, left?, change-at, enters-as, outTasks, entries, movesOf}
+use Rattle.executive.specs.Table.{Names, noTask, nobody, line, taskAt, putAt, items, view, enterAt, headOf, Out, stays, leaves, Join, Plan, departed, entered, depart, join, joins, apply, left?, change-at, enters-as, outTasks, entries, movesOf}
 use Rattle.executive.proofs.Pad.{line-pad}
 use Rattle.executive.proofs.Law.{T-of, eqb-self, items-enter}
 
@@ -119,12 +118,3 @@ apply-view p t s =
     (r .0 ∙ ap₂ inserts e v, subst₂ Fresh e v (r .1))
 
 -- ---- for the code: entries one after the other, and the rest of the table set before or after them
-pub joins-append : (a b : List Join) (t : Table) → joins (a ++ b) t ≡ joins b (joins a t)
-unfolding joins
-joins-append [] b t = refl
-joins-append (j ∷ a) b t = joins-append a b (join j t)
-
-pub joins-rest : (r : Rest) (js : List Join) (t : Table) → joins js (withRest r t) ≡ withRest r (joins js t)
-unfolding joins join entered
-joins-rest r [] t = refl
-joins-rest r (j ∷ js) t = joins-rest r js (join j t)

@@ -3,7 +3,6 @@
 use Prim.Native.Nat.{ℕ, _+_}
 use mathlib.Core.Path.{_≡_, refl, sym, ap, subst, _∙_}
 use mathlib.Core.Bool.{Bool, true, false, _||_}
-use native.Mathlib.Omega.{arith}
 use borrow.Author.Tests.{eqb-true}
 use lib.Dec.{eqb}
 use Rattle.executive.specs.declared.Mode.{Mode}
@@ -13,6 +12,7 @@ use Rattle.executive.specs.declared.State.the-variants.{Dormant, Ready, 
 use Rattle.executive.specs.Queue.{one}
 use Rattle.executive.specs.States.{dormant, ready, paused, due, awaitAny, awaitAll, awaitStart, awaitEnd, kindOf, timeOf, maskOf, stateOf}
 use Rattle.executive.specs.States.{isOf, is, isDormant, hasTime, hasMask, waitMode, StatesTold}
+use Rattle.executive.proofs.Law.{one-true}
 
 -- ---- the three tell the state
 pub state-back : (s : State) → stateOf (kindOf s) (timeOf s) (maskOf s) ≡ s
@@ -28,10 +28,6 @@ state-back AwaitEnd = refl
 
 told : (s : State) (n : ℕ) → isOf n s ≡ true → s ≡ stateOf n (timeOf s) (maskOf s)
 told s n e = sym (state-back s) ∙ ap (λ (k : ℕ). stateOf k (timeOf s) (maskOf s)) (sym (eqb-true n (kindOf s) e))
-
-one-true : (b : Bool) → one b ≡ 1 → b ≡ true
-one-true true e = refl
-one-true false e = absurd (omega arith)
 
 pub dormant-is : (s : State) → isDormant s ≡ true → s ≡ Dormant
 unfolding stateOf

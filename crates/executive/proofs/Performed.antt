@@ -108,9 +108,6 @@ pub performed-is : (t : Table) (c : Call) → WellFormed t → InRange c → Exe
 unfolding performed planned
 performed-is t c w r = outcome-is t (firstOf (callRefusals t c)) c (formed w) (λ e. call-good t c (formed w) r (clear-of t c (early t c e)))
 
-pub performed-kept : (t : Table) (c : Call) → WellFormed t → InRange c → WellFormed (performed t c .table)
-performed-kept t c w r = let x = performed-is t c w r in rw (x .table) (well-formed (apply (planned t c) t) (x .kept .formed))
-
 -- ---- a record's bytes: the call that is read from bytes fits its bytes
 pub call-in-range : (s : List ℕ) → Bytes s → InRange (callIn s)
 call-in-range s b = go (readOf s) (promises .read-in-range s b)

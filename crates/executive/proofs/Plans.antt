@@ -13,7 +13,7 @@ use Rattle.executive.specs.declared.Millis.{Millis}
 use Rattle.executive.specs.declared.Wait.{Wait}
 use Rattle.executive.specs.declared.Wait.the-variants.{Goes, ForStart, ForEnd}
 use Rattle.executive.specs.declared.State.{State}
-use Rattle.executive.specs.declared.State.the-variants.{Ready, Paused, AwaitStart, AwaitEnd, Dormant}
+use Rattle.executive.specs.declared.State.the-variants.{Ready, Paused, AwaitStart, AwaitEnd}
 use Rattle.executive.specs.declared.Task.{Task}
 use Rattle.executive.specs.declared.Request.{Request}
 use Rattle.executive.specs.declared.Rest.{Rest}
@@ -26,8 +26,8 @@ use Rattle.executive.specs.Table.{Neat, nobody, noRequest, outTasks, lin
 use Rattle.executive.specs.States.{dormant, ready, awaitStart, awaitEnd, is, kindOf}
 use Rattle.executive.specs.Time.{interval, aimAt}
 use Rattle.executive.specs.WellFormed.{steepOf, Line}
-use Rattle.executive.proofs.Formed.{Calm, Own, AllOwn, LinksOk, Rested, Formed, within, busy-own}
-use Rattle.executive.proofs.Law.{not-zero, one-ge, clash}
+use Rattle.executive.proofs.Formed.{Calm, Own, AllOwn, LinksOk, Rested, Formed, busy-within, busy-own}
+use Rattle.executive.proofs.Law.{not-zero, one-ge, clash, one-zero}
 use Rattle.executive.proofs.Pad.{line-pad}
 use Rattle.executive.proofs.Fits.{line-length, requests-length, removed-neat, queued-neat}
 use Rattle.executive.proofs.Interval.{interval-most, interval-some, aim-most}
@@ -35,7 +35,7 @@ use Rattle.executive.proofs.Moved.{at-same, at-other, eqb-no}
 use Rattle.executive.proofs.Sums.{put-length, sum-snoc}
 use Rattle.executive.proofs.QueueKept.{not-both, busy-names, head-is}
 use Rattle.executive.proofs.LinksKept.{put-all, Up, ok-up, up-ok}
-use Rattle.executive.proofs.Links.{alike, retire, release, wake-ender, wake-starter, begin, await-end, await-start, adopt, settle, take, removed-sum, place-target, place-none}
+use Rattle.executive.proofs.Links.{alike, retire, release, wake-ender, wake-starter, begin, await-end, await-start, adopt, settle, take, removed-sum, place-target, none-asked}
 use Rattle.executive.proofs.Kept.{puts, outReady, JoinsAll, Good}
 use Rattle.executive.proofs.Named.{counted}
 
@@ -48,7 +48,7 @@ own-put r ts j e n h a k = put-all (OwnOf r) ts j e n h k (λ _. a k)
 
 -- a busy task's entry in another state that is busy
 pub state-own : {c fs n k : ℕ} {e : Task} (s : State) → Calm c fs s → is dormant s ≡ 0 → is dormant (e .state) ≡ 0 → Own c fs n k e → Own c fs n k (withState s e)
-state-own s m z b o = busy-own m (o .started) (o .level) (o .home) z (within o b)
+state-own s m z b o = busy-own m (o .started) (o .level) (o .home) z (busy-within o b)
 
 pub ready-own : {c fs n k : ℕ} {e : Task} → is dormant (e .state) ≡ 0 → Own c fs n k e → Own c fs n k (withState Ready e)
 ready-own b o = state-own Ready (clash, clash) refl b o
@@ -161,10 +161,6 @@ wake-length ts w = go (eqb (w .0) 0)
     go true = refl
     go false = put-length ts (w .0) _
 
-one-none : (b : Bool) → one b ≡ 0 → b ≡ false
-one-none true h = absurd (omega arith)
-one-none false h = refl
-
 module _ (t : Table) (w : Formed t) (h : 0 < t .ready) where
   abbrev c : TaskNo
   c = headOf (line t)
@@ -189,7 +185,7 @@ module _ (t : Table) (w : Formed t) (h : 0 < t .ready) where
   Q = OwnOf (t .rest)
 
   inside : c .0 ≤ t .rest .count
-  inside = within (w .own (c .0)) (runs t w h .is-busy)
+  inside = busy-within (w .own (c .0)) (runs t w h .is-busy)
 
   -- the rest with other requests
   pooled : (p : List Request) → Neat (withRequests p (t .rest)) → steepOf p ≡ 0 → Rested (withRequests p (t .rest))
@@ -220,7 +216,7 @@ module _ (t : Table) (w : Formed t) (h : 0 < t .ready) where
   unfolding puts
   stop-good n =
       let x : Woken Q (waking (endWaiter t c)) ts₁ rs 0 0 0 =
-      ender-in Q (λ k e. ready-own) ts₁ rs (endWaiter t c) 0 0 (settle ts₁ rs (endWaiter t c .0) 0 (c .0) (place-none (c .0) rs n) retired) asleep-own in
+      ender-in Q (λ k e. ready-own) ts₁ rs (endWaiter t c) 0 0 (settle ts₁ rs (endWaiter t c .0) 0 (c .0) (none-asked (c .0) rs n) retired) asleep-own in
       record { leaving = refl; joining = x .joining; linked = up-ok (x .linked); own = x .own; rested = w .rested }
 
   run-good : (i : ℕ) → placeOf (c .0) rs ≡ i → i < length rs → (q : Request) → getD rs i noRequest ≡ q
@@ -241,7 +237,7 @@ module _ (t : Table) (w : Formed t) (h : 0 < t .ready) where
       let b : Up ts₃ (removed i rs) 0 (q .«start_waiter» .0) 0 =
       begin ts₂ (removed i rs) (c .0) e₃ (q .«end_waiter» .0) (q .«start_waiter» .0) n₂ (rw a₂ refl) refl refl (y .1) (c .0) (λ k h o. o) (y .0) in
       let z : one (ltb 15 (q .priority)) + steepOf (removed i rs) ≡ steepOf rs = rw eq at (removed-sum i rs (λ (r : Request). one (ltb 15 (r .priority))) m) in
-      let lv : q .priority ≤ 15 = ltb-false 15 (q .priority) (one-none (ltb 15 (q .priority)) (omega (arith, w .rested .levels))) in
+      let lv : q .priority ≤ 15 = ltb-false 15 (q .priority) (one-zero (ltb 15 (q .priority)) (omega (arith, w .rested .levels))) in
       let v : Woken Q (waking (q .«start_waiter»)) ts₃ (removed i rs) 0 0 0 =
       starter-in Q (λ k e. ready-own) ts₃ (removed i rs) 0 (q .«start_waiter») 0 b (own-put (t .rest) ts₂ (c .0) e₃ n₂ (busy-own (clash, clash) (omega arith) lv (x .own (c .0) .home) refl inside) (x .own)) in
       let js : List Join = begins c q (t .rest .clock) ∷ waking (q .«start_waiter») in

@@ -60,7 +60,7 @@ is-le n s = go (eqb n (kindOf s))
     go true = lit≤ tt
     go false = lit≤ tt
 
--- ---- a line: the ready queue, and any other line of waiting tasks. One joins it, the head leaves it, the entry of another changes.
+-- ---- a line: the ready queue, and any other line of waiting tasks. One joins it, the head leaves it.
 module _ (n : ℕ) (ts : List Task) (jn : TaskNo) (e : Task) where
   abbrev j : ℕ
   j = jn .0
@@ -76,18 +76,6 @@ module _ (n : ℕ) (ts : List Task) (jn : TaskNo) (e : Task) where
       go : (k : ℕ) (b : Bool) → eqb k j ≡ b → one b + count k (items ts r) ≡ pick b (is n (e .state)) (is n (taskAt ts k .state))
       go k true f = rw (eqb→eq k j (T-of (eqb k j) f)) (omega (arith, q .exact j))
       go k false f = omega (arith, q .exact k)
-
-  pub line-else : (r : List TaskNo) → Line n ts r → Names j ts → is n (taskAt ts j .state) ≡ 0 → is n (e .state) ≡ 0 → Line n (putAt ts j e) r
-  line-else r q m x y =
-      let v : items (putAt ts j e) r ≡ items ts r = items-put ts j e r (q .exact j ∙ x) in
-      record {
-        exact = λ k. rw (v, put-at (λ (e : Task). is n (e .state)) ts j k e m) (go k (eqb k j) refl);
-        sorted = rw v (q .sorted);
-      }
-    where
-      go : (k : ℕ) (b : Bool) → eqb k j ≡ b → count k (items ts r) ≡ pick b (is n (e .state)) (is n (taskAt ts k .state))
-      go k true f = rw (eqb→eq k j (T-of (eqb k j) f)) (q .exact j ∙ x ∙ sym y)
-      go k false f = q .exact k
 
 -- the head of a line
 pub record Head (n : ℕ) (ts : List Task) (c : TaskNo) (r : List TaskNo) : Type 0 where

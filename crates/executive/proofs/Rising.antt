@@ -8,7 +8,6 @@ use lib.Dec.{leb, eqb, eqb→eq}
 use lib.ListN.{getD}
 use Rattle.executive.specs.declared.Millis.{Millis}
 use Rattle.executive.specs.declared.State.{State}
-use Rattle.executive.specs.declared.State.the-variants.{Ready}
 use Rattle.executive.specs.declared.Task.{Task}
 use Rattle.executive.specs.declared.Request.{Request}
 use Rattle.executive.specs.Entries.{aimed, risen}
@@ -16,7 +15,7 @@ use Rattle.executive.specs.Plans.{rises, risers}
 use Rattle.executive.specs.Queue.{pick}
 use Rattle.executive.specs.Table.{Names, noTask, taskAt, Join}
 use Rattle.executive.specs.States.{dormant, ready, awaitStart, awaitEnd, is, kindOf}
-use Rattle.executive.proofs.Formed.{Calm, Own, blank-own, within, busy-own}
+use Rattle.executive.proofs.Formed.{Calm, Own, blank-own, busy-within, busy-own}
 use Rattle.executive.proofs.Law.{clash, T-of, Le, le-yes, le-no, leb-is}
 use Rattle.executive.proofs.Moved.{at-same, at-other, eqb-no}
 use Rattle.executive.proofs.QueueKept.{busy-names}
@@ -70,7 +69,7 @@ module _ (f : State → Bool) (p : List Request) (a fa c fs n : ℕ) (tells : Te
           let z′ : is ready (taskAt ts k .state) + is dormant (taskAt ts k .state) + is awaitStart (taskAt ts k .state) + is awaitEnd (taskAt ts k .state) ≡ 0 = rw x z in
           let m : Names k ts = busy-names ts k (omega arith) in
           let v : Task = risen (taskAt ts k) in
-          let o : Own c fs n k (risen e) = busy-own (clash, clash) (tells .aims (e .state) (e .start) g (y .started)) (y .level) (y .home) refl (within y (omega arith)) in
+          let o : Own c fs n k (risen e) = busy-own (clash, clash) (tells .aims (e .state) (e .start) g (y .started)) (y .level) (y .home) refl (busy-within y (omega arith)) in
           record {
             joining = (record { names = m; before = omega arith; after = refl }, tt);
             linked = alike ts p k v 0 0 0 m refl (omega arith) (omega arith) refl (omega arith) l;

@@ -24,7 +24,7 @@ use Rattle.executive.specs.Check.{_and_, upTo, allOf, entryInRange, requ
 use Rattle.executive.proofs.Named.{dormant-named, dormant-kind}
 use Rattle.executive.proofs.Tasks.{at-none}
 use Rattle.executive.proofs.Tally.{all-get, all-make, every-get, every-make}
-use Rattle.executive.proofs.Both.{split, paired, one-none, none-one, not-of, of-not, within, in-reach, sum-none, none-all}
+use Rattle.executive.proofs.Both.{split, paired, one-none, none-one, not-of, of-not, leb-none, in-reach, sum-none, none-all}
 use Rattle.executive.proofs.Blanks.{blank-pad, pad-blank, nobody-is, free-is, zero-is, is-zero, tasks-get, tasks-make, past-get, past-make}
 use Rattle.executive.proofs.Descent.{falls-tasks, falls-desc, desc-falls, low, all-tasks}
 
@@ -67,7 +67,7 @@ module _ (n : ℕ) where
   waiter-of e h = leb-true _ _ (split (leb (e .priority) highest) _ (split (leb (e .own) highest) _ h .1) .1)
 
   steep-none : (r : Request) → requestInRange n r ≡ true → one (ltb highest (r .priority)) ≡ 0
-  steep-none r e = within (r .priority) highest (split (leb (r .priority) highest) _ e .0)
+  steep-none r e = leb-none (r .priority) highest (split (leb (r .priority) highest) _ e .0)
 
   names-of : (r : Request) → requestInRange n r ≡ true → (r .target .0 ≤ n) × (r .«start_waiter» .0 ≤ n) × (r .«end_waiter» .0 ≤ n)
   names-of r e =
@@ -80,7 +80,7 @@ module _ (n : ℕ) where
       → one (ltb n (r .target .0)) + one (ltb n (r .«start_waiter» .0)) + one (ltb n (r .«end_waiter» .0)) ≡ 0
   wild-none r e =
       let a = names-of r e in
-      omega (arith, within (r .target .0) n (le-leb _ _ (a .0)), within (r .«start_waiter» .0) n (le-leb _ _ (a .1)), within (r .«end_waiter» .0) n (le-leb _ _ (a .2)))
+      omega (arith, leb-none (r .target .0) n (le-leb _ _ (a .0)), leb-none (r .«start_waiter» .0) n (le-leb _ _ (a .1)), leb-none (r .«end_waiter» .0) n (le-leb _ _ (a .2)))
 
   ranged : (r : Request) → one (ltb highest (r .priority)) ≡ 0
       → one (ltb n (r .target .0)) + one (ltb n (r .«start_waiter» .0)) + one (ltb n (r .«end_waiter» .0)) ≡ 0 → requestInRange n r ≡ true

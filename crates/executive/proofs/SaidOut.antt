@@ -21,7 +21,7 @@ use Rattle.executive.proofs.Flight.{admits-rest}
 use Rattle.executive.proofs.Moved.{apply-view}
 use Rattle.executive.proofs.Kept.{puts}
 use Rattle.executive.proofs.Untouched.{plan-tasks}
-use Rattle.executive.proofs.Shape.{told}
+use Rattle.executive.proofs.Shape.{configured}
 use Rattle.executive.proofs.Spelled.{entriesIn, entries-back, tested}
 use Rattle.executive.proofs.Begun.{startsPlan, starts-kept, fresh-is}
 
@@ -91,7 +91,7 @@ module _ (s : List ℕ) where
     tasks-are =
         ap (λ (t : Table). t .tasks) is-plan
         ∙ plan-tasks (startsPlan s) (dormantTable s)
-        ∙ starters-stored n 1 16 [] refl (told s (tested s c) .few)
+        ∙ starters-stored n 1 16 [] refl (configured s (tested s c) .few)
 
     queue-is : view (freshTable s) ≡ inserts (marked 1 (entriesIn s n 1)) []
     unfolding dormantTable play left movesOf items pad

@@ -32,7 +32,7 @@ pub record Found (s : List ℕ) : Type 0 where
   pub first : getD s 0 0 ≡ 0x40
   pub last : getD s (placeIn (tasksIn s + 1)) 0 ≡ 0x42
 
-pub record Told (s : List ℕ) : Type 0 where
+pub record Configured (s : List ℕ) : Type 0 where
   pub some : 1 ≤ tasksIn s
   pub few : tasksIn s ≤ 16
   pub shape : Found s
@@ -54,9 +54,9 @@ found s h e = go (eqb (getD s 0 0) 0x40) (eqb (getD s (placeIn (tasksIn s + 1)) 
     go true false x y z = absurd (none s z h)
     go false b x y z = absurd (none s z h)
 
-pub told : (s : List ℕ) → isConfiguration s ≡ true → Told s
+pub configured : (s : List ℕ) → isConfiguration s ≡ true → Configured s
 unfolding isConfiguration taskRight tasksIn
-told s e =
+configured s e =
     let a = both (leb 1 (tasksIn s)) _ e in
     let b = both (eqb (length s) (configurationIn s)) _ (a .1) in
     let c = both (leb 1 (granuleIn s)) _ (b .1) in
@@ -91,7 +91,7 @@ module _ (s r : List ℕ) where
   pub found-again : isConfiguration s ≡ true → configurationIn (s ++ r) ≡ length s
   unfolding configurationIn
   found-again c =
-      let t : Found s = told s c .shape in
+      let t : Found s = configured s c .shape in
       let p : placeIn (tasksIn s + 1) < length s = omega (arith, t .whole) in
       let z : 0 < length s = omega (arith, t .whole) in
       rw (same-count (omega arith), List·getD-append s r 0 0 z, List·getD-append s r 0 (placeIn (tasksIn s + 1)) p, t .first, t .last) (sym (t .whole))
@@ -104,9 +104,9 @@ inside s i b h e = go (ltb i (length s)) refl
     go true y = ltb-true i (length s) y
     go false y = absurd (omega (arith, e, List·getD-eq-default s 0 (ltb-false i (length s) y)))
 
-pub within : (s : List ℕ) → configurationIn s ≤ length s
+pub configuration-within : (s : List ℕ) → configurationIn s ≤ length s
 unfolding configurationIn
-within s = go (eqb (getD s 0 0) 0x40) (eqb (getD s (placeIn (tasksIn s + 1)) 0) 0x42) refl
+configuration-within s = go (eqb (getD s 0 0) 0x40) (eqb (getD s (placeIn (tasksIn s + 1)) 0) 0x42) refl
   where
     go : (a b : Bool) → eqb (getD s (placeIn (tasksIn s + 1)) 0) 0x42 ≡ b → pick (a and b) (3 * tasksIn s + 3) 0 ≤ length s
     go true true y = omega (arith, inside s (placeIn (tasksIn s + 1)) 0x42 (omega arith) (eqb-true (getD s (placeIn (tasksIn s + 1)) 0) 0x42 y))

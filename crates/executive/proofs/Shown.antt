@@ -18,7 +18,7 @@ use Rattle.executive.specs.Worked.{along}
 use Rattle.executive.specs.Cards.{one, two, idle, atTime, again, full, Cards}
 use Rattle.executive.specs.FreshLaw.{FreshLaw}
 use Rattle.executive.proofs.Checked.{well-formed-iff}
-use Rattle.executive.proofs.Shape.{within, found-again}
+use Rattle.executive.proofs.Shape.{configuration-within, found-again}
 use Rattle.executive.proofs.Spelled.{spelled, tested}
 use Rattle.executive.proofs.SaidOut.{said-out}
 use Rattle.executive.proofs.Begun.{fresh-formed, fresh-room, fresh-clock, fresh-flags, fresh-made, fresh-refused, fresh-dispatched}
@@ -64,7 +64,7 @@ fresh-law = record {
   made = fresh-made;
   refused = fresh-refused;
   dispatched = fresh-dispatched;
-  within = within;
+  within = configuration-within;
   ends = found-again;
   example = (refl, refl, refl);
 }

@@ -1,15 +1,15 @@
--- A line is no longer than there are tasks: so a ready queue of sixteen tasks never overflows (A5), and 15 is the most that one entry passes (A7).
+-- A line is no longer than there are tasks: so a ready queue of sixteen tasks never overflows.
 use mathlib.Core.Path.{_≡_, refl, sym}
 use mathlib.Core.Logic.{_≢_}
 use mathlib.Core.Bool.{Bool, true, false}
 use mathlib.Core.List.{List, [], _∷_}
 use Prim.Native.Nat.{ℕ, suc, _≤_, _<_}
 use native.Mathlib.Omega.{arith}
-use lib.Dec.{eqb, eqb→eq, leb}
+use lib.Dec.{eqb, eqb→eq}
 use lib.ListN.{length, getD}
 use Rattle.records.specs.declared.TaskNo.{TaskNo}
 use Rattle.executive.specs.declared.Task.{Task}
-use Rattle.executive.specs.Queue.{Item, one, count, atLeast}
+use Rattle.executive.specs.Queue.{one, count}
 use Rattle.executive.specs.Table.{noTask, taskAt, putAt, items, Join}
 use Rattle.executive.specs.States.{ready, is}
 use Rattle.executive.specs.WellFormed.{sumOf, Line}
@@ -17,10 +17,10 @@ use Rattle.executive.proofs.Law.{T-of}
 use Rattle.executive.proofs.Sums.{sum-put, put-length}
 use Rattle.executive.proofs.QueueKept.{is-le, Head, head-is, line-out, Joins}
 
-pub sum-none : (f : Task → ℕ) (ts : List Task) → ((i : ℕ) → f (getD ts i noTask) ≡ 0) → sumOf f ts ≡ 0
+pub sum-zeros : (f : Task → ℕ) (ts : List Task) → ((i : ℕ) → f (getD ts i noTask) ≡ 0) → sumOf f ts ≡ 0
 unfolding sumOf
-sum-none f [] h = refl
-sum-none f (e ∷ ts) h = omega (arith, h 0, sum-none f ts (λ i. h (suc i)))
+sum-zeros f [] h = refl
+sum-zeros f (e ∷ ts) h = omega (arith, h 0, sum-zeros f ts (λ i. h (suc i)))
 
 sum-le : (f : Task → ℕ) (ts : List Task) → ((e : Task) → f e ≤ 1) → sumOf f ts ≤ length ts
 unfolding sumOf
@@ -37,7 +37,7 @@ not-dormant-kind n h = go (eqb n 0) refl
 -- take the head away and make it dormant: one fewer on both sides
 pub line-size : (n : ℕ) → n ≢ 0 → (r : List TaskNo) (ts : List Task) → Line n ts r → length r ≡ sumOf (λ (e : Task). is n (e .state)) ts
 unfolding items count taskAt
-line-size n h [] ts q = sym (sum-none (λ (e : Task). is n (e .state)) ts (λ i. sym (q .exact (suc i))))
+line-size n h [] ts q = sym (sum-zeros (λ (e : Task). is n (e .state)) ts (λ i. sym (q .exact (suc i))))
 line-size n h (c ∷ r) ts q =
     let x : Head n ts c r = head-is n ts c r h q in
     omega (arith, line-size n h r (putAt ts (c .0) noTask) (line-out n ts c noTask r h q (not-dormant-kind n h)), sum-put (λ (e : Task). is n (e .state)) ts (c .0) noTask (x .names), x .is-of, not-dormant-kind n h)
@@ -56,13 +56,3 @@ room-to-enter j ts r l q h =
       sum-le f (putAt ts (j .who .0) e) (λ e. is-le ready (e .state)),
       put-length ts (j .who .0) e,
     )
-
--- the number passed over is at most the length
-pub passed-le : (p : ℕ) (q : List Item) → atLeast p q ≤ length q
-unfolding atLeast
-passed-le p [] = omega arith
-passed-le p (x ∷ q) = omega (arith, passed-le p q, one-le (leb p (x .prio)))
-  where
-    one-le : (b : Bool) → one b ≤ 1
-    one-le true = omega arith
-    one-le false = omega arith

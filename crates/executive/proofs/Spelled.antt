@@ -13,7 +13,7 @@ use Rattle.executive.specs.Queue.{pick}
 use Rattle.executive.specs.Fresh.{granuleIn, placeIn, ownIn, markIn, tasksFrom, tasksIn, configurationIn, taskRight, isConfiguration}
 use Rattle.executive.specs.FreshLaw.{Entry, recordsOf, AllRight, Configuration}
 use Rattle.executive.proofs.Tally.{all-make}
-use Rattle.executive.proofs.Shape.{Told, told}
+use Rattle.executive.proofs.Shape.{Configured, configured}
 
 -- ---- from the test to the words: the tasks are read off the bytes
 unfoldable pub entriesIn : List ℕ → ℕ → ℕ → List Entry
@@ -42,7 +42,7 @@ module _ (s : List ℕ) where
   unfolding tasksIn
   each-counted k h l = let z : k ≡ 1 + (k - 1) = omega arith in ap (λ (m : ℕ). getD s (placeIn m) 0) z ∙ counted 16 1 (k - 1) (omega arith)
 
-  module _ (t : Told s) (all : (k : ℕ) → 0 < k → k ≤ tasksIn s → getD s (placeIn k) 0 ≡ 0x41) where
+  module _ (t : Configured s) (all : (k : ℕ) → 0 < k → k ≤ tasksIn s → getD s (placeIn k) 0 ≡ 0x41) where
     right-entries : (n k : ℕ) → 0 < k → k + n ≡ tasksIn s + 1 → AllRight (entriesIn s n k)
     unfolding entriesIn
     right-entries zero k h e = tt
@@ -86,7 +86,7 @@ module _ (s : List ℕ) where
     }
 
 pub spelled : (s : List ℕ) → isConfiguration s ≡ true → Configuration s
-spelled s e = words s (told s e) (each-counted s)
+spelled s e = words s (configured s e) (each-counted s)
 
 -- ---- from the words to the test: what stands where
 length-records : (es : List Entry) → length (recordsOf es) ≡ 3 * length es + 1

@@ -1,7 +1,7 @@
 -- The laws of the check's loops: counting from the back, a test at each number, a test of each element.
 use Prim.Native.Nat.{ℕ, zero, suc, _+_, _-_, _≤_, _<_}
 use mathlib.Core.Path.{_≡_, refl, ap, _∙_}
-use mathlib.Core.Bool.{Bool, true, false, not}
+use mathlib.Core.Bool.{Bool, true, false}
 use mathlib.Core.Logic.{⊎-elim, _≢_}
 use mathlib.Core.List.{List, [], _∷_}
 use native.Mathlib.Omega.{arith}
@@ -20,10 +20,6 @@ use Rattle.executive.specs.Check.{upTo, allOf, Tallies}
 pub one-le : (b : Bool) → one b ≤ 1
 one-le true = omega arith
 one-le false = omega arith
-
-pub not-not : (b : Bool) → b ≡ not (not b)
-not-not true = refl
-not-not false = refl
 
 -- the sum of the last of the first n, one more at a time
 module _ {A : Type 0} (f : A → ℕ) (d : A) (p : List A) (n : ℕ) (hn : n ≤ length p) where

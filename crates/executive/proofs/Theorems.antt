@@ -37,7 +37,7 @@ use Rattle.executive.proofs.Links.{take, place-target}
 use Rattle.executive.proofs.Plans.{runs}
 use Rattle.executive.proofs.Clear.{early, end-owed, restart-owed}
 use Rattle.executive.proofs.Performed.{call-allowed, step-is, step-kept}
-use Rattle.executive.proofs.Decided.{decided, unformed, order, allowed, allowed-formed, refusal-keeps, answers-active}
+use Rattle.executive.proofs.Decided.{number-decided, unformed, order, allowed, allowed-formed, refusal-keeps, answers-active}
 use Rattle.executive.proofs.Given.{given}
 use Rattle.executive.proofs.Checked.{well-formed-iff, checked-once}
 use Rattle.executive.proofs.Named.{ready-named, ready-kind}
@@ -221,7 +221,7 @@ begins-again-by t e l =
 pub demands : Demands
 demands = record {
   refusal-keeps = refusal-keeps;
-  decided = decided;
+  decided = number-decided;
   given = given;
   unformed = unformed;
   order = order;
