@@ -36,7 +36,10 @@ waiters-at-requires c κs = (c .before .before .before .pre .0, sym (at-next (c 
 
 returns : tie.Need-returns Inv-loop μ-loop
 returns c =
-    sym (all-not (waitersAt (c .before .before .before .before .before .args .t1) (take (c .before .before .before .before .before .args .queued) (c .before .before .before .before .before .args .pool))) (c .before .before .before .before .before .args .count) (c .before .before .before .before .loop .k) (c .before .before .before .loop-test .taken) (sym (c .before .waiters-at .ensures) ∙ not-true _ (c .if1 .taken)))
+    let at-loop-test = c .before .before .before in
+    let at-loop = at-loop-test .before in
+    let start = at-loop .before in
+    sym (all-not (waitersAt (start .args .t1) (take (start .args .queued) (start .args .pool))) (start .args .count) (at-loop .loop .k) (at-loop-test .loop-test .taken) (sym (c .before .waiters-at .ensures) ∙ not-true _ (c .if1 .taken)))
 
 add-k : tie.Need-add-k Inv-loop μ-loop
 add-k c = omega arith
@@ -46,7 +49,9 @@ loop-less c = omega arith
 
 loop-again : tie.Need-loop-again Inv-loop μ-loop
 loop-again c =
-    (omega arith, all-more (waitersAt (c .before .before .before .before .before .args .t1) (take (c .before .before .before .before .before .args .queued) (c .before .before .before .before .before .args .pool))) (c .before .before .before .before .loop .k) (c .before .before .before .before .loop .inv .1) (sym (c .before .waiters-at .ensures) ∙ not-false _ (c .if1 .left)))
+    let at-loop = c .before .before .before .before in
+    let start = at-loop .before in
+    (omega arith, all-more (waitersAt (start .args .t1) (take (start .args .queued) (start .args .pool))) (at-loop .loop .k) (at-loop .loop .inv .1) (sym (c .before .waiters-at .ensures) ∙ not-false _ (c .if1 .left)))
 
 returns-2 : tie.Need-returns-2 Inv-loop μ-loop
 returns-2 c =
