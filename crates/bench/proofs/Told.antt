@@ -10,7 +10,8 @@ use lib.Dec.{ltb}
 use borrow.Author.Tests.{ne-eqb, lt-ltb, le-ltb, ltb-false}
 use Rattle.records.specs.declared.TaskNo.{TaskNo}
 use Rattle.records.specs.Kinds.{kindOf}
-use Rattle.executive.specs.Table.{nobody, headOf}
+use Rattle.executive.specs.Places.{nobody}
+use Rattle.executive.specs.Table.{headOf}
 use Rattle.bench.specs.Lines.{row, endOf, stopOf}
 use Rattle.bench.specs.Listing.{callLength, stepLength, wholeOf, lastOf}
 use Rattle.bench.proofs.Digits.{decide}

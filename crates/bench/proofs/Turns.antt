@@ -13,7 +13,7 @@ use Rattle.executive.specs.declared.Answer.{Answer}
 use Rattle.executive.specs.declared.Outcome.{Outcome}
 use Rattle.records.specs.declared.TaskNo.{TaskNo}
 use Rattle.executive.specs.declared.Table.{Table}
-use Rattle.executive.specs.Steps.{stepOf}
+use Rattle.executive.specs.Step.{stepOf}
 use Rattle.bench.specs.declared.Next.{Next}
 use Rattle.bench.specs.declared.Next.the-variants as next
 use Rattle.bench.specs.declared.Run.{Run}

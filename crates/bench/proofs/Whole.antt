@@ -10,8 +10,8 @@ use lib.Seq.{drop-drop}
 use lib.Dec.{eqb, ltb}
 use borrow.Author.Tests.{lt-ltb, ltb-false, eqb-false, le-leb}
 use Rattle.executive.specs.declared.Table.{Table}
-use Rattle.executive.specs.Fresh.{configurationIn}
-use Rattle.executive.specs.Steps.{stepOf}
+use Rattle.executive.specs.Configuration.{configurationIn}
+use Rattle.executive.specs.Step.{stepOf}
 use Rattle.bench.specs.declared.Next.{Next}
 use Rattle.bench.specs.declared.Next.the-variants as next
 use Rattle.bench.specs.declared.Run.{Run}

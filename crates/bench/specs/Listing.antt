@@ -8,8 +8,8 @@ use Rattle.records.specs.declared.Kind.{Kind}
 use Rattle.records.specs.Kinds.{kindOf, lengthOf, isCall}
 use Rattle.executive.specs.declared.Table.{Table}
 use Rattle.executive.specs.declared.Fresh.{Fresh}
-use Rattle.executive.specs.Fresh.{freshOf, configurationIn}
-use Rattle.executive.specs.Steps.{stepOf}
+use Rattle.executive.specs.Configuration.{freshOf, configurationIn}
+use Rattle.executive.specs.Step.{stepOf}
 use Rattle.bench.specs.Lines.{headerOf, lineOf, stopOf, endOf}
 
 -- the longest input that is read

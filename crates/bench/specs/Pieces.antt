@@ -7,8 +7,8 @@ use lib.ListN.{length, getD, take, drop}
 use lib.Dec.{eqb, leb, ltb}
 use Rattle.records.specs.declared.TaskNo.{TaskNo}
 use Rattle.executive.specs.declared.Table.{Table}
-use Rattle.executive.specs.Fresh.{configurationIn}
-use Rattle.executive.specs.Steps.{stepOf}
+use Rattle.executive.specs.Configuration.{configurationIn}
+use Rattle.executive.specs.Step.{stepOf}
 use Rattle.bench.specs.declared.Next.{Next}
 use Rattle.bench.specs.declared.Next.the-variants as next
 use Rattle.bench.specs.declared.Run.{Run}

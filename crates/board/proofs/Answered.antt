@@ -10,11 +10,11 @@ use borrow.Author.Tests.{eq-eqb, ne-eqb, lt-ltb, le-ltb}
 use Rattle.executive.specs.declared.Table.{Table}
 use Rattle.executive.specs.declared.Fresh.{Fresh}
 use Rattle.executive.specs.declared.Outcome.{Outcome}
-use Rattle.executive.specs.Queue.{pick}
+use Rattle.executive.specs.Lists.{pick}
 use Rattle.executive.specs.Check.{isWellFormed, Checked}
 use Rattle.executive.proofs.Assured.{decided}
-use Rattle.executive.specs.Steps.{noTable, stepOf}
-use Rattle.executive.specs.Fresh.{freshOf}
+use Rattle.executive.specs.Step.{noTable, stepOf}
+use Rattle.executive.specs.Configuration.{freshOf}
 use Rattle.board.specs.Blocks.{written}
 use Rattle.board.specs.Image.{noRoom, imageLength, imageOf, loadOf, isImageOf, isImage, FitsTable}
 use Rattle.board.specs.Entries.{checkNumber, CheckedImage, Holds, freshNumber, freshImage, answerLength, answerBytes, answerTo, imageAfter, stepNumber, stepImage, stepAnswer}

@@ -10,9 +10,9 @@ use Rattle.records.specs.Numbers.{Bytes}
 use Rattle.executive.specs.declared.Table.{Table}
 use Rattle.executive.specs.declared.Fresh.{Fresh}
 use Rattle.executive.specs.WellFormed.{WellFormed}
-use Rattle.executive.specs.Steps.{stepOf}
-use Rattle.executive.specs.Fresh.{isConfiguration, freshOf}
-use Rattle.executive.specs.Demands.{after, AllBytes, IsReady, Dispatched, NotYet}
+use Rattle.executive.specs.Step.{stepOf}
+use Rattle.executive.specs.Configuration.{isConfiguration, freshOf}
+use Rattle.executive.specs.Promises.Demands.{after, AllBytes, IsReady, Dispatched, NotYet}
 use Rattle.executive.proofs.Assured.{demands, fresh-law}
 use Rattle.board.specs.Blocks.{written}
 use Rattle.board.specs.Image.{imageLength, loadOf}

@@ -7,7 +7,7 @@ use lib.ListN.{length}
 use Rattle.records.specs.Numbers.{bytesIn}
 use Rattle.executive.specs.declared.Answer.{Answer}
 use Rattle.executive.specs.declared.State.{State}
-use Rattle.executive.specs.Queue.{one}
+use Rattle.executive.specs.Lists.{one}
 use Rattle.executive.specs.declared.Millis.{Millis}
 use Rattle.executive.specs.States.{kindOf, timeOf, maskOf}
 use Rattle.board.specs.Blocks.{written}

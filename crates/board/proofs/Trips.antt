@@ -13,7 +13,7 @@ use Rattle.executive.specs.declared.Millis.{Millis}
 use Rattle.executive.specs.declared.State.{State}
 use Rattle.executive.specs.declared.Task.{Task}
 use Rattle.executive.specs.declared.Table.{Table}
-use Rattle.executive.specs.Queue.{pick}
+use Rattle.executive.specs.Lists.{pick}
 use Rattle.executive.specs.States.{dormant, ready, paused, due, awaitAny, awaitAll, awaitStart, awaitEnd, kindOf, timeOf, maskOf, stateOf}
 use Rattle.executive.specs.WellFormed.{Sizes}
 use Rattle.executive.proofs.Assured.{states-told}

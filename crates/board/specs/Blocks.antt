@@ -7,7 +7,7 @@ use mathlib.Core.Bool.{Bool, true, false}
 use mathlib.Core.List.{List, [], _∷_, _++_}
 use lib.Dec.{eqb}
 use lib.ListN.{length, take, drop}
-use Rattle.executive.specs.Queue.{pick}
+use Rattle.executive.specs.Lists.{pick}
 use Rattle.records.specs.Numbers.{numberOf, part}
 
 -- the blocks of some elements, laid one after the other

@@ -9,12 +9,12 @@ use lib.ListN.{length}
 use Rattle.records.specs.Numbers.{lay}
 use Rattle.executive.specs.declared.Answer.{Answer}
 use Rattle.executive.specs.declared.Table.{Table}
-use Rattle.executive.specs.Queue.{pick, one}
+use Rattle.executive.specs.Lists.{pick, one}
 use Rattle.executive.specs.WellFormed.{WellFormed}
 use Rattle.executive.specs.Check.{isWellFormed}
-use Rattle.executive.specs.Steps.{noTable, stepOf}
-use Rattle.executive.specs.Fresh.{freshOf}
-use Rattle.executive.specs.Demands.{after, Overtaking}
+use Rattle.executive.specs.Step.{noTable, stepOf}
+use Rattle.executive.specs.Configuration.{freshOf}
+use Rattle.executive.specs.Promises.Demands.{after, Overtaking}
 use Rattle.board.specs.Blocks.{written}
 use Rattle.board.specs.Image.{noRoom, imageLength, imageOf, loadOf, isImage}
 

@@ -11,7 +11,7 @@ use Rattle.executive.specs.declared.Millis.{Millis}
 use Rattle.executive.specs.declared.Task.{Task}
 use Rattle.executive.specs.declared.Request.{Request}
 use Rattle.executive.specs.declared.Table.{Table}
-use Rattle.executive.specs.Queue.{pick}
+use Rattle.executive.specs.Lists.{pick}
 use Rattle.executive.specs.States.{kindOf, timeOf, maskOf, stateOf}
 use Rattle.executive.specs.WellFormed.{Sizes}
 use Rattle.board.specs.Blocks.{row, blocks, Each, same}

@@ -6,7 +6,7 @@ use mathlib.Core.List.{List}
 use lib.ListN.{length, getD}
 use Rattle.records.specs.Numbers.{Bytes}
 use Rattle.executive.specs.declared.Table.{Table}
-use Rattle.executive.specs.Demands.{AllBytes, IsReady, Dispatched, NotYet}
+use Rattle.executive.specs.Promises.Demands.{AllBytes, IsReady, Dispatched, NotYet}
 use Rattle.board.specs.Image.{imageLength, imageOf, Stores, loadOf, Loads, ComesBack, isImage, FitsTable}
 use Rattle.board.specs.Entries.{WellFormedImage, CheckedImage, answerLength, activeAt, freshNumber, freshImage, MakesImage, stepNumber}
 use Rattle.board.specs.Entries.{stepImage, stepAnswer, StepsImage, Runs, OvertakingImage}

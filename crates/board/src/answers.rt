@@ -5,7 +5,7 @@ use executive::Answer;
 ghost use mathlib.Core.Path.{_≡_};
 ghost use Prim.Native.Nat.{_≤_};
 ghost use lib.ListN.{length};
-ghost use Rattle.executive.specs.Queue.{one};
+ghost use Rattle.executive.specs.Lists.{one};
 ghost use Rattle.board.specs.Blocks.{written};
 ghost use Rattle.board.specs.Entries.{answerLength, answerBytes};
 

@@ -1,12 +1,12 @@
 -- What is promised holds. Of the modules here the crates above name this one and no other.
-use Rattle.executive.specs.Demands.{Demands}
+use Rattle.executive.specs.Promises.Demands.{Demands}
 use Rattle.executive.specs.Check.{Decided}
-use Rattle.executive.specs.FreshLaw.{FreshLaw}
+use Rattle.executive.specs.Promises.FreshLaw.{FreshLaw}
 use Rattle.executive.specs.States.{StatesTold}
-use Rattle.executive.proofs.Checked as checked
-use Rattle.executive.proofs.Named as named
-use Rattle.executive.proofs.Shown as shown
-use Rattle.executive.proofs.Theorems as theorems
+use Rattle.executive.proofs.check.Decides as checked
+use Rattle.executive.proofs.states.Laws as named
+use Rattle.executive.proofs.promises.CardsAndFresh as shown
+use Rattle.executive.proofs.promises.Demands as theorems
 
 pub demands : Demands
 demands = theorems.demands

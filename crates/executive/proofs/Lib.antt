@@ -1,59 +1,8 @@
-pub mod Tasks
-pub mod Laws
-pub mod Line
-pub mod Without
-pub mod Pad
-pub mod Fits
-pub mod Interval
-pub mod Division
-pub mod Flight
-pub mod Next
-pub mod Ends
-pub mod Tally
-pub mod Descent
-pub mod Both
-pub mod Passes
-pub mod Blanks
-pub mod Rules
-pub mod Checked
-pub mod Broken
-pub mod Behind
-pub mod Lent
-pub mod Lying
-pub mod Settings
-pub mod Shown
-pub mod Law
-pub mod Overtake
-pub mod Named
-pub mod Formed
-pub mod Moved
-pub mod Sums
-pub mod QueueKept
-pub mod LinksKept
-pub mod Links
-pub mod Size
-pub mod Kept
+-- The laws that belong to no module of src/, by subject; those of a module stand in its folder.
+
+-- lists, tests and sums, below all else
+pub mod Lists
+-- the plans of the calls: each is good, and a good plan keeps the table well formed
 pub mod Plans
-pub mod Rising
-pub mod Tick
-pub mod Masks
-pub mod Asking
-pub mod Flagged
-pub mod Shape
-pub mod Spelled
-pub mod Begun
-pub mod SaidOut
-pub mod Performed
-pub mod Untouched
-pub mod Decided
-pub mod Given
-pub mod Chosen
-pub mod Theorems
-pub mod Example
-pub mod Scans
-pub mod Standing
-pub mod Clear
-pub mod Answered
-pub mod Others
-pub mod Skipping
+-- what the crates above name, and nothing else
 pub mod Assured

@@ -1,5 +1,5 @@
 -- The check of a table as it is computed: a test for each rule of `WellFormed`, in the same order.
-use Prim.Native.Nat.{ℕ, zero, suc, _+_, _-_, _<_}
+use Prim.Native.Nat.{ℕ, suc, _+_, _-_, _<_}
 use mathlib.Core.Path.{_≡_}
 use mathlib.Core.Logic.{_↔_}
 use mathlib.Core.Bool.{Bool, true, false, not}
@@ -12,28 +12,16 @@ use Rattle.executive.specs.declared.State.{State}
 use Rattle.executive.specs.declared.Task.{Task}
 use Rattle.executive.specs.declared.Request.{Request}
 use Rattle.executive.specs.declared.Table.{Table}
-use Rattle.executive.specs.declared.check.Link.{Link}
-use Rattle.executive.specs.declared.check.Link.the-variants.{AtStart, AtEnd}
+use Rattle.executive.specs.declared.waiters.Link.{Link}
+use Rattle.executive.specs.declared.waiters.Link.the-variants.{AtStart, AtEnd}
 use Rattle.executive.specs.Numbers.{mostTasks, mostQueued, flagCount, highest, mostGranule, endOfTime, longest}
-use Rattle.executive.specs.Queue.{pick, one}
-use Rattle.executive.specs.Table.{line, requests, taskAt}
+use Rattle.executive.specs.Lists.{pick, one, sumOf, _and_, upTo, allOf}
+use Rattle.executive.specs.Table.{line}
+use Rattle.executive.specs.Pool.{requests}
+use Rattle.executive.specs.Places.{taskAt}
 use Rattle.executive.specs.States.{ready, awaitStart, awaitEnd, timeOf, maskOf, isOf, is, isDormant, hasTime, hasMask, waitMode}
-use Rattle.executive.specs.Plans.{met}
-use Rattle.executive.specs.WellFormed.{WellFormed, sumOf, startsOf, endsOf, runsOf}
-
-infixr 30 _and_
-abbrev pub _and_ : Bool → Bool → Bool
-_and_ true b = b
-_and_ false b = false
-
--- a test at each number from 1 to n; a test of each element
-unfoldable pub upTo : (ℕ → Bool) → ℕ → Bool
-upTo f zero = true
-upTo f (suc n) = pick (upTo f n) (f (suc n)) false
-
-unfoldable pub allOf : {A : Type 0} → (A → Bool) → List A → Bool
-allOf f [] = true
-allOf f (x ∷ xs) = pick (f x) (allOf f xs) false
+use Rattle.executive.specs.Flags.{met}
+use Rattle.executive.specs.WellFormed.{WellFormed, startsOf, endsOf, runsOf}
 
 -- ---- every number is in range
 -- a task's entry among n tasks; a request among them

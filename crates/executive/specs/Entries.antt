@@ -4,8 +4,8 @@ use Rattle.executive.specs.declared.State.{State}
 use Rattle.executive.specs.declared.State.the-variants.{Dormant, Ready, Due}
 use Rattle.executive.specs.declared.Task.{Task}
 use Rattle.executive.specs.declared.Request.{Request}
-use Rattle.executive.specs.Queue.{pick}
-use Rattle.executive.specs.Table.{nobody, never}
+use Rattle.executive.specs.Lists.{pick}
+use Rattle.executive.specs.Places.{nobody, never}
 use Rattle.executive.specs.States.{due, timeOf, isOf}
 
 -- the entry with another state and another last scheduled start, and everything else as it was

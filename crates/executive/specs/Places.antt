@@ -1,37 +1,46 @@
--- What the array functions do, place by place. Only proofs and private contracts use these.
-use Prim.Native.Nat.{ℕ, suc, _+_, _-_}
-use mathlib.Core.List.{List, [], _∷_, _++_}
-use lib.ListN.{take, drop}
-use mathlib.Core.Bool.{Bool}
+-- The blank entries, and the entry of a task by its number: tasks are numbered from 1, and 0 is nobody.
+use mathlib.Core.List.{List}
+use Prim.Native.Nat.{ℕ, zero, suc, _≤_, _<_}
 use lib.Dec.{ltb}
-use Rattle.executive.specs.declared.pool.Found.{Found}
-use Rattle.executive.specs.declared.pool.Found.the-variants.{At, Nothing}
+use lib.ListN.{length, getD, set}
 use Rattle.records.specs.declared.TaskNo.{TaskNo}
+use Rattle.executive.specs.declared.Millis.{Millis}
+use Rattle.executive.specs.declared.State.the-variants.{Dormant}
 use Rattle.executive.specs.declared.Task.{Task}
+use Rattle.executive.specs.declared.Request.{Request}
 use Rattle.executive.specs.Numbers.{mostTasks}
-use Rattle.executive.specs.Queue.{pick, behind}
-use Rattle.executive.specs.Table.{taskAt, entryPlace}
+use Rattle.executive.specs.Lists.{pick}
 
--- how many at the front stay ahead of a task of priority p: all of equal or higher priority
-unfoldable pub aheadOf : List Task → ℕ → List TaskNo → ℕ
-aheadOf ts p [] = 0
-aheadOf ts p (x ∷ xs) = pick (behind p (taskAt ts (x .0) .priority)) (suc (aheadOf ts p xs)) 0
+-- ---- blank entries
+abbrev pub nobody : TaskNo
+nobody = record { 0 = 0 }
 
--- r places are taken, and k comes in at one of them or behind them
-unfoldable pub slidOf : List TaskNo → ℕ → ℕ → TaskNo → List TaskNo
-slidOf q at r k = take at q ++ (k ∷ (take (r - at) (drop at q) ++ drop (r + 1) q))
+abbrev pub never : Millis
+never = record { 0 = 0 }
 
--- one place closed up, and d at the end
-unfoldable pub closedAt : {A : Type 0} → A → List A → ℕ → List A
-closedAt d p at = take at p ++ (drop (at + 1) p ++ (d ∷ []))
+abbrev pub noTask : Task
+noTask = record { own = 0; state = Dormant; priority = 0; argument = 0; start = never; «end_waiter» = nobody }
 
-unfoldable pub foundAt : ℕ → ℕ → Found
-foundAt i n = pick (ltb i n) (At i) Nothing
+abbrev pub noRequest : Request
+noRequest = record { target = nobody; priority = 0; argument = 0; «start_waiter» = nobody; «end_waiter» = nobody }
 
--- the number of the next that passes a test, of those numbered from i on; the number past the last where none does
-unfoldable pub nextOf : {A : Type 0} → (A → Bool) → ℕ → List A → ℕ
-nextOf f i [] = i
-nextOf f i (x ∷ xs) = pick (f x) i (nextOf f (suc i) xs)
+-- ---- tasks are numbered from 1; number 0 is nobody
+unfoldable pub taskAt : List Task → ℕ → Task
+taskAt ts zero = noTask
+taskAt ts (suc i) = getD ts i noTask
+
+unfoldable pub putAt : List Task → ℕ → Task → List Task
+putAt ts zero e = ts
+putAt ts (suc i) e = set ts i e
+
+-- the place of number k in an array of sixteen, k - 1; 16, which is no place, where k is 0 or over 16
+unfoldable pub entryPlace : ℕ → ℕ
+entryPlace zero = mostTasks
+entryPlace (suc i) = pick (ltb i mostTasks) i mostTasks
+
+-- a number that names a task
+abbrev pub Names : ℕ → List Task → Type 0
+Names k ts = (0 < k) × (k ≤ length ts)
 
 -- the priority p of the task numbered n; a number that names no task has none
 unfoldable pub levelAt : ℕ → ℕ → ℕ

@@ -2,16 +2,13 @@
 -- what the rest of the table is afterwards.
 -- Rulings that 01 marks H are marked H here.
 use Prim.Native.Nat.{ℕ, suc, _+_, _/_, _%_}
-use mathlib.Core.Bool.{Bool, _&&_, not}
+use mathlib.Core.Bool.{Bool, _&&_}
 use mathlib.Core.List.{List, [], _∷_, _++_}
 use lib.Dec.{leb, ltb, eqb}
-use lib.Bits.{bitAnd}
 use lib.ListN.{length, getD}
 use Rattle.records.specs.declared.TaskNo.{TaskNo}
 use Rattle.records.specs.declared.FlagNo.{FlagNo}
 use Rattle.executive.specs.declared.Millis.{Millis}
-use Rattle.executive.specs.declared.Mode.{Mode}
-use Rattle.executive.specs.declared.Mode.the-variants.{Any, All}
 use Rattle.executive.specs.declared.Wait.{Wait}
 use Rattle.executive.specs.declared.Wait.the-variants.{Goes, ForStart, ForEnd}
 use Rattle.executive.specs.declared.State.{State}
@@ -19,12 +16,16 @@ use Rattle.executive.specs.declared.State.the-variants.{Ready, Paused, F
 use Rattle.executive.specs.declared.Task.{Task}
 use Rattle.executive.specs.declared.Request.{Request}
 use Rattle.executive.specs.declared.Table.{Table}
-use Rattle.executive.specs.Queue.{pick}
-use Rattle.executive.specs.Table.{nobody, noRequest, line, requests, taskAt, headOf, Out, stays, leaves, Join, Plan}
+use Rattle.executive.specs.Lists.{pick, _or_}
+use Rattle.executive.specs.Places.{nobody, noRequest, taskAt}
+use Rattle.executive.specs.Table.{line, headOf, Out, stays, leaves, Join, Plan}
+use Rattle.executive.specs.Pool.{requests, withRequests, placeOf, removed}
 use Rattle.executive.specs.States.{timeOf, maskOf, isDormant, isPaused, hasTime, hasMask, waitMode}
 use Rattle.executive.specs.Entries.{withState, sleeping, begun, dueAt, risen}
-use Rattle.executive.specs.Time.{interval, aimAt}
-use Rattle.executive.specs.Rests.{withRequests, placeOf, removed, withFlags, flagSet, flagReset, withAlarm, advanced}
+use Rattle.executive.specs.Clock.{interval, aimAt, withAlarm, advanced}
+use Rattle.executive.specs.Flags.{withFlags, flagSet, flagReset, met, modeOf}
+use Rattle.records.specs.declared.Call.{Call}
+use Rattle.records.specs.declared.Call.the-variants as call
 
 -- ---- the caller is the active task, the head of the ready queue
 abbrev pub caller : Table → TaskNo
@@ -151,11 +152,6 @@ unfoldable pub askPlan : Table → ℕ → TaskNo → ℕ → Plan
 askPlan t option k a =
     pick (isDormant (stateAt t k)) (startPlan t (requestOf t option k a) (waitOf option)) (queuePlan t (requestOf t option k a) (waitOf option))
 
--- ---- flags: the condition of a wait for any or all flags of a mask
-abbrev pub met : ℕ → Mode → ℕ → Bool
-met fs Any mask = not (eqb (bitAnd fs mask) 0)
-met fs All mask = eqb (bitAnd fs mask) mask
-
 -- whether a task waits for flags and its condition holds
 abbrev pub holds : ℕ → State → Bool
 holds fs s = hasMask s && met fs (waitMode s) (maskOf s)
@@ -183,10 +179,6 @@ resetPlan t f = record { out = stays; ins = []; rest = withFlags (flagReset (t .
 unfoldable pub flagPlan : Table → ℕ → FlagNo → Plan
 flagPlan t operation f = pick (eqb operation 0) (resetPlan t f) (pick (eqb operation 1) (setPlan t f) (nothing t))
 
--- ---- 0A: wait for 0 any, 1 all. Condition true already: no change. Otherwise the caller departs
-abbrev pub modeOf : ℕ → Mode
-modeOf m = pick (eqb m 0) Any All
-
 unfoldable pub waitPlan : Table → ℕ → ℕ → Plan
 waitPlan t m mask =
     pick (met (t .rest .flags) (modeOf m) mask) (nothing t) (record { out = leaves (withState (Flags (modeOf m) mask)); ins = []; rest = t .rest })
@@ -206,3 +198,19 @@ over c fs s = pick (hasTime s) (leb (timeOf s .0) c) (holds fs s)
 -- clock, and each whose flag condition holds, enters (H)
 unfoldable pub tickPlan : Table → Plan
 tickPlan t = record { out = stays; ins = risers (over (advanced (t .rest) .clock .0) (advanced (t .rest) .flags)) 1 (t .tasks); rest = advanced (t .rest) }
+
+-- ---- the plan of each kind; a configuration record is no call
+unfoldable pub planOf : Table → Call → Plan
+planOf t call.Terminate = endPlan t
+planOf t (call.Restart p n) = restartPlan t p n
+planOf t (call.Pause u n) = pausePlan t u n
+planOf t (call.CancelPause k) = cancelPlan t k
+planOf t (call.Start o k) = startOnlyPlan t o k
+planOf t (call.Queue o k a) = askPlan t o k a
+planOf t (call.Flag o f) = flagPlan t o f
+planOf t (call.Wait m mask) = waitPlan t m mask
+planOf t (call.Alarm u n f) = alarmPlan t u n f
+planOf t call.Tick = tickPlan t
+planOf t (call.Granule g) = nothing t
+planOf t (call.Task p m) = nothing t
+planOf t call.End = nothing t

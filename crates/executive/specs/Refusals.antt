@@ -16,33 +16,12 @@ use Rattle.records.specs.Kinds.{kindOf, lengthOf, isCall}
 use Rattle.records.specs.Reading.{readOf}
 use Rattle.executive.specs.declared.Table.{Table}
 use Rattle.executive.specs.Numbers.{lastUnit, mostQueued, endOfTime}
-use Rattle.executive.specs.Queue.{pick}
-use Rattle.executive.specs.Table.{never, Plan, carry}
+use Rattle.executive.specs.Lists.{pick, _and_, _or_}
+use Rattle.executive.specs.Places.{never}
+use Rattle.executive.specs.Table.{carry}
 use Rattle.executive.specs.States.{isDormant}
-use Rattle.executive.specs.Plans.{caller, stateAt, nothing, endPlan, restartPlan, pausePlan, cancelPlan, startOnlyPlan, askPlan}
-use Rattle.executive.specs.Plans.{flagPlan, waitPlan, alarmPlan, tickPlan}
-use Rattle.executive.specs.Check.{_and_, isWellFormed}
-
-infixr 25 _or_
-abbrev pub _or_ : Bool → Bool → Bool
-_or_ true b = true
-_or_ false b = b
-
--- ---- the plan of each kind; a configuration record is no call
-unfoldable pub planOf : Table → Call → Plan
-planOf t call.Terminate = endPlan t
-planOf t (call.Restart p n) = restartPlan t p n
-planOf t (call.Pause u n) = pausePlan t u n
-planOf t (call.CancelPause k) = cancelPlan t k
-planOf t (call.Start o k) = startOnlyPlan t o k
-planOf t (call.Queue o k a) = askPlan t o k a
-planOf t (call.Flag o f) = flagPlan t o f
-planOf t (call.Wait m mask) = waitPlan t m mask
-planOf t (call.Alarm u n f) = alarmPlan t u n f
-planOf t call.Tick = tickPlan t
-planOf t (call.Granule g) = nothing t
-planOf t (call.Task p m) = nothing t
-planOf t call.End = nothing t
+use Rattle.executive.specs.Plans.{caller, stateAt, planOf}
+use Rattle.executive.specs.Check.{isWellFormed}
 
 -- ---- the record: 4 where its first byte is no carried kind, and as a call also 40 to 42
 abbrev pub kindIn : List ℕ → Kind

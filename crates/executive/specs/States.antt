@@ -9,8 +9,8 @@ use Rattle.executive.specs.declared.Mode.{Mode}
 use Rattle.executive.specs.declared.Mode.the-variants.{Any, All}
 use Rattle.executive.specs.declared.State.{State}
 use Rattle.executive.specs.declared.State.the-variants.{Dormant, Ready, Paused, Due, Flags, AwaitStart, AwaitEnd}
-use Rattle.executive.specs.Queue.{pick, one}
-use Rattle.executive.specs.Table.{never}
+use Rattle.executive.specs.Lists.{pick, one}
+use Rattle.executive.specs.Places.{never}
 
 -- ---- the kinds of state, numbered: the check goes by these numbers, and a table's image holds them
 abbrev pub dormant : ℕ

@@ -2,51 +2,24 @@
 -- The types are the code's own.
 use mathlib.Core.Path.{_≡_}
 use mathlib.Core.Bool.{Bool, true, false}
-use mathlib.Core.List.{List, [], _∷_, tail}
-use Prim.Native.Nat.{ℕ, zero, suc, _≤_, _<_}
+use mathlib.Core.List.{List, [], _∷_, tail, _++_}
+use Prim.Native.Nat.{ℕ, suc, _≤_, _+_, _-_}
 use lib.Dec.{ltb}
-use lib.ListN.{length, getD, set, take}
+use lib.ListN.{length, take, drop}
 use Rattle.records.specs.declared.TaskNo.{TaskNo}
-use Rattle.executive.specs.declared.Millis.{Millis}
-use Rattle.executive.specs.declared.State.the-variants.{Dormant}
 use Rattle.executive.specs.declared.Task.{Task}
-use Rattle.executive.specs.declared.Request.{Request}
 use Rattle.executive.specs.declared.Rest.{Rest}
 use Rattle.executive.specs.declared.Table.{Table}
 use Rattle.executive.specs.declared.Work.{Work}
-use Rattle.executive.specs.Numbers.{mostTasks, mostQueued, endOfTime}
-use Rattle.executive.specs.Queue.{Item, Moves, pick, behind}
-
--- ---- blank entries
-abbrev pub nobody : TaskNo
-nobody = record { 0 = 0 }
-
-abbrev pub never : Millis
-never = record { 0 = 0 }
-
-abbrev pub noTask : Task
-noTask = record { own = 0; state = Dormant; priority = 0; argument = 0; start = never; «end_waiter» = nobody }
-
-abbrev pub noRequest : Request
-noRequest = record { target = nobody; priority = 0; argument = 0; «start_waiter» = nobody; «end_waiter» = nobody }
-
--- ---- a line that stands at the front of an array: free places last and blank
-unfoldable pub pad : {A : Type 0} → ℕ → A → List A → List A
-pad zero d xs = xs
-pad (suc n) d [] = d ∷ pad n d []
-pad (suc n) d (x ∷ xs) = x ∷ pad n d xs
+use Rattle.executive.specs.Numbers.{mostTasks, endOfTime}
+use Rattle.executive.specs.Queue.{Item, Moves, behind}
+use Rattle.executive.specs.Lists.{pick, pad}
+use Rattle.executive.specs.Places.{taskAt, nobody, putAt}
+use Rattle.executive.specs.Pool.{Neat}
 
 -- the ready queue and the queued requests, first to last
 abbrev pub line : Table → List TaskNo
 line t = take (t .ready) (t .queue)
-
-abbrev pub requests : Rest → List Request
-requests r = take (r .queued) (r .pool)
-
--- the places behind a line are blank
-pub record Neat (r : Rest) : Type 0 where
-  pub room : r .queued ≤ mostQueued
-  pub clear : r .pool ≡ pad mostQueued noRequest (requests r)
 
 pub record Fit (t : Table) : Type 0 where
   pub all : length (t .tasks) ≡ mostTasks
@@ -54,29 +27,11 @@ pub record Fit (t : Table) : Type 0 where
   pub tidy : t .queue ≡ pad mostTasks nobody (line t)
   pub neat : Neat (t .rest)
 
--- ---- tasks are numbered from 1; number 0 is nobody
-unfoldable pub taskAt : List Task → ℕ → Task
-taskAt ts zero = noTask
-taskAt ts (suc i) = getD ts i noTask
-
-unfoldable pub putAt : List Task → ℕ → Task → List Task
-putAt ts zero e = ts
-putAt ts (suc i) e = set ts i e
-
--- the place of number k in an array of sixteen, k - 1; 16, which is no place, where k is 0 or over 16
-unfoldable pub entryPlace : ℕ → ℕ
-entryPlace zero = mostTasks
-entryPlace (suc i) = pick (ltb i mostTasks) i mostTasks
-
 -- what the calls' methods ask of a table, besides a caller: the arrays in order, no time out of range
 pub record Standing (t : Table) : Type 0 where
   pub fit : Fit t
   pub clocked : t .rest .clock .0 ≤ endOfTime
   pub started : (k : ℕ) → taskAt (t .tasks) k .start .0 ≤ t .rest .clock .0
-
--- a number that names a task
-abbrev pub Names : ℕ → List Task → Type 0
-Names k ts = (0 < k) × (k ≤ length ts)
 
 -- the queue of numbers, with the priorities of a list of tasks
 abbrev pub itemOf : List Task → TaskNo → Item
@@ -190,3 +145,12 @@ outTasks (leaves f) ts c = change-at ts c f
 
 unfoldable pub movesOf : Plan → Table → Moves
 movesOf p t = record { out = left? (p .out); ins = entries (p .ins) (outTasks (p .out) (t .tasks) (headOf (line t) .0)) }
+
+-- how many at the front stay ahead of a task of priority p: all of equal or higher priority
+unfoldable pub aheadOf : List Task → ℕ → List TaskNo → ℕ
+aheadOf ts p [] = 0
+aheadOf ts p (x ∷ xs) = pick (behind p (taskAt ts (x .0) .priority)) (suc (aheadOf ts p xs)) 0
+
+-- r places are taken, and k comes in at one of them or behind them
+unfoldable pub slidOf : List TaskNo → ℕ → ℕ → TaskNo → List TaskNo
+slidOf q at r k = take at q ++ (k ∷ (take (r - at) (drop at q) ++ drop (r + 1) q))

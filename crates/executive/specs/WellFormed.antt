@@ -2,7 +2,7 @@
 -- links and names are counts.
 use mathlib.Core.Path.{_≡_}
 use mathlib.Core.Bool.{true, false, not}
-use mathlib.Core.List.{List, [], _∷_}
+use mathlib.Core.List.{List}
 use Prim.Native.Nat.{ℕ, _+_, _≤_, _<_}
 use lib.Dec.{eqb, ltb}
 use lib.ListN.{length, getD}
@@ -13,15 +13,13 @@ use Rattle.executive.specs.declared.Task.{Task}
 use Rattle.executive.specs.declared.Request.{Request}
 use Rattle.executive.specs.declared.Table.{Table}
 use Rattle.executive.specs.Numbers.{mostTasks, mostQueued, flagCount, highest, mostGranule, endOfTime, longest}
-use Rattle.executive.specs.Queue.{pick, one, count, Desc}
-use Rattle.executive.specs.Table.{nobody, never, noTask, noRequest, pad, line, requests, taskAt, items}
+use Rattle.executive.specs.Lists.{pick, one, pad, sumOf}
+use Rattle.executive.specs.Queue.{count, Desc}
+use Rattle.executive.specs.Places.{nobody, never, noTask, noRequest, taskAt}
+use Rattle.executive.specs.Table.{line, items}
+use Rattle.executive.specs.Pool.{requests}
 use Rattle.executive.specs.States.{dormant, ready, awaitStart, awaitEnd, timeOf, maskOf, is, hasTime, hasMask, waitMode}
-use Rattle.executive.specs.Plans.{met}
-
--- ---- counting
-unfoldable pub sumOf : {A : Type 0} → (A → ℕ) → List A → ℕ
-sumOf f [] = 0
-sumOf f (x ∷ xs) = f x + sumOf f xs
+use Rattle.executive.specs.Flags.{met}
 
 -- how many requests name task k: as their target, as the waiter for their start, as the waiter for the end of the
 -- run that they begin

@@ -15,7 +15,7 @@ ghost use mathlib.Core.Bool.{false};
 ghost use Prim.Native.Nat.{_<_};
 ghost use Rattle.executive.specs.Table.{Standing};
 ghost use Rattle.executive.specs.Refusals.{badBody};
-ghost use Rattle.executive.specs.Steps.{IsNoTable, marks, flagMarks, marksOf, answerOf, hasV, refused};
+ghost use Rattle.executive.specs.Step.{IsNoTable, marks, flagMarks, marksOf, answerOf, hasV, refused};
 
 // The answer where there is no well-formed table.
 pub fn no_table() -> Answer

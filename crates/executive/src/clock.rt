@@ -6,10 +6,9 @@ use records::FlagNo;
 ghost use mathlib.Core.Path.{_≡_};
 ghost use Prim.Native.Nat.{_<_, _≤_, _+_, _*_, _/_, _%_, _^_};
 ghost use Rattle.executive.specs.Numbers.{lastUnit, endOfTime, longest};
-ghost use Rattle.executive.specs.Time.{units, interval, nextOnGrid, skipsMissed, aimAt, skippedOf};
+ghost use Rattle.executive.specs.Clock.{units, interval, nextOnGrid, skipsMissed, aimAt, skippedOf, isDue, advanced};
 ghost use lib.ListN.{drop, getD};
-ghost use Rattle.executive.specs.Places.{nextOf};
-ghost use Rattle.executive.specs.Rests.{isDue, advanced};
+ghost use Rattle.executive.specs.Lists.{nextOf};
 
 // The last unit of an interval, and the longest interval in ms; the last time that the clock may show.
 pub(crate) const LAST_UNIT: u8 = 5;

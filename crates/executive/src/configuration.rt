@@ -12,12 +12,11 @@ use records::TaskNo;
 ghost use mathlib.Core.Path.{_≡_};
 ghost use Prim.Native.Nat.{_<_, _≤_};
 ghost use lib.ListN.{getD};
-ghost use Rattle.executive.specs.Table.{Flying, pad, noTask, admits};
-ghost use Rattle.executive.specs.Check.{upTo};
-ghost use Rattle.executive.specs.Cards.{Cards};
-ghost use Rattle.executive.specs.FreshLaw.{FreshLaw};
-ghost use Rattle.executive.specs.Fresh.{placeIn, ownIn, markIn, tasksIn, taskRight, isConfiguration, blankRest, withTasks, dormantAt, sleepers};
-ghost use Rattle.executive.specs.Fresh.{starter, starters, madeBy, Makes, Measures};
+ghost use Rattle.executive.specs.Table.{Flying, admits};
+ghost use Rattle.executive.specs.Lists.{pad, upTo};
+ghost use Rattle.executive.specs.Places.{noTask};
+ghost use Rattle.executive.specs.Configuration.{placeIn, ownIn, markIn, tasksIn, taskRight, isConfiguration, blankRest, withTasks, dormantAt, sleepers};
+ghost use Rattle.executive.specs.Configuration.{starter, starters, madeBy, Makes, Measures};
 
 // The byte at a place, and 0 past the end.
 fn at(s: &[u8], i: usize) -> u8
@@ -230,13 +229,3 @@ pub fn fresh(bytes: &[u8]) -> Fresh
     let v = start_marked(w, bytes, n);
     made(0, v.table)
 }
-
-// Every fresh table is well formed, and what else specs/FreshLaw says of a configuration.
-fn fresh_law()
-    ensures { λ r. ⌜ FreshLaw ⌝ }
-{}
-
-// The bench cards P1 to P12 hold of the definitions.
-fn cards()
-    ensures { λ r. ⌜ Cards ⌝ }
-{}

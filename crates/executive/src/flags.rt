@@ -11,8 +11,9 @@ ghost use mathlib.Core.Path.{_≡_};
 ghost use Prim.Native.Nat.{_<_, _≤_};
 ghost use Rattle.executive.specs.Numbers.{lastUnit, endOfTime};
 ghost use Rattle.executive.specs.Table.{Fit, carry};
-ghost use Rattle.executive.specs.Rests.{isSet, flagSet, flagReset, withFlags, withAlarm};
-ghost use Rattle.executive.specs.Plans.{modeOf, met, setPlan, resetPlan, flagPlan, waitPlan, alarmPlan};
+ghost use Rattle.executive.specs.Flags.{isSet, flagSet, flagReset, withFlags, modeOf, met};
+ghost use Rattle.executive.specs.Clock.{withAlarm};
+ghost use Rattle.executive.specs.Plans.{setPlan, resetPlan, flagPlan, waitPlan, alarmPlan};
 ghost use Rattle.executive.specs.WellFormed.{Times};
 
 // Whether a wait is for any (0) or for all (1).

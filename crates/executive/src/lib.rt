@@ -1,9 +1,5 @@
 // The executive: the nouns of its table, and the step that takes a table's state and hands the state back.
 use records::TaskNo;
-ghost use Rattle.executive.specs.Demands.{Demands};
-ghost use Rattle.executive.specs.QueueLaw.{QueueLaw};
-ghost use Rattle.executive.specs.Worked.{Worked};
-ghost use Rattle.executive.specs.Skipping.{Skipping};
 
 pub mod answers;
 mod calls;
@@ -12,13 +8,18 @@ mod clock;
 pub mod configuration;
 mod entries;
 mod flags;
+mod passes;
 mod places;
 mod pool;
+mod promises;
 mod queue;
+mod queue_check;
 mod refusals;
+mod rules;
 mod starts;
 pub mod states;
 mod step;
+mod waiters;
 mod waking;
 
 // A time of the clock, or a length of time, in milliseconds.
@@ -124,9 +125,3 @@ pub struct Fresh {
     pub answer: Answer,
     pub table: Table,
 }
-
-// The founder's demands, the queue's law, one history worked out and the restart that skips, of every step: nothing
-// to run, a contract that keeps the theorems in place.
-fn promised()
-    ensures { λ r. ⌜ Demands × QueueLaw × Worked × Skipping ⌝ }
-{}

@@ -7,7 +7,7 @@ use records::TaskNo;
 ghost use mathlib.Core.Path.{_≡_};
 ghost use Prim.Native.Nat.{_<_};
 ghost use lib.ListN.{set};
-ghost use Rattle.executive.specs.Table.{taskAt, putAt, entryPlace};
+ghost use Rattle.executive.specs.Places.{taskAt, putAt, entryPlace};
 ghost use Rattle.executive.specs.Plans.{stateAt};
 
 // The blank entry.

@@ -6,9 +6,9 @@ ghost use mathlib.Core.Path.{_≡_};
 ghost use Prim.Native.Nat.{_<_, _≤_};
 ghost use lib.ListN.{take};
 ghost use mathlib.Core.List.{_∷_, [], _++_};
-ghost use Rattle.executive.specs.Table.{Neat, noRequest, requests};
-ghost use Rattle.executive.specs.Places.{closedAt, foundAt};
-ghost use Rattle.executive.specs.Rests.{placeOf, removed, withRequests};
+ghost use Rattle.executive.specs.Pool.{Neat, requests, foundAt, placeOf, removed, withRequests};
+ghost use Rattle.executive.specs.Places.{noRequest};
+ghost use Rattle.executive.specs.Lists.{closedAt};
 
 // The blank request.
 pub(crate) const NO_REQUEST: Request = Request {

@@ -11,8 +11,9 @@ ghost use Prim.Native.Nat.{_≤_};
 ghost use lib.Dec.{ltb, eqb};
 ghost use lib.ListN.{getD};
 ghost use Rattle.executive.specs.Numbers.{lastUnit, endOfTime};
-ghost use Rattle.executive.specs.Table.{never};
-ghost use Rattle.executive.specs.Refusals.{_or_, isTick, noSuchTask, nobodyActive, badBody, namesCaller, alarmRunning, poolFull, endsTime, earlyOf};
+ghost use Rattle.executive.specs.Places.{never};
+ghost use Rattle.executive.specs.Lists.{_or_};
+ghost use Rattle.executive.specs.Refusals.{isTick, noSuchTask, nobodyActive, badBody, namesCaller, alarmRunning, poolFull, endsTime, earlyOf};
 
 pub(crate) fn is_tick(call: Call) -> bool
     ensures { λ r. ⌜ r ≡ isTick call ⌝ }

@@ -3,7 +3,7 @@ use crate::Millis;
 use crate::Mode;
 use crate::State;
 ghost use mathlib.Core.Path.{_≡_};
-ghost use Rattle.executive.specs.States.{KindIs, TimeIs, MaskIs, StatesTold, isOf, isDormant, isPaused, hasTime, hasMask, waitMode};
+ghost use Rattle.executive.specs.States.{KindIs, TimeIs, MaskIs, isOf, isDormant, isPaused, hasTime, hasMask, waitMode};
 
 // The kinds of state. The check goes by these numbers, and a table's image holds them.
 const DORMANT: u8 = 0;
@@ -114,8 +114,3 @@ pub(crate) fn wait_mode(s: State) -> Mode
     }
     Mode::Any
 }
-
-// What is shown of them: kind, time and mask tell the state, and each has one answer.
-fn states_told()
-    ensures { λ r. ⌜ StatesTold ⌝ }
-{}

@@ -12,8 +12,9 @@ ghost use Rattle.executive.specs.Table.{carry};
 ghost use Rattle.executive.specs.WellFormed.{WellFormed};
 ghost use mathlib.Core.Bool.{true};
 ghost use Rattle.executive.specs.Check.{isWellFormed};
-ghost use Rattle.executive.specs.Refusals.{planOf, earlyOf};
-ghost use Rattle.executive.specs.Steps.{isStep, performed, stepOf, Steps, Takes};
+ghost use Rattle.executive.specs.Plans.{planOf};
+ghost use Rattle.executive.specs.Refusals.{earlyOf};
+ghost use Rattle.executive.specs.Step.{isStep, performed, stepOf, Steps, Takes};
 
 // Whether a step takes the call; a configuration record it does not.
 fn is_step(call: Call) -> bool

@@ -3,7 +3,7 @@ use mathlib.Core.Path.{ap}
 use native.Mathlib.Omega.{arith}
 use denote.Ref.{now}
 use Rattle.executive.specs.declared.Fresh.{Fresh}
-use Rattle.executive.specs.Fresh.{freshOf}
+use Rattle.executive.specs.Configuration.{freshOf}
 use Rattle.board.proofs.Answered.{holds, fresh-length, fresh-refused, fresh-made}
 use Rattle.board.proofs.Owned.{fresh-owned}
 use borrow.Author.Needs.{needs}

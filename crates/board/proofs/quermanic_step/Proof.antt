@@ -3,7 +3,7 @@ use mathlib.Core.Path.{ap, _∙_}
 use native.Mathlib.Omega.{arith}
 use denote.Ref.{now}
 use borrow.Author.Tests.{not-true, not-false}
-use Rattle.executive.specs.Steps.{stepOf}
+use Rattle.executive.specs.Step.{stepOf}
 use Rattle.executive.specs.declared.Outcome.{Outcome}
 use Rattle.board.specs.Blocks.{written}
 use Rattle.board.specs.Entries.{answerBytes}

@@ -7,7 +7,7 @@ use native.Mathlib.Omega.{arith}
 use lib.ListN.{length, drop}
 use denote.Ref.{now}
 use borrow.Author.Needs.{needs}
-use Rattle.executive.specs.Queue.{pick}
+use Rattle.executive.specs.Lists.{pick}
 use Rattle.board.specs.Blocks.{same}
 use Rattle.board.proofs.Alike.{same-lengths, same-turn, same-differ, same-end}
 use Rattle.board.proofs.checking.same_bytes.Statement.{statement}

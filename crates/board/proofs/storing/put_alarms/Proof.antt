@@ -5,7 +5,7 @@ use native.Mathlib.Omega.{arith}
 use lib.ListN.{length, take}
 use denote.Ref.{now}
 use borrow.Author.Needs.{needs}
-use Rattle.executive.specs.Table.{never}
+use Rattle.executive.specs.Places.{never}
 use Rattle.board.specs.Blocks.{row, written}
 use Rattle.board.specs.Image.{alarmBytes, alarmsAt}
 use Rattle.board.proofs.Spans.{row-start, row-turn, row-end}

@@ -6,10 +6,11 @@ use borrow.Author.Needs.{needs}
 use lib.Bits.{bitOr}
 use lib.ListN.{length, length-map, getD, set, length-set}
 use Rattle.executive.specs.declared.Millis.{Millis}
-use Rattle.executive.specs.Rests.{each, isDue, rung, advanced}
-use Rattle.executive.specs.Table.{never}
-use Rattle.executive.proofs.Flight.{each-end}
-use Rattle.executive.proofs.Next.{ringing, ring-on, ring-turn}
+use Rattle.executive.specs.Lists.{each}
+use Rattle.executive.specs.Clock.{isDue, rung, advanced}
+use Rattle.executive.specs.Places.{never}
+use Rattle.executive.proofs.Lists.Loops.{each-end}
+use Rattle.executive.proofs.clock.Alarms.{ringing, ring-on, ring-turn}
 use Rattle.executive.proofs.Rest.advance.Statement.{statement}
 use Rattle.executive.proofs.Rest.advance.Tie as tie
 

@@ -5,7 +5,7 @@ use borrow.Author.Tests.{ne-eqb}
 use Rattle.executive.specs.Numbers.{longest}
 use Rattle.executive.specs.Plans.{alarmPlan}
 use Rattle.executive.specs.Table.{carry, depart, admits}
-use Rattle.executive.proofs.Interval.{interval-most}
+use Rattle.executive.proofs.clock.Interval.{interval-most}
 use borrow.Author.Needs.{needs}
 use Rattle.executive.proofs.Table.alarm.Statement.{statement}
 use Rattle.executive.proofs.Table.alarm.Tie as tie

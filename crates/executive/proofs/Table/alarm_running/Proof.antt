@@ -1,5 +1,5 @@
 use Rattle.executive.specs.Refusals.{alarmRunning}
-use Rattle.executive.proofs.Others.{not-alarm}
+use Rattle.executive.proofs.refusals.OtherKinds.{not-alarm}
 use borrow.Author.Needs.{needs}
 use Rattle.executive.proofs.Table.alarm_running.Statement.{statement}
 use Rattle.executive.proofs.Table.alarm_running.Tie as tie

@@ -1,7 +1,7 @@
 use mathlib.Core.Path.{sym, _∙_}
-use Rattle.executive.proofs.Scans.{cancelled, not-cancelled}
+use Rattle.executive.proofs.waking.ScansAgree.{cancelled, not-cancelled}
 use borrow.Author.Needs.{needs}
-use Rattle.executive.proofs.Flight.{begin-flying}
+use Rattle.executive.proofs.queue.InFlight.{begin-flying}
 use Rattle.executive.proofs.Table.cancel.Statement.{statement}
 use Rattle.executive.proofs.Table.cancel.Tie as tie
 

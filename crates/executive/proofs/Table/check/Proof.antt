@@ -1,5 +1,5 @@
 use mathlib.Core.Path.{sym, _∙_}
-use Rattle.executive.proofs.Checked.{checked-right, checked-wrong}
+use Rattle.executive.proofs.check.Decides.{checked-right, checked-wrong}
 use borrow.Author.Needs.{needs}
 use Rattle.executive.proofs.Table.check.Statement.{statement}
 use Rattle.executive.proofs.Table.check.Tie as tie

@@ -1,7 +1,7 @@
 use mathlib.Core.Path.{refl}
 use borrow.Author.Tests.{ne-eqb}
 use Rattle.executive.specs.Plans.{flagPlan}
-use Rattle.executive.proofs.Scans.{unchanged}
+use Rattle.executive.proofs.waking.ScansAgree.{unchanged}
 use borrow.Author.Needs.{needs}
 use Rattle.executive.proofs.Table.flag.Statement.{statement}
 use Rattle.executive.proofs.Table.flag.Tie as tie

@@ -1,11 +1,12 @@
-use Rattle.executive.proofs.Both.{here, beyond, onward}
-use Rattle.executive.specs.Check.{allOf, isBlank, inBounds, alarmRight, entryRight, inPasses, isWellFormed}
+use Rattle.executive.proofs.Lists.Tests.{here, beyond, onward}
+use Rattle.executive.specs.Lists.{allOf}
+use Rattle.executive.specs.Check.{isBlank, inBounds, alarmRight, entryRight, inPasses, isWellFormed}
 use mathlib.Core.Path.{_≡_, sym, _∙_}
 use borrow.Author.Tests.{not-true, not-false}
 use mathlib.Core.Bool.{Bool}
 use lib.ListN.{length, length-map, drop}
-use Rattle.executive.proofs.Rules.{bounds-get}
-use Rattle.executive.proofs.Passes.{sized}
+use Rattle.executive.proofs.check.RuleByRule.{bounds-get}
+use Rattle.executive.proofs.check.Passes.{sized}
 use borrow.Author.Needs.{needs}
 use Rattle.executive.proofs.Table.is_well_formed.Statement.{statement}
 use Rattle.executive.proofs.Table.is_well_formed.Tie as tie

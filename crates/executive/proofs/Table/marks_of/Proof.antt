@@ -1,5 +1,5 @@
-use Rattle.executive.specs.Steps.{marksOf}
-use Rattle.executive.proofs.Clear.{flag-low, alarm-low}
+use Rattle.executive.specs.Step.{marksOf}
+use Rattle.executive.proofs.refusals.NothingRefuses.{flag-low, alarm-low}
 use borrow.Author.Needs.{needs}
 use Rattle.executive.proofs.Table.marks_of.Statement.{statement}
 use Rattle.executive.proofs.Table.marks_of.Tie as tie

@@ -1,6 +1,6 @@
 use borrow.Author.Tests.{eq-eqb, ne-eqb}
 use Rattle.executive.specs.Refusals.{namesCaller}
-use Rattle.executive.proofs.Others.{not-queue}
+use Rattle.executive.proofs.refusals.OtherKinds.{not-queue}
 use borrow.Author.Needs.{needs}
 use Rattle.executive.proofs.Table.names_caller.Statement.{statement}
 use Rattle.executive.proofs.Table.names_caller.Tie as tie

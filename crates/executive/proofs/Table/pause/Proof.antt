@@ -1,12 +1,13 @@
 use Rattle.executive.specs.Numbers.{longest}
 use Rattle.executive.specs.Plans.{pausePlan}
-use Rattle.executive.specs.Table.{carry, departed, depart, admits, nobody}
-use Rattle.executive.proofs.Interval.{interval-most}
+use Rattle.executive.specs.Table.{carry, departed, depart, admits}
+use Rattle.executive.specs.Places.{nobody}
+use Rattle.executive.proofs.clock.Interval.{interval-most}
 use Prim.Native.Nat.{_≤_}
 use mathlib.Core.Path.{refl}
 use native.Mathlib.Omega.{arith}
 use borrow.Author.Tests.{ne-eqb}
-use Rattle.executive.proofs.Fits.{head-line}
+use Rattle.executive.proofs.queue.ArraysAreLists.{head-line}
 use borrow.Author.Needs.{needs}
 use Rattle.executive.proofs.Table.pause.Statement.{statement}
 use Rattle.executive.proofs.Table.pause.Tie as tie

@@ -1,11 +1,11 @@
 use mathlib.Core.Path.{_≡_, sym, _∙_}
 use mathlib.Core.Bool.{true, false}
-use Rattle.executive.specs.Refusals.{planOf}
+use Rattle.executive.specs.Plans.{planOf}
 use Rattle.executive.specs.Table.{carry}
-use Rattle.executive.specs.Steps.{accepted}
-use Rattle.executive.proofs.Standing.{standing-of}
-use Rattle.executive.proofs.Clear.{clear-of}
-use Rattle.executive.proofs.Answered.{refused-early, refused-late, not-refused}
+use Rattle.executive.specs.Step.{accepted}
+use Rattle.executive.proofs.calls.InOrder.{standing-of}
+use Rattle.executive.proofs.refusals.NothingRefuses.{clear-of}
+use Rattle.executive.proofs.step.CodeIsStep.{refused-early, refused-late, not-refused}
 use borrow.Author.Needs.{needs}
 use Rattle.executive.proofs.Table.perform.Statement.{statement}
 use Rattle.executive.proofs.Table.perform.Tie as tie

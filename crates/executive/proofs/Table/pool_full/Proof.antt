@@ -1,5 +1,5 @@
 use Rattle.executive.specs.Refusals.{poolFull}
-use Rattle.executive.proofs.Others.{not-queue}
+use Rattle.executive.proofs.refusals.OtherKinds.{not-queue}
 use borrow.Author.Needs.{needs}
 use Rattle.executive.proofs.Table.pool_full.Statement.{statement}
 use Rattle.executive.proofs.Table.pool_full.Tie as tie

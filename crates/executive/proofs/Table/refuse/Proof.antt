@@ -1,6 +1,6 @@
 use mathlib.Core.Path.{refl}
 use borrow.Author.Tests.{ne-eqb}
-use Rattle.executive.specs.Steps.{refused}
+use Rattle.executive.specs.Step.{refused}
 use borrow.Author.Needs.{needs}
 use Rattle.executive.proofs.Table.refuse.Statement.{statement}
 use Rattle.executive.proofs.Table.refuse.Tie as tie

@@ -1,6 +1,6 @@
-use Rattle.executive.proofs.Fits.{departed-fit}
-use Rattle.executive.proofs.Flight.{begin-flying, admits-flying}
-use Rattle.executive.proofs.Ends.{restarted-now, restarted-later}
+use Rattle.executive.proofs.queue.ArraysAreLists.{departed-fit}
+use Rattle.executive.proofs.queue.InFlight.{begin-flying, admits-flying}
+use Rattle.executive.proofs.calls.CodeIsPlan.{restarted-now, restarted-later}
 use borrow.Author.Needs.{needs}
 use Rattle.executive.proofs.Table.restart.Statement.{statement}
 use Rattle.executive.proofs.Table.restart.Tie as tie

@@ -1,9 +1,9 @@
 use mathlib.Core.Path.{refl}
 use Rattle.executive.specs.Plans.{setPlan}
 use Rattle.executive.specs.Table.{carry, depart}
-use Rattle.executive.proofs.Scans.{risers-timely}
+use Rattle.executive.proofs.waking.ScansAgree.{risers-timely}
 use borrow.Author.Needs.{needs}
-use Rattle.executive.proofs.Flight.{begin-flying}
+use Rattle.executive.proofs.queue.InFlight.{begin-flying}
 use Rattle.executive.proofs.Table.set.Statement.{statement}
 use Rattle.executive.proofs.Table.set.Tie as tie
 

@@ -1,6 +1,6 @@
 use mathlib.Core.Path.{refl, sym}
 use Rattle.executive.specs.Plans.{startPlan}
-use Rattle.executive.proofs.Flight.{begin-flying, depart-fit, carry-still}
+use Rattle.executive.proofs.queue.InFlight.{begin-flying, depart-fit, carry-still}
 use borrow.Author.Needs.{needs}
 use Rattle.executive.proofs.Table.start.Statement.{statement}
 use Rattle.executive.proofs.Table.start.Tie as tie

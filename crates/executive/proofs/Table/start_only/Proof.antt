@@ -2,7 +2,7 @@ use mathlib.Core.Path.{_≡_, refl, sym, _∙_}
 use mathlib.Core.Bool.{true, false}
 use Rattle.executive.specs.Plans.{stateAt, startOnlyPlan}
 use Rattle.executive.specs.States.{isDormant}
-use Rattle.executive.proofs.Scans.{unchanged}
+use Rattle.executive.proofs.waking.ScansAgree.{unchanged}
 use borrow.Author.Needs.{needs}
 use Rattle.executive.proofs.Table.start_only.Statement.{statement}
 use Rattle.executive.proofs.Table.start_only.Tie as tie

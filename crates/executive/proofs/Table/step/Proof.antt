@@ -1,5 +1,5 @@
 use mathlib.Core.Path.{sym, _∙_}
-use Rattle.executive.proofs.Answered.{step-ill}
+use Rattle.executive.proofs.step.CodeIsStep.{step-ill}
 use borrow.Author.Needs.{needs}
 use Rattle.executive.proofs.Table.step.Statement.{statement}
 use Rattle.executive.proofs.Table.step.Tie as tie

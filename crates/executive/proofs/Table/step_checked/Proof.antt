@@ -1,6 +1,6 @@
 use mathlib.Core.Path.{sym, _∙_}
-use Rattle.executive.proofs.Checked.{well-formed-iff}
-use Rattle.executive.proofs.Answered.{step-empty, step-no-call, step-read, step-refused}
+use Rattle.executive.proofs.check.Decides.{well-formed-iff}
+use Rattle.executive.proofs.step.CodeIsStep.{step-empty, step-no-call, step-read, step-refused}
 use borrow.Author.Needs.{needs}
 use Rattle.executive.proofs.Table.step_checked.Statement.{statement}
 use Rattle.executive.proofs.Table.step_checked.Tie as tie

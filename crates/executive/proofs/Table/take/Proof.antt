@@ -1,6 +1,6 @@
 use mathlib.Core.Path.{sym, _∙_}
 use Rattle.records.specs.Writing.{bytesOf}
-use Rattle.executive.proofs.Answered.{step-ill}
+use Rattle.executive.proofs.step.CodeIsStep.{step-ill}
 use borrow.Author.Needs.{needs}
 use Rattle.executive.proofs.Table.take.Statement.{statement}
 use Rattle.executive.proofs.Table.take.Tie as tie

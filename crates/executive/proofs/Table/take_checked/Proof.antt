@@ -1,6 +1,6 @@
 use mathlib.Core.Path.{sym, _∙_}
-use Rattle.executive.proofs.Checked.{well-formed-iff}
-use Rattle.executive.proofs.Answered.{take-call, take-no-call}
+use Rattle.executive.proofs.check.Decides.{well-formed-iff}
+use Rattle.executive.proofs.step.CodeIsStep.{take-call, take-no-call}
 use borrow.Author.Needs.{needs}
 use Rattle.executive.proofs.Table.take_checked.Statement.{statement}
 use Rattle.executive.proofs.Table.take_checked.Tie as tie

@@ -2,7 +2,7 @@ use mathlib.Core.Path.{refl}
 use borrow.Author.Needs.{needs}
 use Rattle.executive.specs.Plans.{tickPlan}
 use Rattle.executive.specs.Table.{carry, depart}
-use Rattle.executive.proofs.Flight.{begin-flying}
+use Rattle.executive.proofs.queue.InFlight.{begin-flying}
 use Rattle.executive.proofs.Table.tick.Statement.{statement}
 use Rattle.executive.proofs.Table.tick.Tie as tie
 

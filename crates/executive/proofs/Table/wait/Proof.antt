@@ -1,8 +1,9 @@
 use mathlib.Core.Path.{_≡_, refl, sym, _∙_}
 use mathlib.Core.Bool.{true, false}
-use Rattle.executive.specs.Plans.{met, modeOf, waitPlan}
+use Rattle.executive.specs.Flags.{met, modeOf}
+use Rattle.executive.specs.Plans.{waitPlan}
 use Rattle.executive.specs.Table.{carry, depart, departed, admits}
-use Rattle.executive.proofs.Scans.{unchanged}
+use Rattle.executive.proofs.waking.ScansAgree.{unchanged}
 use borrow.Author.Needs.{needs}
 use Rattle.executive.proofs.Table.wait.Statement.{statement}
 use Rattle.executive.proofs.Table.wait.Tie as tie

@@ -1,5 +1,6 @@
-use Rattle.executive.proofs.Both.{here, beyond, onward, shut}
-use Rattle.executive.specs.Check.{allOf, requestRight}
+use Rattle.executive.proofs.Lists.Tests.{here, beyond, onward, shut}
+use Rattle.executive.specs.Lists.{allOf}
+use Rattle.executive.specs.Check.{requestRight}
 use mathlib.Core.Path.{sym, _∙_}
 use borrow.Author.Tests.{not-true, not-false}
 use lib.ListN.{take}

@@ -6,7 +6,7 @@ use native.Mathlib.Omega.{arith}
 use lib.Bits.{bitAnd, and-mask}
 use borrow.Author.Needs.{needs}
 use Rattle.executive.specs.Numbers.{longest}
-use Rattle.executive.proofs.Interval.{turned, step-within}
+use Rattle.executive.proofs.clock.Interval.{turned, step-within}
 use Rattle.executive.proofs.clock.added_up.Statement.{statement}
 use Rattle.executive.proofs.clock.added_up.Tie as tie
 

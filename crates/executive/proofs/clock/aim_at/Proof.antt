@@ -3,8 +3,8 @@ use native.Mathlib.Omega.{arith}
 use Prim.Native.Nat.{_≤_, _%_}
 use borrow.Author.Tests.{lt-ltb, le-ltb}
 use Rattle.executive.specs.Numbers.{lastUnit, longest}
-use Rattle.executive.specs.Time.{aimAt}
-use Rattle.executive.proofs.Interval.{interval-most, every-some}
+use Rattle.executive.specs.Clock.{aimAt}
+use Rattle.executive.proofs.clock.Interval.{interval-most, every-some}
 use borrow.Author.Needs.{needs}
 use Rattle.executive.proofs.clock.aim_at.Statement.{statement}
 use Rattle.executive.proofs.clock.aim_at.Tie as tie

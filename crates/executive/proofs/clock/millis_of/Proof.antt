@@ -1,7 +1,7 @@
 use mathlib.Core.Path.{refl}
 use native.Mathlib.Omega.{arith}
-use Rattle.executive.specs.Time.{interval}
-use Rattle.executive.proofs.Interval.{interval-most}
+use Rattle.executive.specs.Clock.{interval}
+use Rattle.executive.proofs.clock.Interval.{interval-most}
 use borrow.Author.Needs.{needs}
 use Rattle.executive.proofs.clock.millis_of.Statement.{statement}
 use Rattle.executive.proofs.clock.millis_of.Tie as tie

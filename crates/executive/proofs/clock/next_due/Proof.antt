@@ -4,10 +4,10 @@ use native.Mathlib.Omega.{arith}
 use native.Mathlib.Numerals.{add-one}
 use borrow.Author.Needs.{needs}
 use lib.ListN.{drop}
-use Rattle.executive.specs.Places.{nextOf}
-use Rattle.executive.specs.Rests.{isDue}
-use Rattle.executive.specs.Table.{never}
-use Rattle.executive.proofs.Next.{next-hit, next-pass, next-end}
+use Rattle.executive.specs.Lists.{nextOf}
+use Rattle.executive.specs.Clock.{isDue}
+use Rattle.executive.specs.Places.{never}
+use Rattle.executive.proofs.Lists.Search.{next-hit, next-pass, next-end}
 use Rattle.executive.proofs.clock.next_due.Statement.{statement}
 use Rattle.executive.proofs.clock.next_due.Tie as tie
 

@@ -2,7 +2,7 @@ use Prim.Native.Nat.{_-_}
 use mathlib.Core.Path.{sym}
 use native.Mathlib.Nat.{mod-lt}
 use native.Mathlib.Omega.{arith}
-use Rattle.executive.proofs.Interval.{next-by-rest}
+use Rattle.executive.proofs.clock.Interval.{next-by-rest}
 use borrow.Author.Needs.{needs}
 use Rattle.executive.proofs.clock.next_on_grid.Statement.{statement}
 use Rattle.executive.proofs.clock.next_on_grid.Tie as tie

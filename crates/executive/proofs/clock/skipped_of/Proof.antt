@@ -3,8 +3,8 @@ use native.Mathlib.Omega.{arith}
 use Prim.Native.Nat.{_%_}
 use borrow.Author.Tests.{lt-ltb, le-ltb}
 use Rattle.executive.specs.Numbers.{lastUnit}
-use Rattle.executive.specs.Time.{missed, skippedOf}
-use Rattle.executive.proofs.Interval.{every-some}
+use Rattle.executive.specs.Clock.{missed, skippedOf}
+use Rattle.executive.proofs.clock.Interval.{every-some}
 use borrow.Author.Needs.{needs}
 use Rattle.executive.proofs.clock.skipped_of.Statement.{statement}
 use Rattle.executive.proofs.clock.skipped_of.Tie as tie

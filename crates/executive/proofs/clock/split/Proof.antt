@@ -3,7 +3,7 @@ use Prim.Native.Nat.{_+_, _*_, _/_, _<_}
 use native.Mathlib.Nat.{div-eq-of-lt, div-one}
 use native.Mathlib.Omega.{arith}
 use lib.Arith.{digits-div, digits-mod}
-use Rattle.executive.proofs.Division.{Divided, words, brought, taken}
+use Rattle.executive.proofs.clock.Division.{Divided, words, brought, taken}
 use Rattle.executive.proofs.clock.split.Statement.{statement}
 use Rattle.executive.proofs.clock.split.Tie as tie
 

@@ -3,9 +3,10 @@ use mathlib.Core.Path.{_≡_, refl}
 use native.Mathlib.Omega.{arith}
 use Prim.Native.Nat.{_≤_, _-_}
 use borrow.Author.Needs.{needs}
-use Rattle.executive.specs.Table.{noTask, pad}
-use Rattle.executive.specs.Fresh.{sleepers}
-use Rattle.executive.proofs.Settings.{dormant-more}
+use Rattle.executive.specs.Places.{noTask}
+use Rattle.executive.specs.Lists.{pad}
+use Rattle.executive.specs.Configuration.{sleepers}
+use Rattle.executive.proofs.configuration.Loops.{dormant-more}
 use Rattle.executive.proofs.configuration.all_dormant.Statement.{statement}
 use Rattle.executive.proofs.configuration.all_dormant.Tie as tie
 

@@ -1,6 +1,6 @@
 -- `executive::configuration::blank_rest` meets its contract.
 use mathlib.Core.Path.{refl}
-use Rattle.executive.specs.Table.{pad}
+use Rattle.executive.specs.Lists.{pad}
 use Rattle.executive.proofs.configuration.blank_rest.Statement.{statement}
 use Rattle.executive.proofs.configuration.blank_rest.Tie as tie
 

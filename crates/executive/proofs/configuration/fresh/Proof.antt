@@ -1,9 +1,9 @@
 -- `executive::configuration::fresh` meets its contract.
 use mathlib.Core.Path.{refl}
 use borrow.Author.Tests.{not-true, not-false}
-use Rattle.executive.specs.Fresh.{dormantTable, freshTable, freshOf, sleepers}
-use Rattle.executive.proofs.Flight.{begin-flying}
-use Rattle.executive.proofs.Settings.{dormant-fit}
+use Rattle.executive.specs.Configuration.{dormantTable, freshTable, freshOf, sleepers}
+use Rattle.executive.proofs.queue.InFlight.{begin-flying}
+use Rattle.executive.proofs.configuration.Loops.{dormant-fit}
 use borrow.Author.Needs.{needs}
 use Rattle.executive.proofs.configuration.fresh.Statement.{statement}
 use Rattle.executive.proofs.configuration.fresh.Tie as tie

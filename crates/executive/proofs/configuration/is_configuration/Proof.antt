@@ -3,7 +3,7 @@ use mathlib.Core.Path.{refl}
 use borrow.Author.Tests.{le-leb, lt-leb, eq-eqb, ne-eqb}
 use lib.ListN.{length}
 use denote.Ref.{now}
-use Rattle.executive.specs.Fresh.{isConfiguration}
+use Rattle.executive.specs.Configuration.{isConfiguration}
 use borrow.Author.Needs.{needs}
 use Rattle.executive.proofs.configuration.is_configuration.Statement.{statement}
 use Rattle.executive.proofs.configuration.is_configuration.Tie as tie

@@ -1,7 +1,7 @@
 -- `executive::configuration::length_in` meets its contract.
 use mathlib.Core.Path.{refl}
 use borrow.Author.Tests.{eq-eqb, ne-eqb}
-use Rattle.executive.specs.Fresh.{configurationIn}
+use Rattle.executive.specs.Configuration.{configurationIn}
 use borrow.Author.Needs.{needs}
 use Rattle.executive.proofs.configuration.length_in.Statement.{statement}
 use Rattle.executive.proofs.configuration.length_in.Tie as tie

@@ -2,7 +2,7 @@
 use mathlib.Core.Path.{refl}
 use borrow.Author.Tests.{eq-eqb, ne-eqb}
 use Rattle.executive.specs.Table.{admits}
-use Rattle.executive.specs.Fresh.{starter}
+use Rattle.executive.specs.Configuration.{starter}
 use borrow.Author.Needs.{needs}
 use Rattle.executive.proofs.configuration.start_at.Statement.{statement}
 use Rattle.executive.proofs.configuration.start_at.Tie as tie

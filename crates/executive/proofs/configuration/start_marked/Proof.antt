@@ -3,9 +3,9 @@ use mathlib.Core.Path.{_≡_, refl}
 use native.Mathlib.Omega.{arith}
 use Prim.Native.Nat.{_≤_, _-_}
 use Rattle.executive.specs.Table.{Flying, admits}
-use Rattle.executive.specs.Fresh.{starters}
-use Rattle.executive.proofs.Settings.{start-more}
-use Rattle.executive.proofs.Flight.{admits-flying}
+use Rattle.executive.specs.Configuration.{starters}
+use Rattle.executive.proofs.configuration.Loops.{start-more}
+use Rattle.executive.proofs.queue.InFlight.{admits-flying}
 use Rattle.executive.proofs.configuration.start_marked.Statement.{statement}
 use Rattle.executive.proofs.configuration.start_marked.Tie as tie
 

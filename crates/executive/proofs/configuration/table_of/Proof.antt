@@ -1,6 +1,6 @@
 -- `executive::configuration::table_of` meets its contract.
 use mathlib.Core.Path.{refl}
-use Rattle.executive.specs.Table.{pad}
+use Rattle.executive.specs.Lists.{pad}
 use Rattle.executive.proofs.configuration.table_of.Statement.{statement}
 use Rattle.executive.proofs.configuration.table_of.Tie as tie
 

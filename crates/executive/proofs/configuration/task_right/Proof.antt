@@ -1,7 +1,7 @@
 -- `executive::configuration::task_right` meets its contract.
 use mathlib.Core.Path.{refl}
 use borrow.Author.Tests.{le-leb, lt-leb}
-use Rattle.executive.specs.Fresh.{taskRight}
+use Rattle.executive.specs.Configuration.{taskRight}
 use borrow.Author.Needs.{needs}
 use Rattle.executive.proofs.configuration.task_right.Statement.{statement}
 use Rattle.executive.proofs.configuration.task_right.Tie as tie

@@ -3,8 +3,8 @@ use mathlib.Core.Path.{_≡_, sym, _∙_}
 use native.Mathlib.Omega.{arith}
 use Prim.Native.Nat.{_≤_, _+_, _-_}
 use borrow.Author.Needs.{needs}
-use Rattle.executive.specs.Fresh.{tasksFrom, tasksIn}
-use Rattle.executive.proofs.Settings.{tasks-turn, tasks-stop, tasks-end}
+use Rattle.executive.specs.Configuration.{tasksFrom, tasksIn}
+use Rattle.executive.proofs.configuration.Loops.{tasks-turn, tasks-stop, tasks-end}
 use Rattle.executive.proofs.configuration.tasks_in.Statement.{statement}
 use Rattle.executive.proofs.configuration.tasks_in.Tie as tie
 

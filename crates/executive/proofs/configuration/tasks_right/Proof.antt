@@ -4,9 +4,9 @@ use mathlib.Core.Path.{_≡_, refl, sym, _∙_}
 use native.Mathlib.Omega.{arith}
 use Prim.Native.Nat.{_≤_, _-_}
 use mathlib.Core.Bool.{true}
-use Rattle.executive.specs.Check.{upTo}
-use Rattle.executive.specs.Fresh.{taskRight}
-use Rattle.executive.proofs.Tally.{all-more, all-not}
+use Rattle.executive.specs.Lists.{upTo}
+use Rattle.executive.specs.Configuration.{taskRight}
+use Rattle.executive.proofs.Lists.Loops.{all-more, all-not}
 use Rattle.executive.proofs.configuration.tasks_right.Statement.{statement}
 use Rattle.executive.proofs.configuration.tasks_right.Tie as tie
 

@@ -48,7 +48,7 @@ use Rattle.executive.proofs.State as S
 use Rattle.executive.proofs.State.Laws as S′
 use Rattle.executive.proofs.Millis as N
 use Rattle.executive.proofs.Millis.Laws as N′
-use Rattle.executive.proofs.Lent.{task-in, task-out}
+use Rattle.executive.proofs.entries.EntryLent.{task-in, task-out}
 use Rattle.executive.proofs.entries.set_state as g
 use Rattle.executive.proofs.entries.set_state.Symbol as g-def
 use Rattle.executive.proofs.entries.set_state.Symbol.{name as #set-state}

@@ -37,7 +37,7 @@ use Rattle.executive.specs.declared.Task.{Task}
 use Rattle.executive.specs.declared.Millis.{Millis}
 use Rattle.executive.specs.declared.State.{State}
 use Rattle.executive.specs.Entries.{scheduled}
-use Rattle.executive.proofs.Behind.{store-in-raw}
+use Rattle.executive.proofs.entries.FieldBehind.{store-in-raw}
 use Rattle.executive.proofs.Task as T
 use Rattle.executive.proofs.Task.Laws as T′
 use Rattle.executive.proofs.Millis as N

@@ -1,5 +1,5 @@
 use mathlib.Core.Path.{refl}
-use Rattle.executive.specs.Rests.{isSet}
+use Rattle.executive.specs.Flags.{isSet}
 use borrow.Author.Needs.{needs}
 use Rattle.executive.proofs.flags.is_set.Statement.{statement}
 use Rattle.executive.proofs.flags.is_set.Tie as tie

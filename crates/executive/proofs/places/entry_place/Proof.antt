@@ -1,6 +1,6 @@
 use native.Mathlib.Omega.{arith}
 use borrow.Author.Needs.{needs}
-use Rattle.executive.proofs.Tasks.{place-none, place-past, place-task}
+use Rattle.executive.proofs.places.TaskAt.{place-none, place-past, place-task}
 use Rattle.executive.proofs.places.entry_place.Statement.{statement}
 use Rattle.executive.proofs.places.entry_place.Tie as tie
 

@@ -1,6 +1,6 @@
 use mathlib.Core.Path.{sym, _∙_}
 use borrow.Author.Needs.{needs}
-use Rattle.executive.proofs.Tasks.{put-place, put-no-place}
+use Rattle.executive.proofs.places.TaskAt.{put-place, put-no-place}
 use Rattle.executive.proofs.places.put_at.Statement.{statement}
 use Rattle.executive.proofs.places.put_at.Tie as tie
 

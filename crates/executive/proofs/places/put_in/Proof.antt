@@ -41,8 +41,8 @@ use denote.Triple.Walked.{says, needs, Stays, stay-none, walkOf, goes-none, Walk
 use denote.Exit.{yes}
 use borrow.Author.Needs.{scaled-fits}
 use Rattle.executive.specs.declared.Task.{Task}
-use Rattle.executive.specs.Table.{noTask}
-use Rattle.executive.proofs.Lying.{All, arr, vsA, vA, Entries, tellsA, makesA, typedA, all-in, all-out}
+use Rattle.executive.specs.Places.{noTask}
+use Rattle.executive.proofs.places.EntriesLent.{All, arr, vsA, vA, Entries, tellsA, makesA, typedA, all-in, all-out}
 use Rattle.executive.proofs.Task as T
 use Rattle.executive.proofs.Task.Laws as T′
 use Rattle.executive.proofs.places.rewrite as g

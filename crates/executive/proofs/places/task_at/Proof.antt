@@ -1,6 +1,6 @@
 use mathlib.Core.Path.{sym}
 use borrow.Author.Needs.{needs}
-use Rattle.executive.proofs.Tasks.{at-place, at-no-place}
+use Rattle.executive.proofs.places.TaskAt.{at-place, at-no-place}
 use Rattle.executive.proofs.places.task_at.Statement.{statement}
 use Rattle.executive.proofs.places.task_at.Tie as tie
 

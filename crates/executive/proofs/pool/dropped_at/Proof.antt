@@ -3,9 +3,9 @@ use native.Mathlib.Omega.{arith}
 use mathlib.Core.Path.{_≡_}
 use mathlib.Core.List.{_++_}
 use lib.ListN.{take, drop}
-use Rattle.executive.specs.Places.{closedAt}
-use Rattle.executive.specs.Table.{noRequest}
-use Rattle.executive.proofs.Without.{without-start, without-turn, without-end}
+use Rattle.executive.specs.Lists.{closedAt}
+use Rattle.executive.specs.Places.{noRequest}
+use Rattle.executive.proofs.Lists.ClosedUp.{without-start, without-turn, without-end}
 use Rattle.executive.proofs.pool.dropped_at.Statement.{statement}
 use Rattle.executive.proofs.pool.dropped_at.Tie as tie
 

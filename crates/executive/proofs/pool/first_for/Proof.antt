@@ -9,9 +9,8 @@ use Rattle.executive.specs.declared.Request.{Request}
 use Rattle.executive.specs.declared.pool.Found.the-variants.{At, Nothing}
 use Prim.Native.Nat.{ℕ, suc, _+_, _≤_, _<_, _-_}
 use native.Mathlib.Omega.{arith}
-use Rattle.executive.specs.Places.{foundAt}
-use Rattle.executive.specs.Rests.{placeOf}
-use Rattle.executive.specs.Table.{noRequest}
+use Rattle.executive.specs.Pool.{foundAt, placeOf}
+use Rattle.executive.specs.Places.{noRequest}
 use Rattle.executive.proofs.pool.first_for.Statement.{statement}
 use Rattle.executive.proofs.pool.first_for.Tie as tie
 

@@ -1,7 +1,7 @@
 use mathlib.Core.Path.{sym}
 use native.Mathlib.Omega.{arith}
 use lib.ListN.{List·getD-eq-default}
-use Rattle.executive.specs.Table.{never}
+use Rattle.executive.specs.Places.{never}
 use borrow.Author.Needs.{needs}
 use Rattle.executive.proofs.refusals.alarm_at.Statement.{statement}
 use Rattle.executive.proofs.refusals.alarm_at.Tie as tie

@@ -1,0 +1,125 @@
+-- The queue's rule is kept by every plan whose caller leaves to a state that is not ready, and whose joining tasks were not ready and are.
+use mathlib.Core.Path.{_≡_, refl, sym, _∙_}
+use mathlib.Core.Bool.{Bool, true, false}
+use mathlib.Core.List.{List, _∷_}
+use Prim.Native.Nat.{ℕ, zero, suc, _+_, _≤_, _<_}
+use native.Mathlib.Omega.{arith}
+use mathlib.Core.Logic.{_≢_}
+use lib.Dec.{leb, lit≤, eqb, eqb→eq}
+use lib.ListN.{length, List·getD-eq-default}
+use Rattle.records.specs.declared.TaskNo.{TaskNo}
+use Rattle.executive.specs.declared.State.{State}
+use Rattle.executive.specs.declared.Task.{Task}
+use Rattle.executive.specs.declared.Table.{Table}
+use Rattle.executive.specs.Lists.{pick, one}
+use Rattle.executive.specs.Queue.{count}
+use Rattle.executive.specs.Places.{Names, noTask, taskAt, putAt}
+use Rattle.executive.specs.Table.{line, items, enterAt, Join, entered, join}
+use Rattle.executive.specs.States.{dormant, ready, awaitStart, awaitEnd, kindOf, is, isDormant}
+use Rattle.executive.specs.WellFormed.{Line}
+use Rattle.executive.proofs.Lists.Tests.{Le, le-yes, le-no, leb-is, T-of, eqb-self}
+use Rattle.executive.proofs.queue.Law.{insert-count, insert-desc}
+use Rattle.executive.proofs.Plans.Moves.{items-put, enter-items, join-line}
+use Rattle.executive.proofs.places.TaskAt.{put-at}
+use Rattle.executive.proofs.states.Laws.{counted}
+
+-- a task that is busy is one of the list
+pub busy-names : (ts : List Task) (k : ℕ) → is dormant (taskAt ts k .state) ≡ 0 → Names k ts
+unfolding taskAt
+busy-names ts zero h = absurd (omega arith)
+busy-names ts (suc i) h = (omega arith, go (leb (suc i) (length ts)) (leb-is (suc i) (length ts)))
+  where
+    go : (b : Bool) → Le (suc i) (length ts) b → suc i ≤ length ts
+    go true (le-yes g) = g
+    go false (le-no g) = absurd (omega (arith, rw (List·getD-eq-default ts noTask {n = i} (omega arith)) at h))
+
+-- a state is of one kind
+kinds : (x : ℕ) → counted x ≤ 1
+kinds x = go (eqb ready x) (eqb dormant x) (eqb awaitStart x) (eqb awaitEnd x) refl refl refl refl
+  where
+    eq : (n : ℕ) → eqb n x ≡ true → n ≡ x
+    eq n e = eqb→eq n x (T-of (eqb n x) e)
+
+    go : (a b c d : Bool) → eqb ready x ≡ a → eqb dormant x ≡ b → eqb awaitStart x ≡ c → eqb awaitEnd x ≡ d → one a + one b + one c + one d ≤ 1
+    go false false false false p q r s = lit≤ tt
+    go true false false false p q r s = lit≤ tt
+    go false true false false p q r s = lit≤ tt
+    go false false true false p q r s = lit≤ tt
+    go false false false true p q r s = lit≤ tt
+    go true true c d p q r s = absurd (omega (arith, eq ready p, eq dormant q))
+    go true false true d p q r s = absurd (omega (arith, eq ready p, eq awaitStart r))
+    go true false false true p q r s = absurd (omega (arith, eq ready p, eq awaitEnd s))
+    go false true true d p q r s = absurd (omega (arith, eq dormant q, eq awaitStart r))
+    go false true false true p q r s = absurd (omega (arith, eq dormant q, eq awaitEnd s))
+    go false false true true p q r s = absurd (omega (arith, eq awaitStart r, eq awaitEnd s))
+
+pub not-both : (s : State) → counted (kindOf s) ≤ 1
+not-both s = kinds (kindOf s)
+
+pub is-le : (n : ℕ) (s : State) → is n s ≤ 1
+is-le n s = go (eqb n (kindOf s))
+  where
+    go : (b : Bool) → one b ≤ 1
+    go true = lit≤ tt
+    go false = lit≤ tt
+
+-- ---- a line: the ready queue, and any other line of waiting tasks. One joins it, the head leaves it.
+module _ (n : ℕ) (ts : List Task) (jn : TaskNo) (e : Task) where
+  abbrev j : ℕ
+  j = jn .0
+
+  pub line-in : (r : List TaskNo) → Line n ts r → Names j ts → is n (taskAt ts j .state) ≡ 0 → is n (e .state) ≡ 1 → Line n (putAt ts j e) (enterAt (putAt ts j e) jn r)
+  line-in r q m x y =
+      let v = enter-items ts jn e r m (q .exact j ∙ x) in
+      record {
+        exact = λ k. rw (v, insert-count (record { task = j; prio = e .priority }) (items ts r) k, put-at (λ (e : Task). is n (e .state)) ts j k e m) (go k (eqb k j) refl);
+        sorted = rw v (insert-desc (record { task = j; prio = e .priority }) (items ts r) (q .sorted));
+      }
+    where
+      go : (k : ℕ) (b : Bool) → eqb k j ≡ b → one b + count k (items ts r) ≡ pick b (is n (e .state)) (is n (taskAt ts k .state))
+      go k true f = rw (eqb→eq k j (T-of (eqb k j) f)) (omega (arith, q .exact j))
+      go k false f = omega (arith, q .exact k)
+
+-- the head of a line
+pub record Head (n : ℕ) (ts : List Task) (c : TaskNo) (r : List TaskNo) : Type 0 where
+  pub is-of : is n (taskAt ts (c .0) .state) ≡ 1
+  pub names : Names (c .0) ts
+  pub alone : count (c .0) (items ts r) ≡ 0
+
+pub head-is : (n : ℕ) (ts : List Task) (c : TaskNo) (r : List TaskNo) → n ≢ 0 → Line n ts (c ∷ r) → Head n ts c r
+unfolding items count
+head-is n ts c r z q =
+    let e : one (eqb (c .0) (c .0)) + count (c .0) (items ts r) ≡ is n (taskAt ts (c .0) .state) = q .exact (c .0) in
+    let e′ : 1 + count (c .0) (items ts r) ≡ is n (taskAt ts (c .0) .state) = rw (eqb-self (c .0)) at e in
+    let a : is n (taskAt ts (c .0) .state) ≤ 1 = is-le n (taskAt ts (c .0) .state) in
+    record { is-of = omega arith; names = busy-names ts (c .0) (busy (eqb n (kindOf (taskAt ts (c .0) .state))) refl (isDormant (taskAt ts (c .0) .state)) refl (omega arith)); alone = omega arith }
+  where
+    busy : (a : Bool) → eqb n (kindOf (taskAt ts (c .0) .state)) ≡ a → (b : Bool) → isDormant (taskAt ts (c .0) .state) ≡ b → 0 < one a → one b ≡ 0
+    busy a f false g h = refl
+    busy false f true g h = absurd (omega arith)
+    busy true f true g h = absurd (z (eqb→eq n _ (T-of _ f) ∙ sym (eqb→eq dormant _ (T-of _ g))))
+
+pub line-out : (n : ℕ) (ts : List Task) (c : TaskNo) (e : Task) (r : List TaskNo) → n ≢ 0 → Line n ts (c ∷ r) → is n (e .state) ≡ 0 → Line n (putAt ts (c .0) e) r
+unfolding items count
+line-out n ts c e r nz q z =
+    let h : Head n ts c r = head-is n ts c r nz q in
+    let v : items (putAt ts (c .0) e) r ≡ items ts r = items-put ts (c .0) e r (h .alone) in
+    record {
+      exact = λ k. rw (v, put-at (λ (e : Task). is n (e .state)) ts (c .0) k e (h .names)) (go k (eqb k (c .0)) refl (q .exact k));
+      sorted = rw v (q .sorted .1);
+    }
+  where
+    go : (k : ℕ) (b : Bool) → eqb k (c .0) ≡ b → one b + count k (items ts r) ≡ is n (taskAt ts k .state)
+        → count k (items ts r) ≡ pick b (is n (e .state)) (is n (taskAt ts k .state))
+    go k true g x = omega (arith, is-le n (taskAt ts k .state))
+    go k false g x = omega arith
+
+-- ---- the ready queue
+pub record Joins (j : Join) (ts : List Task) : Type 0 where
+  pub names : Names (j .who .0) ts
+  pub before : is ready (taskAt ts (j .who .0) .state) ≡ 0
+  pub after : is ready (j .change (taskAt ts (j .who .0)) .state) ≡ 1
+
+pub join-kept : (j : Join) (t : Table) → Line ready (t .tasks) (line t) → Joins j (t .tasks) → Line ready (join j t .tasks) (line (join j t))
+unfolding join entered
+join-kept j t q h = rw (join-line j t) (line-in ready (t .tasks) (j .who) (j .change (taskAt (t .tasks) (j .who .0))) (line t) q (h .names) (h .before) (h .after))

@@ -1,0 +1,229 @@
+-- The working form of a well-formed table: the rules grouped by what a step changes. It says what `WellFormed` says, both ways.
+use mathlib.Core.Path.{_≡_, refl, ap, _∙_}
+use mathlib.Core.Bool.{Bool, true, false}
+use mathlib.Core.List.{List, [], _∷_}
+use Prim.Native.Nat.{ℕ, zero, suc, _+_, _≤_, _<_, zero-le}
+use native.Mathlib.Omega.{arith}
+use lib.Dec.{eqb, ltb, eqb→eq}
+use lib.ListN.{length, getD}
+use Rattle.executive.specs.declared.State.{State}
+use Rattle.executive.specs.declared.Task.{Task}
+use Rattle.executive.specs.declared.Request.{Request}
+use Rattle.executive.specs.declared.Rest.{Rest}
+use Rattle.executive.specs.declared.Table.{Table}
+use Rattle.executive.specs.Numbers.{mostTasks, flagCount, highest, mostGranule, endOfTime}
+use Rattle.executive.specs.Lists.{one, sumOf}
+use Rattle.executive.specs.Pool.{Neat, requests}
+use Rattle.executive.specs.Table.{Fit, line}
+use Rattle.executive.specs.Places.{never, noTask, taskAt}
+use Rattle.executive.specs.States.{dormant, ready, awaitStart, awaitEnd, is, isDormant}
+use Rattle.executive.specs.WellFormed.{targetsOf, startsOf, endsOf, runsOf, steepOf, wildOf, selfsOf, twiceOf, idleOf, Line, Stored, Timely, Unmet, Zeros, WellFormed}
+use Rattle.executive.proofs.states.Laws.{dormant-named, dormant-kind}
+use Rattle.executive.proofs.Lists.Tests.{T-of, eqb-self, not-zero, Lt, lt-yes, lt-no, ltb-is, clash}
+use Rattle.executive.proofs.queue.ArraysAreLists.{queue-length, pool-length}
+
+-- nothing in this state is due now, at the clock c with the flags fs
+abbrev pub Calm : ℕ → ℕ → State → Type 0
+Calm c fs s = Timely c s × Unmet fs s
+
+-- the rules on the entry of task k alone, of n tasks
+pub record Own (c fs n k : ℕ) (e : Task) : Type 0 where
+  pub calm : Calm c fs (e .state)
+  pub started : e .start .0 ≤ c
+  pub level : e .priority ≤ highest
+  pub home : e .own ≤ highest
+  pub zeros : is dormant (e .state) ≡ 1 → Zeros e
+  pub beyond : n < k → e ≡ noTask
+
+-- the links, and the requests' targets
+pub record LinksOk (ts : List Task) (p : List Request) : Type 0 where
+  pub starts : (k : ℕ) → 0 < k → startsOf k p ≡ is awaitStart (taskAt ts k .state)
+  pub ends : (k : ℕ) → 0 < k → endsOf k p + runsOf k ts ≡ is awaitEnd (taskAt ts k .state)
+  pub others : selfsOf p ≡ 0
+  pub apart : (k : ℕ) → 0 < k → eqb k (taskAt ts k .«end_waiter» .0) ≡ false
+  pub single : twiceOf p ≡ 0
+  pub named : targetsOf 0 p ≡ 0
+  pub busy : (k : ℕ) → 0 < k → is dormant (taskAt ts k .state) ≡ 1 → targetsOf k p ≡ 0
+  pub quiet : (k : ℕ) → is dormant (taskAt ts k .state) ≡ 1 → taskAt ts k .«end_waiter» .0 ≡ 0
+
+-- the rules on the rest alone
+pub record Rested (r : Rest) : Type 0 where
+  pub count : (1 ≤ r .count) × (r .count ≤ mostTasks)
+  pub granule : (1 ≤ r .granule) × (r .granule ≤ mostGranule)
+  pub clocked : r .clock .0 ≤ endOfTime
+  pub sized : length (r .alarms) ≡ flagCount
+  pub alarms : (i : ℕ) → 0 < getD (r .alarms) i never .0 → Stored (r .clock .0) (getD (r .alarms) i never .0)
+  pub levels : steepOf (requests r) ≡ 0
+  pub neat : Neat r
+
+-- the entries of all tasks, beside a rest
+abbrev pub AllOwn : Rest → List Task → Type 0
+AllOwn r ts = (k : ℕ) → Own (r .clock .0) (r .flags) (r .count) k (taskAt ts k)
+
+pub record Formed (t : Table) : Type 0 where
+  pub fit : Fit t
+  pub queue : Line ready (t .tasks) (line t)
+  pub links : LinksOk (t .tasks) (requests (t .rest))
+  pub own : AllOwn (t .rest) (t .tasks)
+  pub rested : Rested (t .rest)
+
+-- ---- one entry
+-- the blank entry is in order at any number
+pub blank-own : {c fs n k : ℕ} → Own c fs n k noTask
+blank-own = record { calm = (clash, clash); started = zero-le; level = zero-le; home = zero-le; zeros = λ _. record { priority = refl; argument = refl; start = refl; waiter = refl }; beyond = λ _. refl }
+
+-- a busy task's number is at most the count
+pub busy-within : {c fs n k : ℕ} {e : Task} → Own c fs n k e → is dormant (e .state) ≡ 0 → k ≤ n
+busy-within {c} {fs} {n} {k} {e} o b = go (ltb n k) (ltb-is n k)
+  where
+    go : (x : Bool) → Lt n k x → k ≤ n
+    go true (lt-yes h) = absurd (omega (arith, rw (o .beyond h) at b))
+    go false (lt-no h) = h
+
+-- a busy task's entry owes neither zeros nor blanks
+pub busy-own : {c fs n k : ℕ} {e : Task} → Calm c fs (e .state) → e .start .0 ≤ c → e .priority ≤ highest → e .own ≤ highest → is dormant (e .state) ≡ 0 → k ≤ n → Own c fs n k e
+busy-own m s l h b i = record { calm = m; started = s; level = l; home = h; zeros = λ z. absurd (omega arith); beyond = λ z. absurd (omega arith) }
+
+-- ---- requests' targets: none is dormant, said of the sum and of each number
+idle-at : (ts : List Task) (p : List Request) → idleOf ts p ≡ 0 → (k : ℕ) → is dormant (taskAt ts k .state) ≡ 1 → targetsOf k p ≡ 0
+unfolding sumOf
+idle-at ts [] z k d = refl
+idle-at ts (r ∷ p) z k d = go (eqb k (r .target .0)) refl (idle-at ts p (omega arith) k d)
+  where
+    go : (b : Bool) → eqb k (r .target .0) ≡ b → targetsOf k p ≡ 0 → one b + targetsOf k p ≡ 0
+    go true e ih = absurd (omega (arith, z, d, ap (λ (n : ℕ). is dormant (taskAt ts n .state)) (eqb→eq k (r .target .0) (T-of (eqb k (r .target .0)) e))))
+    go false e ih = omega arith
+
+idle-none : (ts : List Task) (p : List Request) → ((k : ℕ) → is dormant (taskAt ts k .state) ≡ 1 → targetsOf k p ≡ 0) → idleOf ts p ≡ 0
+unfolding sumOf
+idle-none ts [] h = refl
+idle-none ts (r ∷ p) h = go (isDormant (taskAt ts (r .target .0) .state)) refl (idle-none ts p (λ k d. omega (arith, h k d)))
+  where
+    go : (b : Bool) → isDormant (taskAt ts (r .target .0) .state) ≡ b → idleOf ts p ≡ 0 → one b + idleOf ts p ≡ 0
+    go true e ih = absurd (omega (arith, h (r .target .0) (ap one e), ap one (eqb-self (r .target .0))))
+    go false e ih = omega arith
+
+-- ---- names: none is over n, said of each number over n and of the sum
+wild-none : (n : ℕ) (p : List Request) → ((k : ℕ) → n < k → (targetsOf k p ≡ 0) × (startsOf k p ≡ 0) × (endsOf k p ≡ 0)) → wildOf n p ≡ 0
+unfolding sumOf
+wild-none n [] h = refl
+wild-none n (r ∷ p) h =
+    omega (
+      arith,
+      over (r .target .0) (λ g. omega (arith, h (r .target .0) g .0, ap one (eqb-self (r .target .0)))),
+      over (r .«start_waiter» .0) (λ g. omega (arith, h (r .«start_waiter» .0) g .1, ap one (eqb-self (r .«start_waiter» .0)))),
+      over (r .«end_waiter» .0) (λ g. omega (arith, h (r .«end_waiter» .0) g .2, ap one (eqb-self (r .«end_waiter» .0)))),
+      wild-none n p (λ k g. (omega (arith, h k g .0), omega (arith, h k g .1), omega (arith, h k g .2))),
+    )
+  where
+    over : (m : ℕ) → (n < m → ⊥) → one (ltb n m) ≡ 0
+    over m none = go (ltb n m) (ltb-is n m)
+      where
+        go : (b : Bool) → Lt n m b → one b ≡ 0
+        go true (lt-yes g) = absurd (none g)
+        go false (lt-no g) = refl
+
+-- one summand is at most the sum
+pub term-le : {A : Type 0} (f : A → ℕ) (d : A) (l : List A) (i : ℕ) → f d ≡ 0 → f (getD l i d) ≤ sumOf f l
+unfolding sumOf
+term-le f d [] i z = omega arith
+term-le f d (x ∷ xs) zero z = omega arith
+term-le f d (x ∷ xs) (suc i) z = omega (arith, term-le f d xs i z)
+
+runs-le : (w : ℕ) (ts : List Task) (k : ℕ) → 0 < w → one (eqb w (taskAt ts k .«end_waiter» .0)) ≤ runsOf w ts
+unfolding taskAt
+runs-le w ts zero h = omega (arith, ap one (not-zero w h))
+runs-le w ts (suc i) h = term-le (λ (e : Task). one (eqb w (e .«end_waiter» .0))) noTask ts i (ap one (not-zero w h))
+
+-- ---- the two forms
+pub formed : {t : Table} → WellFormed t → Formed t
+unfolding taskAt
+formed {t} w =
+    let n = w .numbers in
+    record {
+      fit = record { all = n .sizes .tasks; few = n .ready; tidy = w .queue .tidy; neat = record { room = n .queued; clear = w .pool } };
+      queue = w .queue .exactly;
+      links = record {
+        starts = w .waiters .starts;
+        ends = w .waiters .ends;
+        others = w .waiters .others;
+        apart = w .waiters .apart;
+        single = w .waiters .single;
+        named = idle-at (t .tasks) (requests (t .rest)) (w .busy) 0 refl;
+        busy = λ k _. idle-at (t .tasks) (requests (t .rest)) (w .busy) k;
+        quiet = λ k z. w .dormant k (dormant-named _ z) .waiter;
+      };
+      own = λ k. record {
+        calm = (w .times .tasks k, w .masks k);
+        started = w .started k;
+        level = n .priority k;
+        home = n .own k;
+        zeros = λ z. w .dormant k (dormant-named _ z);
+        beyond = n .beyond k;
+      };
+      rested = record {
+        count = n .count;
+        granule = n .granule;
+        clocked = n .clock;
+        sized = n .sizes .alarms;
+        alarms = w .times .alarms;
+        levels = n .levels;
+        neat = record { room = n .queued; clear = w .pool };
+      };
+    }
+
+module _ (t : Table) (w : Formed t) where
+  abbrev ts : List Task
+  ts = t .tasks
+
+  abbrev p : List Request
+  p = requests (t .rest)
+
+  -- nobody over the count waits
+  over-none : (k : ℕ) → t .rest .count < k → (targetsOf k p ≡ 0) × (startsOf k p ≡ 0) × (endsOf k p + runsOf k ts ≡ 0)
+  over-none k h =
+      let e : taskAt ts k ≡ noTask = w .own k .beyond h in
+      let g : 0 < k = omega arith in
+      (w .links .busy k g (rw e refl), w .links .starts k g ∙ rw e refl, w .links .ends k g ∙ rw e refl)
+
+  waiter-le : (k : ℕ) → taskAt ts k .«end_waiter» .0 ≤ t .rest .count
+  waiter-le k = go (ltb (t .rest .count) (taskAt ts k .«end_waiter» .0)) (ltb-is (t .rest .count) (taskAt ts k .«end_waiter» .0))
+    where
+      go : (b : Bool) → Lt (t .rest .count) (taskAt ts k .«end_waiter» .0) b → taskAt ts k .«end_waiter» .0 ≤ t .rest .count
+      go true (lt-yes h) = absurd (omega (
+        arith,
+        over-none (taskAt ts k .«end_waiter» .0) h .2,
+        runs-le (taskAt ts k .«end_waiter» .0) ts k (omega arith),
+        ap one (eqb-self (taskAt ts k .«end_waiter» .0)),
+      ))
+      go false (lt-no h) = h
+
+  any-idle : (k : ℕ) → is dormant (taskAt ts k .state) ≡ 1 → targetsOf k p ≡ 0
+  any-idle zero z = w .links .named
+  any-idle (suc k) z = w .links .busy (suc k) (omega arith) z
+
+  pub well-formed : WellFormed t
+  well-formed = record {
+    numbers = record {
+      sizes = record { tasks = w .fit .all; queue = queue-length t (w .fit); alarms = w .rested .sized; pool = pool-length (t .rest) (w .rested .neat) };
+      count = w .rested .count;
+      granule = w .rested .granule;
+      clock = w .rested .clocked;
+      ready = w .fit .few;
+      queued = w .rested .neat .room;
+      own = λ k. w .own k .home;
+      priority = λ k. w .own k .level;
+      waiter = waiter-le;
+      beyond = λ k. w .own k .beyond;
+      levels = w .rested .levels;
+      names = wild-none (t .rest .count) p (λ k h. (over-none k h .0, over-none k h .1, omega (arith, over-none k h .2)));
+    };
+    queue = record { exactly = w .queue; tidy = w .fit .tidy };
+    times = record { tasks = λ k. w .own k .calm .0; alarms = w .rested .alarms };
+    started = λ k. w .own k .started;
+    masks = λ k. w .own k .calm .1;
+    busy = idle-none ts p any-idle;
+    waiters = record { starts = w .links .starts; ends = w .links .ends; others = w .links .others; apart = w .links .apart; single = w .links .single };
+    dormant = λ k z. w .own k .zeros (dormant-kind _ z);
+    pool = w .rested .neat .clear;
+  }

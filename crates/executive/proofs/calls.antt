@@ -1,0 +1,3 @@
+-- The laws of the calls' code.
+pub mod CodeIsPlan
+pub mod InOrder

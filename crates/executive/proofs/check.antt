@@ -1,0 +1,7 @@
+-- The laws of the check: its tests and its passes decide the rules.
+pub mod Blanks
+pub mod Descent
+pub mod RuleByRule
+pub mod Passes
+pub mod Decides
+pub mod Broken

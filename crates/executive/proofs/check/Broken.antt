@@ -1,0 +1,21 @@
+-- The check passes the sound table and refuses each broken one by its rule alone, as computed.
+use mathlib.Core.Path.{refl}
+use Rattle.executive.specs.Lists.{pad, sumOf, upTo, allOf}
+use Rattle.executive.specs.Places.{putAt, taskAt}
+use Rattle.executive.specs.Check.{falls, exactAt, waitersAt, numbersRight, queueRight, timesRight, startedRight, masksRight, busyRight, waitersRight, dormantRight, poolRight, isWellFormed}
+use Rattle.executive.specs.Promises.Broken.{sound, noGranule, entryBeyond, outOfOrder, twiceReady, pauseOver, alarmFar, lateStart, noMask, waitOver, idleTarget, namedTwice, unnamed, ownWaiter, sleepTalk, strayPlace, Broken}
+
+pub broken : Broken
+unfolding pad putAt taskAt sumOf upTo allOf falls exactAt waitersAt numbersRight queueRight timesRight startedRight masksRight busyRight waitersRight dormantRight poolRight isWellFormed sound noGranule entryBeyond outOfOrder twiceReady pauseOver alarmFar lateStart noMask waitOver idleTarget namedTwice unnamed ownWaiter sleepTalk strayPlace
+broken = record {
+  kept = refl;
+  numbers = ((refl, refl), (refl, refl));
+  queue = ((refl, refl), (refl, refl));
+  times = ((refl, refl), (refl, refl));
+  started = (refl, refl);
+  masks = ((refl, refl), (refl, refl));
+  busy = (refl, refl);
+  waiters = ((refl, refl), (refl, refl), (refl, refl));
+  dormant = (refl, refl);
+  pool = (refl, refl);
+}

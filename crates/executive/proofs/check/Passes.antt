@@ -1,0 +1,193 @@
+-- The check in fewer passes is the check in 01's order; where nobody waits and nobody is named there is nothing to count.
+use Prim.Native.Nat.{ℕ, zero, suc, _+_, _-_, _≤_, _<_}
+use mathlib.Core.Path.{_≡_, refl, ap, sym, _∙_}
+use mathlib.Core.Bool.{Bool, true, false, not}
+use mathlib.Core.List.{List, [], _∷_}
+use native.Mathlib.Omega.{arith}
+use native.Mathlib.Numerals.{add-one}
+use borrow.Author.Tests.{eqb-true, eq-eqb, ne-eqb}
+use lib.Dec.{eqb}
+use lib.ListN.{length, drop, getD}
+use Rattle.records.specs.declared.TaskNo.{TaskNo}
+use Rattle.executive.specs.declared.Task.{Task}
+use Rattle.executive.specs.declared.Request.{Request}
+use Rattle.executive.specs.declared.Table.{Table}
+use Rattle.executive.specs.Lists.{one, _and_, upTo, allOf}
+use Rattle.executive.specs.Places.{noTask, taskAt, entryPlace}
+use Rattle.executive.specs.Pool.{requests}
+use Rattle.executive.specs.States.{ready, awaitStart, awaitEnd, isOf, is, isDormant}
+use Rattle.executive.specs.WellFormed.{startsOf, endsOf, runsOf}
+use Rattle.executive.specs.Check.{entryInRange, requestInRange, isBlank, sizesRight, inBounds, numbersRight, standsIn, exactAt, queueRight, alarmRight, taskTimely, timesRight, isStarted, startedRight, taskUnmet, masksRight, targetBusy, busyRight, waitersAt, namesOthers, waitersRight, sleepsRight, dormantRight, poolRight, isWellFormed, entryRight, requestFits, requestRight, isQuiet, isLone, lineRight, inPasses, Tallies}
+use Rattle.executive.proofs.places.TaskAt.{at-place, at-no-place}
+use Rattle.executive.proofs.Lists.Loops.{both, all-make}
+use Rattle.executive.proofs.Lists.Tests.{split, paired, beyond, none-one, of-not, sum-none}
+use Rattle.executive.proofs.check.Blanks.{tasks-get}
+
+-- two tests are one if each passes where the other does
+pub same : (a b : Bool) → (a ≡ true → b ≡ true) → (b ≡ true → a ≡ true) → a ≡ b
+same true b f g = sym (f refl)
+same false true f g = g refl
+same false false f g = refl
+
+-- a test of two parts passes everywhere where both parts do
+module _ {A : Type 0} (f g : A → Bool) where
+  pub all-split : (xs : List A) → allOf (λ (x : A). f x and g x) xs ≡ true → (allOf f xs ≡ true) × (allOf g xs ≡ true)
+  unfolding allOf
+  all-split [] e = (refl, refl)
+  all-split (x ∷ xs) e =
+      let p = both (f x and g x) (allOf (λ (x : A). f x and g x) xs) e in
+      let q = split (f x) (g x) (p .0) in
+      let r = all-split xs (p .1) in
+      (rw (q .0) (r .0), rw (q .1) (r .1))
+
+  pub all-join : (xs : List A) → allOf f xs ≡ true → allOf g xs ≡ true → allOf (λ (x : A). f x and g x) xs ≡ true
+  unfolding allOf
+  all-join [] a b = refl
+  all-join (x ∷ xs) a b =
+      let p = both (f x) (allOf f xs) a in
+      let q = both (g x) (allOf g xs) b in
+      rw (p .0, q .0) (all-join xs (p .1) (q .1))
+
+-- ---- one place read where it lies
+-- the entry of task k + 1 is at place k; whether it stands in the queue as its state says
+pub at-next : (ts : List Task) (k : ℕ) → taskAt ts (k + 1) ≡ getD ts k noTask
+unfolding taskAt
+at-next ts k = rw add-one refl
+
+-- that a task stands in the queue as often as its state says, by a tally of the line
+unfoldable pub talliedAt : List ℕ → List Task → ℕ → Bool
+talliedAt c ts k = eqb (getD c (k - 1) 0) (is ready (taskAt ts k .state))
+
+pub tallied-next : (c : List ℕ) (ts : List Task) (k : ℕ) → eqb (getD c k 0) (is ready (getD ts k noTask .state)) ≡ talliedAt c ts (k + 1)
+unfolding talliedAt
+tallied-next c ts k = let z : k + 1 - 1 ≡ k = omega arith in rw (z, at-next ts k) refl
+
+same-up : (f g : ℕ → Bool) (n : ℕ) → ((k : ℕ) → 0 < k → k ≤ n → f k ≡ g k) → upTo f n ≡ upTo g n
+unfolding upTo
+same-up f g zero h = refl
+same-up f g (suc n) h = rw (same-up f g n (λ k a b. h k a (omega arith)), h (suc n) (omega arith) (omega arith)) refl
+
+pub tallied-exact : (c : List ℕ) (ts : List Task) (xs : List TaskNo) (n : ℕ) → n ≤ 16 → Tallies c xs → upTo (talliedAt c ts) n ≡ upTo (exactAt ts xs) n
+unfolding talliedAt exactAt
+tallied-exact c ts xs n l t = same-up (talliedAt c ts) (exactAt ts xs) n at
+  where
+    at : (k : ℕ) → 0 < k → k ≤ n → talliedAt c ts k ≡ exactAt ts xs k
+    at k a b =
+        let z : suc (k - 1) ≡ k = omega arith in
+        ap (λ (m : ℕ). eqb m (is ready (taskAt ts k .state))) (t .counts (k - 1) (omega arith) ∙ ap (λ (m : ℕ). standsIn m xs) z)
+
+-- the rules on a request, with its target's entry read where it lies
+module _ (ts : List Task) (n : ℕ) (r : Request) where
+  pub fits-not : requestFits n r ≡ false → requestRight ts n r ≡ false
+  fits-not e = go (requestInRange n r) (namesOthers r) e
+    where
+      go : (a b : Bool) → (a and b) ≡ false → (a and b and targetBusy ts r) ≡ false
+      go false b f = refl
+      go true b f = rw f refl
+
+  module _ (l : length ts ≡ 16) (k : ℕ) (e : k ≡ entryPlace (r .target .0)) where
+    pub fits-busy : (b : Bool) → requestFits n r ≡ true → isDormant (getD ts k noTask .state) ≡ b → requestRight ts n r ≡ not b
+    fits-busy b f h =
+        let a = split (requestInRange n r) _ f in
+        rw (a .0, a .1, at-place ts l (r .target .0), ← e, h) refl
+
+    pub fits-nobody : 15 < k → requestRight ts n r ≡ false
+    fits-nobody h = sym (beyond (requestInRange n r) _ (beyond (namesOthers r) _ (sym (rw (at-no-place ts l (r .target .0) k e h) refl))))
+
+-- ---- where nobody waits and nobody is named there is nothing to count
+module _ (ts : List Task) (p : List Request) (q : allOf isQuiet ts ≡ true) (l : allOf isLone p ≡ true) where
+  none-named : (k m : ℕ) → 0 < k → eqb m 0 ≡ true → one (eqb k m) ≡ 0
+  none-named k m h e = ap one (ne-eqb k m (λ z. omega (arith, eqb-true m 0 e)))
+
+  quiet-at : (k : ℕ) → 0 < k → waitersAt ts p k ≡ true
+  unfolding waitersAt
+  quiet-at k h =
+      let a = tasks-get isQuiet ts refl q k in
+      let b = split (not (isOf awaitStart (taskAt ts k .state))) _ a in
+      let d = split (not (isOf awaitEnd (taskAt ts k .state))) _ (b .1) in
+      let x : is awaitStart (taskAt ts k .state) ≡ 0 = none-one (isOf awaitStart (taskAt ts k .state)) (b .0) in
+      let y : is awaitEnd (taskAt ts k .state) ≡ 0 = none-one (isOf awaitEnd (taskAt ts k .state)) (d .0) in
+      let s : startsOf k p ≡ 0 = sum-none isLone (λ (r : Request). one (eqb k (r .«start_waiter» .0))) (λ r e. none-named k (r .«start_waiter» .0) h (split (eqb (r .«start_waiter» .0) 0) _ e .0)) p l in
+      let f : endsOf k p ≡ 0 = sum-none isLone (λ (r : Request). one (eqb k (r .«end_waiter» .0))) (λ r e. none-named k (r .«end_waiter» .0) h (split (eqb (r .«start_waiter» .0) 0) _ e .1)) p l in
+      let g : runsOf k ts ≡ 0 = sum-none isQuiet (λ (e : Task). one (eqb k (e .«end_waiter» .0))) (λ e z. none-named k (e .«end_waiter» .0) h (split (not (isOf awaitEnd (e .state))) _ (split (not (isOf awaitStart (e .state))) _ z .1) .1)) ts q in
+      paired (eqb (startsOf k p) (is awaitStart (taskAt ts k .state))) _ (eq-eqb _ _ (s ∙ sym x))
+      (paired (eqb (endsOf k p + runsOf k ts) (is awaitEnd (taskAt ts k .state))) _ (eq-eqb (endsOf k p + runsOf k ts) (is awaitEnd (taskAt ts k .state)) (omega arith))
+      (of-not (eqb k (taskAt ts k .«end_waiter» .0)) (ne-eqb k (taskAt ts k .«end_waiter» .0) (λ z. omega (arith, eqb-true (taskAt ts k .«end_waiter» .0) 0 (d .1))))))
+
+  pub quiet-right : (n : ℕ) → upTo (waitersAt ts p) n ≡ true
+  quiet-right n = all-make (waitersAt ts p) n (λ k g h. quiet-at k g)
+
+-- ---- the whole
+module _ (t : Table) where
+  abbrev n : ℕ
+  n = t .rest .count
+
+  abbrev c : ℕ
+  c = t .rest .clock .0
+
+  abbrev fs : ℕ
+  fs = t .rest .flags
+
+  abbrev ts : List Task
+  ts = t .tasks
+
+  abbrev ps : List Request
+  ps = requests (t .rest)
+
+  there : sizesRight t ≡ true → inPasses t ≡ true → isWellFormed t ≡ true
+  unfolding inPasses isWellFormed numbersRight queueRight timesRight startedRight masksRight busyRight waitersRight dormantRight poolRight
+  there z e =
+      let b = split (inBounds n (t .rest .granule) (t .rest .clock) (t .ready) (t .rest .queued)) _ e in
+      let a = split (allOf (entryRight n c fs) ts) _ (b .1) in
+      let d = split (allOf isBlank (drop n ts)) _ (a .1) in
+      let f = split (allOf (alarmRight c) (t .rest .alarms)) _ (d .1) in
+      let l = split (lineRight ts n (t .ready) (t .queue)) _ (f .1) in
+      let r = split (allOf (requestRight ts n) ps) _ (l .1) in
+      let w = split (upTo (waitersAt ts ps) n) _ (r .1) in
+      let e1 = all-split (entryInRange n) _ ts (a .0) in
+      let e2 = all-split (taskTimely c) _ ts (e1 .1) in
+      let e3 = all-split (isStarted c) _ ts (e2 .1) in
+      let e4 = all-split (taskUnmet fs) sleepsRight ts (e3 .1) in
+      let q1 = all-split (requestInRange n) _ ps (r .0) in
+      let q2 = all-split namesOthers (targetBusy ts) ps (q1 .1) in
+      paired (numbersRight t) _
+      (paired (sizesRight t) _ z (paired (inBounds n (t .rest .granule) (t .rest .clock) (t .ready) (t .rest .queued)) _ (b .0) (paired (allOf (entryInRange n) ts) _ (e1 .0) (paired (allOf isBlank (drop n ts)) _ (d .0) (q1 .0)))))
+      (paired (queueRight t) _ (l .0)
+      (paired (timesRight t) _ (paired (allOf (taskTimely c) ts) _ (e2 .0) (f .0))
+      (paired (startedRight t) _ (e3 .0)
+      (paired (masksRight t) _ (e4 .0)
+      (paired (busyRight t) _ (q2 .1)
+      (paired (waitersRight t) _ (paired (upTo (waitersAt ts ps) n) _ (w .0) (q2 .0))
+      (paired (dormantRight t) _ (e4 .1) (w .1))))))))
+
+  back : isWellFormed t ≡ true → inPasses t ≡ true
+  unfolding inPasses isWellFormed numbersRight queueRight timesRight startedRight masksRight busyRight waitersRight dormantRight poolRight
+  back e =
+      let a = split (numbersRight t) _ e in
+      let b = split (queueRight t) _ (a .1) in
+      let d = split (timesRight t) _ (b .1) in
+      let f = split (startedRight t) _ (d .1) in
+      let g = split (masksRight t) _ (f .1) in
+      let h = split (busyRight t) _ (g .1) in
+      let j = split (waitersRight t) _ (h .1) in
+      let k = split (dormantRight t) _ (j .1) in
+      let n1 = split (sizesRight t) _ (a .0) in
+      let n2 = split (inBounds n (t .rest .granule) (t .rest .clock) (t .ready) (t .rest .queued)) _ (n1 .1) in
+      let n3 = split (allOf (entryInRange n) ts) _ (n2 .1) in
+      let n4 = split (allOf isBlank (drop n ts)) _ (n3 .1) in
+      let d1 = split (allOf (taskTimely c) ts) _ (d .0) in
+      let j1 = split (upTo (waitersAt ts ps) n) _ (j .0) in
+      paired (inBounds n (t .rest .granule) (t .rest .clock) (t .ready) (t .rest .queued)) _ (n2 .0)
+      (paired (allOf (entryRight n c fs) ts) _ (all-join (entryInRange n) _ ts (n3 .0) (all-join (taskTimely c) _ ts (d1 .0) (all-join (isStarted c) _ ts (f .0) (all-join (taskUnmet fs) sleepsRight ts (g .0) (k .0)))))
+      (paired (allOf isBlank (drop n ts)) _ (n4 .0)
+      (paired (allOf (alarmRight c) (t .rest .alarms)) _ (d1 .1)
+      (paired (lineRight ts n (t .ready) (t .queue)) _ (b .0)
+      (paired (allOf (requestRight ts n) ps) _ (all-join (requestInRange n) _ ps (n4 .1) (all-join namesOthers (targetBusy ts) ps (j1 .1) (h .0)))
+      (paired (upTo (waitersAt ts ps) n) _ (j1 .0) (k .1)))))))
+
+  pub in-passes : sizesRight t ≡ true → inPasses t ≡ isWellFormed t
+  in-passes z = same (inPasses t) (isWellFormed t) (there z) back
+
+  -- an answer that is right in passes is right, of a table of the right sizes
+  pub sized : {r : Bool} → length (t .tasks) ≡ 16 → length (t .queue) ≡ 16 → length (t .rest .alarms) ≡ 32 → length (t .rest .pool) ≡ 32 → r ≡ inPasses t → r ≡ isWellFormed t
+  sized a b d e h = h ∙ in-passes (rw (eq-eqb _ _ a, eq-eqb _ _ b, eq-eqb _ _ d, eq-eqb _ _ e) refl)

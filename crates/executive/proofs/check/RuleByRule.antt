@@ -1,0 +1,446 @@
+-- Each rule of a well-formed table against its test, both ways, in 01's order.
+use Prim.Native.Nat.{ℕ, zero, suc, _+_, _-_, _≤_, _<_}
+use mathlib.Core.Path.{_≡_, refl, ap, sym, _∙_}
+use mathlib.Core.Bool.{Bool, true, false, not}
+use mathlib.Core.List.{List, [], _∷_}
+use native.Mathlib.Omega.{arith}
+use borrow.Author.Tests.{eqb-true, eq-eqb, ne-eqb, leb-true, le-leb, leb-false, ltb-true, lt-ltb, eqb-false}
+use lib.Dec.{eqb, leb, ltb}
+use lib.ListN.{length, drop, getD}
+use Rattle.records.specs.declared.TaskNo.{TaskNo}
+use Rattle.executive.specs.declared.Millis.{Millis}
+use Rattle.executive.specs.declared.State.{State}
+use Rattle.executive.specs.declared.State.the-variants.{Dormant}
+use Rattle.executive.specs.declared.Task.{Task}
+use Rattle.executive.specs.declared.Request.{Request}
+use Rattle.executive.specs.declared.Table.{Table}
+use Rattle.executive.specs.Numbers.{mostTasks, mostQueued, highest, mostGranule, endOfTime, longest}
+use Rattle.executive.specs.Lists.{pick, one, pad, sumOf, _and_, upTo, allOf}
+use Rattle.executive.specs.Queue.{count}
+use Rattle.executive.specs.Places.{nobody, never, noTask, noRequest, taskAt}
+use Rattle.executive.specs.Table.{line, items}
+use Rattle.executive.specs.Pool.{requests}
+use Rattle.executive.specs.States.{dormant, ready, awaitStart, awaitEnd, is, isDormant, timeOf, maskOf, hasTime, hasMask, waitMode}
+use Rattle.executive.specs.Flags.{met}
+use Rattle.executive.specs.WellFormed.{InRange, Queue, Stored, Timely, Times, Unmet, Waiters, Zeros, startsOf, endsOf, runsOf, idleOf}
+use Rattle.executive.specs.Check.{entryInRange, requestInRange, isBlank, sizesRight, inBounds, numbersRight, isTask, isNobody, falls, standsIn, exactAt, queueRight, isStored, isTimely, alarmRight, taskTimely, timesRight, isStarted, startedRight, isUnmet, taskUnmet, masksRight, targetBusy, busyRight, waitersAt, namesOthers, waitersRight, isZero, sleepsRight, dormantRight, isFree, poolRight}
+use Rattle.executive.proofs.states.Laws.{dormant-named, dormant-kind}
+use Rattle.executive.proofs.places.TaskAt.{at-none}
+use Rattle.executive.proofs.Lists.Loops.{all-get, all-make, every-get, every-make}
+use Rattle.executive.proofs.Lists.Tests.{split, paired, one-none, none-one, not-of, of-not, leb-none, in-reach, sum-none, none-all}
+use Rattle.executive.proofs.check.Blanks.{blank-pad, pad-blank, nobody-is, free-is, zero-is, is-zero, tasks-get, tasks-make, past-get, past-make}
+use Rattle.executive.proofs.check.Descent.{falls-tasks, falls-desc, desc-falls, low, all-tasks}
+
+-- ---- every number is in range
+module _ (n g : ℕ) (c : Millis) (r q : ℕ) where
+  pub record Bounds : Type 0 where
+    pub count : (1 ≤ n) × (n ≤ mostTasks)
+    pub granule : (1 ≤ g) × (g ≤ mostGranule)
+    pub clock : c .0 ≤ endOfTime
+    pub ready : r ≤ mostTasks
+    pub queued : q ≤ mostQueued
+
+  pub bounds-get : inBounds n g c r q ≡ true → Bounds
+  bounds-get e =
+      let a1 = split (leb 1 n) _ e in
+      let a2 = split (leb n mostTasks) _ (a1 .1) in
+      let a3 = split (leb 1 g) _ (a2 .1) in
+      let a4 = split (leb g mostGranule) _ (a3 .1) in
+      let a5 = split (leb (c .0) endOfTime) _ (a4 .1) in
+      let a6 = split (leb r mostTasks) _ (a5 .1) in
+      record {
+        count = (leb-true _ _ (a1 .0), leb-true _ _ (a2 .0));
+        granule = (leb-true _ _ (a3 .0), leb-true _ _ (a4 .0));
+        clock = leb-true _ _ (a5 .0);
+        ready = leb-true _ _ (a6 .0);
+        queued = leb-true _ _ (a6 .1);
+      }
+
+  pub bounds-make : Bounds → inBounds n g c r q ≡ true
+  bounds-make b =
+      rw (le-leb 1 n (b .count .0), le-leb n mostTasks (b .count .1), le-leb 1 g (b .granule .0))
+      (rw (le-leb g mostGranule (b .granule .1), le-leb (c .0) endOfTime (b .clock))
+      (rw (le-leb r mostTasks (b .ready), le-leb q mostQueued (b .queued)) refl))
+
+module _ (n : ℕ) where
+  blank-in-range : entryInRange n noTask ≡ true
+  blank-in-range = le-leb 0 n (omega arith)
+
+  waiter-of : (e : Task) → entryInRange n e ≡ true → e .«end_waiter» .0 ≤ n
+  waiter-of e h = leb-true _ _ (split (leb (e .priority) highest) _ (split (leb (e .own) highest) _ h .1) .1)
+
+  steep-none : (r : Request) → requestInRange n r ≡ true → one (ltb highest (r .priority)) ≡ 0
+  steep-none r e = leb-none (r .priority) highest (split (leb (r .priority) highest) _ e .0)
+
+  names-of : (r : Request) → requestInRange n r ≡ true → (r .target .0 ≤ n) × (r .«start_waiter» .0 ≤ n) × (r .«end_waiter» .0 ≤ n)
+  names-of r e =
+      let a = split (leb (r .priority) highest) _ e in
+      let b = split (leb (r .target .0) n) _ (a .1) in
+      let d = split (leb (r .«start_waiter» .0) n) _ (b .1) in
+      (leb-true _ _ (b .0), leb-true _ _ (d .0), leb-true _ _ (d .1))
+
+  wild-none : (r : Request) → requestInRange n r ≡ true
+      → one (ltb n (r .target .0)) + one (ltb n (r .«start_waiter» .0)) + one (ltb n (r .«end_waiter» .0)) ≡ 0
+  wild-none r e =
+      let a = names-of r e in
+      omega (arith, leb-none (r .target .0) n (le-leb _ _ (a .0)), leb-none (r .«start_waiter» .0) n (le-leb _ _ (a .1)), leb-none (r .«end_waiter» .0) n (le-leb _ _ (a .2)))
+
+  ranged : (r : Request) → one (ltb highest (r .priority)) ≡ 0
+      → one (ltb n (r .target .0)) + one (ltb n (r .«start_waiter» .0)) + one (ltb n (r .«end_waiter» .0)) ≡ 0 → requestInRange n r ≡ true
+  ranged r a b =
+      paired (leb (r .priority) highest) _ (in-reach (r .priority) highest a)
+      (paired (leb (r .target .0) n) _ (in-reach (r .target .0) n (omega arith))
+      (paired (leb (r .«start_waiter» .0) n) _ (in-reach (r .«start_waiter» .0) n (omega arith)) (in-reach (r .«end_waiter» .0) n (omega arith))))
+
+  -- names over n are named by nobody
+  far : (k m : ℕ) → n < k → m ≤ n → one (eqb k m) ≡ 0
+  far k m h l = ap one (ne-eqb k m (λ e. omega arith))
+
+-- what is known of the numbers, as the later rules use it
+pub record Known (t : Table) : Type 0 where
+  pub range : InRange t
+  pub entries : allOf (entryInRange (t .rest .count)) (t .tasks) ≡ true
+  pub asked : allOf (requestInRange (t .rest .count)) (requests (t .rest)) ≡ true
+
+module _ (t : Table) where
+  pub numbers-get : numbersRight t ≡ true → Known t
+  unfolding numbersRight
+  numbers-get e =
+      let n = t .rest .count in
+      let s = split (sizesRight t) _ e in
+      let s1 = split (eqb (length (t .tasks)) 16) _ (s .0) in
+      let s2 = split (eqb (length (t .queue)) 16) _ (s1 .1) in
+      let s3 = split (eqb (length (t .rest .alarms)) 32) _ (s2 .1) in
+      let b = split (inBounds n (t .rest .granule) (t .rest .clock) (t .ready) (t .rest .queued)) _ (s .1) in
+      let m = split (allOf (entryInRange n) (t .tasks)) _ (b .1) in
+      let p = split (allOf isBlank (drop n (t .tasks))) _ (m .1) in
+      let w = bounds-get n (t .rest .granule) (t .rest .clock) (t .ready) (t .rest .queued) (b .0) in
+      let h : (k : ℕ) → entryInRange n (taskAt (t .tasks) k) ≡ true = tasks-get (entryInRange n) (t .tasks) (blank-in-range n) (m .0) in
+      record {
+        range = record {
+          sizes = record { tasks = eqb-true _ _ (s1 .0); queue = eqb-true _ _ (s2 .0); alarms = eqb-true _ _ (s3 .0); pool = eqb-true _ _ (s3 .1) };
+          count = w .count;
+          granule = w .granule;
+          clock = w .clock;
+          ready = w .ready;
+          queued = w .queued;
+          own = λ k. leb-true _ _ (split (leb (taskAt (t .tasks) k .own) highest) _ (h k) .0);
+          priority = λ k. leb-true _ _ (split (leb (taskAt (t .tasks) k .priority) highest) _ (split (leb (taskAt (t .tasks) k .own) highest) _ (h k) .1) .0);
+          waiter = λ k. waiter-of n (taskAt (t .tasks) k) (h k);
+          beyond = past-get (t .tasks) n (p .0);
+          levels = sum-none (requestInRange n) (λ (r : Request). one (ltb highest (r .priority))) (steep-none n) (requests (t .rest)) (p .1);
+          names = sum-none (requestInRange n) (λ (r : Request). one (ltb n (r .target .0)) + one (ltb n (r .«start_waiter» .0)) + one (ltb n (r .«end_waiter» .0))) (wild-none n) (requests (t .rest)) (p .1);
+        };
+        entries = m .0;
+        asked = p .1;
+      }
+
+  pub numbers-make : InRange t → numbersRight t ≡ true
+  unfolding numbersRight
+  numbers-make w =
+      let n = t .rest .count in
+      paired (sizesRight t) _
+      (rw (eq-eqb (length (t .tasks)) 16 (w .sizes .tasks), eq-eqb (length (t .queue)) 16 (w .sizes .queue), eq-eqb (length (t .rest .alarms)) 32 (w .sizes .alarms), eq-eqb (length (t .rest .pool)) 32 (w .sizes .pool)) refl)
+      (paired (inBounds n (t .rest .granule) (t .rest .clock) (t .ready) (t .rest .queued)) _
+      (bounds-make n (t .rest .granule) (t .rest .clock) (t .ready) (t .rest .queued) (record { count = w .count; granule = w .granule; clock = w .clock; ready = w .ready; queued = w .queued }))
+      (paired (allOf (entryInRange n) (t .tasks)) _
+      (tasks-make (entryInRange n) (t .tasks) (λ k.
+      paired (leb (taskAt (t .tasks) k .own) highest) _ (le-leb _ _ (w .own k))
+      (paired (leb (taskAt (t .tasks) k .priority) highest) _ (le-leb _ _ (w .priority k)) (le-leb _ _ (w .waiter k)))))
+      (paired (allOf isBlank (drop n (t .tasks))) _ (past-make (t .tasks) n (w .beyond))
+      (none-all (requestInRange n) (λ (r : Request). one (ltb highest (r .priority))) (λ (r : Request). one (ltb n (r .target .0)) + one (ltb n (r .«start_waiter» .0)) + one (ltb n (r .«end_waiter» .0))) (ranged n) (requests (t .rest)) (w .levels) (w .names)))))
+
+-- ---- the ready queue
+module _ (ts : List Task) where
+  stands-count : (k : ℕ) (xs : List TaskNo) → standsIn k xs ≡ count k (items ts xs)
+  unfolding sumOf count items
+  stands-count k [] = refl
+  stands-count k (x ∷ xs) = ap (λ (m : ℕ). one (eqb k (x .0)) + m) (stands-count k xs)
+
+  -- a number that is no task's stands nowhere
+  out-of : (n k : ℕ) (x : TaskNo) → (0 < k → n < k) → isTask n x ≡ true → one (eqb k (x .0)) ≡ 0
+  out-of n k x h e =
+      let a = split (ltb 0 (x .0)) _ e in
+      let l : 0 < x .0 = ltb-true _ _ (a .0) in
+      let m : x .0 ≤ n = leb-true _ _ (a .1) in
+      ap one (ne-eqb k (x .0) (λ q. omega (arith, h (omega arith))))
+
+-- where a number stands: it is 0, a task's, or past the n tasks
+data Place (n k : ℕ) : Type 0 where
+  nought : k ≡ 0 → Place n k
+  among : 0 < k → k ≤ n → Place n k
+  past : n < k → Place n k
+
+place : (n k : ℕ) → Place n k
+place n zero = nought refl
+place n (suc i) = go (leb (suc i) n) refl
+  where
+    go : (b : Bool) → leb (suc i) n ≡ b → Place n (suc i)
+    go true e = among (omega arith) (leb-true _ _ e)
+    go false e = past (leb-false _ _ e)
+
+module _ (t : Table) (w : InRange t) where
+  -- a ready task's number is a task's
+  ready-no : (x : TaskNo) → 0 < is ready (taskAt (t .tasks) (x .0) .state) → isTask (t .rest .count) x ≡ true
+  ready-no x h = go (place (t .rest .count) (x .0))
+    where
+      go : Place (t .rest .count) (x .0) → isTask (t .rest .count) x ≡ true
+      go (nought e) = absurd (let y : is ready (taskAt (t .tasks) (x .0) .state) ≡ 0 = rw (at-none (t .tasks) (x .0) e) refl in omega arith)
+      go (among a b) = paired (ltb 0 (x .0)) _ (lt-ltb 0 (x .0) a) (le-leb _ _ b)
+      go (past l) = absurd (let y : is ready (taskAt (t .tasks) (x .0) .state) ≡ 0 = rw (w .beyond (x .0) l) refl in omega arith)
+
+  pub queue-make : Queue t → queueRight t ≡ true
+  unfolding queueRight exactAt
+  queue-make q =
+      paired (falls (t .tasks) (t .rest .count) 15 (line t)) _
+      (desc-falls (t .tasks) (t .rest .count) 15 (line t)
+      (all-tasks (t .tasks) (t .rest .count) (line t) (λ x h. ready-no x (rw (q .exactly .exact (x .0)) at h)))
+      (low (t .tasks) (t .rest .count) 15 (line t) (w .priority))
+      (q .exactly .sorted))
+      (paired (upTo (exactAt (t .tasks) (line t)) (t .rest .count)) _
+      (all-make (exactAt (t .tasks) (line t)) (t .rest .count) (λ k g h. eq-eqb _ _ (stands-count (t .tasks) k (line t) ∙ q .exactly .exact k)))
+      (pad-blank isNobody nobody refl 16 (t .ready) (t .queue) (w .sizes .queue) (q .tidy)))
+
+module _ (t : Table) (w : InRange t) where
+  exact-get : allOf (isTask (t .rest .count)) (line t) ≡ true → upTo (exactAt (t .tasks) (line t)) (t .rest .count) ≡ true
+      → (k : ℕ) → count k (items (t .tasks) (line t)) ≡ is ready (taskAt (t .tasks) k .state)
+  unfolding exactAt
+  exact-get a u k = sym (stands-count (t .tasks) k (line t)) ∙ go (place (t .rest .count) k)
+    where
+      none : (0 < k → t .rest .count < k) → standsIn k (line t) ≡ 0
+      none h = sum-none (isTask (t .rest .count)) (λ (x : TaskNo). one (eqb k (x .0))) (λ x. out-of (t .tasks) (t .rest .count) k x h) (line t) a
+
+      go : Place (t .rest .count) k → standsIn k (line t) ≡ is ready (taskAt (t .tasks) k .state)
+      go (nought e) = none (λ z. absurd (omega arith)) ∙ sym (rw (at-none (t .tasks) k e) refl)
+      go (among g h) = eqb-true _ _ (all-get (exactAt (t .tasks) (line t)) (t .rest .count) k u g h)
+      go (past h) = none (λ z. h) ∙ sym (rw (w .beyond k h) refl)
+
+  pub queue-get : queueRight t ≡ true → Queue t
+  unfolding queueRight
+  queue-get e =
+      let a = split (falls (t .tasks) (t .rest .count) 15 (line t)) _ e in
+      let b = split (upTo (exactAt (t .tasks) (line t)) (t .rest .count)) _ (a .1) in
+      record {
+        exactly = record {
+          exact = exact-get (falls-tasks (t .tasks) (t .rest .count) 15 (line t) (a .0)) (b .0);
+          sorted = falls-desc (t .tasks) (t .rest .count) 15 (line t) (a .0) .1;
+        };
+        tidy = blank-pad isNobody nobody nobody-is 16 (t .ready) (t .queue) (w .sizes .queue) (b .1);
+      }
+
+-- ---- stored times
+stored-get : (c at : ℕ) → isStored c at ≡ true → Stored c at
+stored-get c at e =
+    let a = split (ltb c at) _ e in
+    let l : c < at = ltb-true _ _ (a .0) in
+    let m : at - c ≤ longest = leb-true _ _ (a .1) in
+    (l, omega arith)
+
+stored-make : (c at : ℕ) → Stored c at → isStored c at ≡ true
+stored-make c at s = paired (ltb c at) _ (lt-ltb _ _ (s .0)) (le-leb (at - c) longest (omega arith))
+
+timely-get : (c : ℕ) (s : State) → isTimely c s ≡ true → Timely c s
+timely-get c s e h = stored-get c (timeOf s .0) (rw h at e)
+
+timely-make : (c : ℕ) (s : State) → Timely c s → isTimely c s ≡ true
+timely-make c s h = go (hasTime s) h
+  where
+    go : (b : Bool) → (b ≡ true → Stored c (timeOf s .0)) → pick b (isStored c (timeOf s .0)) true ≡ true
+    go true g = stored-make c (timeOf s .0) (g refl)
+    go false g = refl
+
+alarm-get : (c : ℕ) (a : Millis) → alarmRight c a ≡ true → 0 < a .0 → Stored c (a .0)
+alarm-get c a e h = stored-get c (a .0) (rw (ne-eqb (a .0) 0 (λ z. omega arith)) at e)
+
+alarm-make : (c : ℕ) (a : Millis) → (0 < a .0 → Stored c (a .0)) → alarmRight c a ≡ true
+alarm-make c a h = go (eqb (a .0) 0) refl
+  where
+    go : (b : Bool) → eqb (a .0) 0 ≡ b → pick b true (isStored c (a .0)) ≡ true
+    go true e = refl
+    go false e = stored-make c (a .0) (h (omega (arith, eqb-false (a .0) 0 e)))
+
+module _ (t : Table) where
+  pub times-get : timesRight t ≡ true → Times t
+  unfolding timesRight
+  times-get e =
+      let c = t .rest .clock .0 in
+      let a = split (allOf (taskTimely c) (t .tasks)) _ e in
+      record {
+        tasks = λ k. timely-get c (taskAt (t .tasks) k .state) (tasks-get (taskTimely c) (t .tasks) refl (a .0) k);
+        alarms = λ i. alarm-get c (getD (t .rest .alarms) i never) (every-get (alarmRight c) never (t .rest .alarms) refl (a .1) i);
+      }
+
+  pub times-make : Times t → timesRight t ≡ true
+  unfolding timesRight
+  times-make w =
+      let c = t .rest .clock .0 in
+      paired (allOf (taskTimely c) (t .tasks)) _
+      (tasks-make (taskTimely c) (t .tasks) (λ k. timely-make c (taskAt (t .tasks) k .state) (w .tasks k)))
+      (every-make (alarmRight c) never (t .rest .alarms) (λ i. alarm-make c (getD (t .rest .alarms) i never) (w .alarms i)))
+
+  -- ---- last scheduled starts
+  pub started-get : startedRight t ≡ true → (k : ℕ) → taskAt (t .tasks) k .start .0 ≤ t .rest .clock .0
+  unfolding startedRight
+  started-get e k = leb-true _ _ (tasks-get (isStarted (t .rest .clock .0)) (t .tasks) (le-leb 0 (t .rest .clock .0) (omega arith)) e k)
+
+  pub started-make : ((k : ℕ) → taskAt (t .tasks) k .start .0 ≤ t .rest .clock .0) → startedRight t ≡ true
+  unfolding startedRight
+  started-make w = tasks-make (isStarted (t .rest .clock .0)) (t .tasks) (λ k. le-leb _ _ (w k))
+
+-- ---- wait masks
+unmet-get : (fs : ℕ) (s : State) → isUnmet fs s ≡ true → Unmet fs s
+unmet-get fs s e h =
+    let a = split (ltb 0 (maskOf s)) (not (met fs (waitMode s) (maskOf s))) (rw h at e) in
+    (ltb-true _ _ (a .0), not-of (met fs (waitMode s) (maskOf s)) (a .1))
+
+unmet-make : (fs : ℕ) (s : State) → Unmet fs s → isUnmet fs s ≡ true
+unmet-make fs s h = go (hasMask s) h
+  where
+    go : (b : Bool) → (b ≡ true → (0 < maskOf s) × (met fs (waitMode s) (maskOf s) ≡ false)) → pick b (ltb 0 (maskOf s) and not (met fs (waitMode s) (maskOf s))) true ≡ true
+    go true g = let u = g refl in paired (ltb 0 (maskOf s)) _ (lt-ltb 0 (maskOf s) (u .0)) (of-not (met fs (waitMode s) (maskOf s)) (u .1))
+    go false g = refl
+
+module _ (t : Table) where
+  pub masks-get : masksRight t ≡ true → (k : ℕ) → Unmet (t .rest .flags) (taskAt (t .tasks) k .state)
+  unfolding masksRight
+  masks-get e k = unmet-get (t .rest .flags) (taskAt (t .tasks) k .state) (tasks-get (taskUnmet (t .rest .flags)) (t .tasks) refl e k)
+
+  pub masks-make : ((k : ℕ) → Unmet (t .rest .flags) (taskAt (t .tasks) k .state)) → masksRight t ≡ true
+  unfolding masksRight
+  masks-make w = tasks-make (taskUnmet (t .rest .flags)) (t .tasks) (λ k. unmet-make (t .rest .flags) (taskAt (t .tasks) k .state) (w k))
+
+  -- ---- queued requests name busy tasks only
+  idle : Request → ℕ
+  idle r = is dormant (taskAt (t .tasks) (r .target .0) .state)
+
+  pub busy-get : busyRight t ≡ true → idleOf (t .tasks) (requests (t .rest)) ≡ 0
+  unfolding busyRight idle
+  busy-get e = sum-none (targetBusy (t .tasks)) idle (λ r. none-one (isDormant (taskAt (t .tasks) (r .target .0) .state))) (requests (t .rest)) e
+
+  pub busy-make : idleOf (t .tasks) (requests (t .rest)) ≡ 0 → busyRight t ≡ true
+  unfolding busyRight idle
+  busy-make w = none-all (targetBusy (t .tasks)) idle idle (λ r a b. one-none (isDormant (taskAt (t .tasks) (r .target .0) .state)) a) (requests (t .rest)) w w
+
+-- ---- waiters
+twice-none : (a b : Bool) → pick a true b ≡ true → pick a 0 (one (not b)) ≡ 0
+twice-none true b e = refl
+twice-none false true e = refl
+twice-none false false e = absurd (let z : _≡_ {A = ℕ} 0 1 = cc in omega arith)
+
+none-twice : (a b : Bool) → pick a 0 (one (not b)) ≡ 0 → pick a true b ≡ true
+none-twice true b e = refl
+none-twice false true e = refl
+none-twice false false e = absurd (omega arith)
+
+selfs : Request → ℕ
+selfs r = one (eqb (r .target .0) (r .«start_waiter» .0)) + one (eqb (r .target .0) (r .«end_waiter» .0))
+
+twice : Request → ℕ
+twice r = pick (eqb (r .«start_waiter» .0) 0) 0 (one (not (eqb (r .«end_waiter» .0) 0)))
+
+others-none : (r : Request) → namesOthers r ≡ true → (selfs r ≡ 0) × (twice r ≡ 0)
+unfolding selfs twice
+others-none r e =
+    let a = split (not (eqb (r .target .0) (r .«start_waiter» .0))) _ e in
+    let b = split (not (eqb (r .target .0) (r .«end_waiter» .0))) _ (a .1) in
+    (omega (arith, none-one (eqb (r .target .0) (r .«start_waiter» .0)) (a .0), none-one (eqb (r .target .0) (r .«end_waiter» .0)) (b .0)), twice-none (eqb (r .«start_waiter» .0) 0) (eqb (r .«end_waiter» .0) 0) (b .1))
+
+none-others : (r : Request) → selfs r ≡ 0 → twice r ≡ 0 → namesOthers r ≡ true
+unfolding selfs twice
+none-others r a b =
+    paired (not (eqb (r .target .0) (r .«start_waiter» .0))) _ (one-none (eqb (r .target .0) (r .«start_waiter» .0)) (omega arith))
+    (paired (not (eqb (r .target .0) (r .«end_waiter» .0))) _ (one-none (eqb (r .target .0) (r .«end_waiter» .0)) (omega arith))
+    (none-twice (eqb (r .«start_waiter» .0) 0) (eqb (r .«end_waiter» .0) 0) b))
+
+module _ (t : Table) where
+  pub waiters-make : Waiters (t .tasks) (requests (t .rest)) → waitersRight t ≡ true
+  unfolding waitersRight waitersAt selfs twice
+  waiters-make w =
+      let ts = t .tasks in
+      let ps = requests (t .rest) in
+      paired (upTo (waitersAt ts ps) (t .rest .count)) _
+      (all-make (waitersAt ts ps) (t .rest .count) (λ k g h.
+      paired (eqb (startsOf k ps) (is awaitStart (taskAt ts k .state))) _ (eq-eqb _ _ (w .starts k g))
+      (paired (eqb (endsOf k ps + runsOf k ts) (is awaitEnd (taskAt ts k .state))) _ (eq-eqb _ _ (w .ends k g)) (of-not _ (w .apart k g)))))
+      (none-all namesOthers selfs twice none-others ps (w .others) (w .single))
+
+  module _ (w : Known t) where
+    -- what the test at number k says; a number past the count is named by nobody, and its entry is blank
+    Told : ℕ → Type 0
+    Told k =
+        (startsOf k (requests (t .rest)) ≡ is awaitStart (taskAt (t .tasks) k .state))
+        × (endsOf k (requests (t .rest)) + runsOf k (t .tasks) ≡ is awaitEnd (taskAt (t .tasks) k .state))
+        × (eqb k (taskAt (t .tasks) k .«end_waiter» .0) ≡ false)
+
+    told-at : (k : ℕ) → waitersAt (t .tasks) (requests (t .rest)) k ≡ true → Told k
+    unfolding waitersAt Told
+    told-at k e =
+        let ts = t .tasks in
+        let ps = requests (t .rest) in
+        let a = split (eqb (startsOf k ps) (is awaitStart (taskAt ts k .state))) _ e in
+        let b = split (eqb (endsOf k ps + runsOf k ts) (is awaitEnd (taskAt ts k .state))) _ (a .1) in
+        (eqb-true _ _ (a .0), eqb-true _ _ (b .0), not-of _ (b .1))
+
+    told-past : (k : ℕ) → t .rest .count < k → Told k
+    unfolding Told
+    told-past k h =
+        let n = t .rest .count in
+        let ps = requests (t .rest) in
+        let s : startsOf k ps ≡ 0 = sum-none (requestInRange n) (λ (r : Request). one (eqb k (r .«start_waiter» .0))) (λ r e. far n k (r .«start_waiter» .0) h (names-of n r e .1)) ps (w .asked) in
+        let d : endsOf k ps ≡ 0 = sum-none (requestInRange n) (λ (r : Request). one (eqb k (r .«end_waiter» .0))) (λ r e. far n k (r .«end_waiter» .0) h (names-of n r e .2)) ps (w .asked) in
+        let r : runsOf k (t .tasks) ≡ 0 = sum-none (entryInRange n) (λ (e : Task). one (eqb k (e .«end_waiter» .0))) (λ e x. far n k (e .«end_waiter» .0) h (waiter-of n e x)) (t .tasks) (w .entries) in
+        rw (w .range .beyond k h) (s, omega arith, ne-eqb k 0 (λ z. omega arith))
+
+    told : upTo (waitersAt (t .tasks) (requests (t .rest))) (t .rest .count) ≡ true → (k : ℕ) → 0 < k → Told k
+    told u k h = go (leb k (t .rest .count)) refl
+      where
+        go : (b : Bool) → leb k (t .rest .count) ≡ b → Told k
+        go true e = told-at k (all-get (waitersAt (t .tasks) (requests (t .rest))) (t .rest .count) k u h (leb-true _ _ e))
+        go false e = told-past k (leb-false _ _ e)
+
+    pub waiters-get : waitersRight t ≡ true → Waiters (t .tasks) (requests (t .rest))
+    unfolding waitersRight selfs twice Told
+    waiters-get e =
+        let a = split (upTo (waitersAt (t .tasks) (requests (t .rest))) (t .rest .count)) _ e in
+        record {
+          starts = λ k h. told (a .0) k h .0;
+          ends = λ k h. told (a .0) k h .1;
+          others = sum-none namesOthers selfs (λ r x. others-none r x .0) (requests (t .rest)) (a .1);
+          apart = λ k h. told (a .0) k h .2;
+          single = sum-none namesOthers twice (λ r x. others-none r x .1) (requests (t .rest)) (a .1);
+        }
+
+-- ---- a dormant task's entry
+sleeps-get : (e : Task) → sleepsRight e ≡ true → is dormant (e .state) ≡ 1 → Zeros e
+sleeps-get e h s = go (isDormant (e .state)) h s
+  where
+    go : (b : Bool) → pick b (isZero e) true ≡ true → one b ≡ 1 → Zeros e
+    go true f z = zero-is e f
+    go false f z = absurd (omega arith)
+
+sleeps-make : (e : Task) → (is dormant (e .state) ≡ 1 → Zeros e) → sleepsRight e ≡ true
+sleeps-make e h = go (isDormant (e .state)) h
+  where
+    go : (b : Bool) → (one b ≡ 1 → Zeros e) → pick b (isZero e) true ≡ true
+    go true f = is-zero e (f refl)
+    go false f = refl
+
+module _ (t : Table) where
+  pub dormant-get : dormantRight t ≡ true → (k : ℕ) → taskAt (t .tasks) k .state ≡ Dormant → Zeros (taskAt (t .tasks) k)
+  unfolding dormantRight
+  dormant-get e k z = sleeps-get (taskAt (t .tasks) k) (tasks-get sleepsRight (t .tasks) refl e k) (dormant-kind _ z)
+
+  pub dormant-make : ((k : ℕ) → taskAt (t .tasks) k .state ≡ Dormant → Zeros (taskAt (t .tasks) k))
+      → dormantRight t ≡ true
+  unfolding dormantRight
+  dormant-make w = tasks-make sleepsRight (t .tasks) (λ k. sleeps-make (taskAt (t .tasks) k) (λ z. w k (dormant-named _ z)))
+
+  -- ---- the pool's free places
+  module _ (l : length (t .rest .pool) ≡ 32) where
+    pub pool-get : poolRight t ≡ true → t .rest .pool ≡ pad 32 noRequest (requests (t .rest))
+    unfolding poolRight
+    pool-get e = blank-pad isFree noRequest free-is 32 (t .rest .queued) (t .rest .pool) l e
+
+    pub pool-make : t .rest .pool ≡ pad 32 noRequest (requests (t .rest)) → poolRight t ≡ true
+    unfolding poolRight
+    pool-make e = pad-blank isFree noRequest refl 32 (t .rest .queued) (t .rest .pool) l e

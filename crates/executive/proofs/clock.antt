@@ -1,0 +1,4 @@
+-- The laws of intervals and alarms.
+pub mod Division
+pub mod Interval
+pub mod Alarms

@@ -1,0 +1,90 @@
+-- Laws of a configuration's bytes: what the loops over its tasks come to.
+use Prim.Native.Nat.{ℕ, zero, suc, _+_, _-_, _≤_, _<_}
+use mathlib.Core.Path.{_≡_, refl, ap, sym, _∙_}
+use mathlib.Core.List.{List, [], _∷_, _++_, append-assoc, append-nil}
+use native.Mathlib.Omega.{arith}
+use borrow.Author.Tests.{eq-eqb, ne-eqb}
+use lib.ListN.{length, getD, set}
+use Rattle.executive.specs.declared.Task.{Task}
+use Rattle.executive.specs.declared.Work.{Work}
+use Rattle.executive.specs.Places.{noTask}
+use Rattle.executive.specs.Lists.{pad}
+use Rattle.executive.specs.Table.{Fit, Join, admits}
+use Rattle.executive.specs.Configuration.{placeIn, ownIn, tasksFrom, withTasks, blankRest, dormantAt, sleepers, starter, starters}
+use Rattle.executive.proofs.Lists.Pad.{pad-more, length-pad}
+use Rattle.executive.proofs.queue.InFlight.{admits-append}
+
+-- ---- the 41 counted: n were met, and the next one stands at the place of task n + 1
+module _ (s : List ℕ) (n : ℕ) where
+  abbrev next : ℕ
+  next = getD s (placeIn (n + 1)) 0
+
+  abbrev left : ℕ → ℕ
+  left m = tasksFrom s (16 - m) (m + 1)
+
+  pub tasks-turn : n < 16 → next ≡ 0x41 → n + left n ≡ n + 1 + left (n + 1)
+  unfolding tasksFrom
+  tasks-turn h e =
+      let z : 16 - n ≡ suc (16 - (n + 1)) = omega arith in
+      let y : n + 1 + 1 ≡ suc (n + 1) = omega arith in
+      rw (z, eq-eqb next 0x41 e, y) (omega arith)
+
+  pub tasks-stop : n < 16 → (next ≡ 0x41 → ⊥) → n + left n ≡ n
+  unfolding tasksFrom
+  tasks-stop h e =
+      let z : 16 - n ≡ suc (16 - (n + 1)) = omega arith in
+      rw (z, ne-eqb next 0x41 e) (omega arith)
+
+  pub tasks-end : 16 ≤ n → n + left n ≡ n
+  unfolding tasksFrom
+  tasks-end h = let z : 16 - n ≡ 0 = omega arith in rw z (omega arith)
+
+-- ---- one task more
+module _ (s : List ℕ) where
+  pub length-sleepers : (n k : ℕ) → length (sleepers s n k) ≡ n
+  unfolding sleepers
+  length-sleepers zero k = refl
+  length-sleepers (suc n) k = ap suc (length-sleepers n (suc k))
+
+  sleepers-more : (n k : ℕ) → sleepers s (suc n) k ≡ sleepers s n k ++ (dormantAt (ownIn s (k + n)) ∷ [])
+  unfolding sleepers
+  sleepers-more zero k = let z : k + 0 ≡ k = omega arith in rw z refl
+  sleepers-more (suc n) k =
+      let z : k + suc n ≡ suc k + n = omega arith in
+      rw z (ap (λ (l : List Task). dormantAt (ownIn s k) ∷ l) (sleepers-more n (suc k)))
+
+  pub dormant-more : (n : ℕ) → n < 16
+      → set (pad 16 noTask (sleepers s n 1)) n (dormantAt (ownIn s (n + 1))) ≡ pad 16 noTask (sleepers s (n + 1) 1)
+  dormant-more n h =
+      let l : length (sleepers s n 1) ≡ n = length-sleepers n 1 in
+      let y : n + 1 ≡ 1 + n = omega arith in
+      let z : n + 1 ≡ suc n = omega arith in
+      sym (ap (λ (m : ℕ). set (pad 16 noTask (sleepers s n 1)) m (dormantAt (ownIn s (n + 1)))) l)
+      ∙ pad-more noTask 16 (sleepers s n 1) (dormantAt (ownIn s (n + 1))) (omega arith)
+      ∙ ap (λ (m : ℕ). pad 16 noTask (sleepers s n 1 ++ (dormantAt (ownIn s m) ∷ []))) y
+      ∙ ap (λ (l : List Task). pad 16 noTask l) (sym (sleepers-more n 1) ∙ ap (λ (m : ℕ). sleepers s m 1) (sym z))
+
+  starters-more : (n k : ℕ) → starters s (suc n) k ≡ starters s n k ++ starter s (k + n)
+  unfolding starters
+  starters-more zero k = let z : k + 0 ≡ k = omega arith in rw z (append-nil (starter s k))
+  starters-more (suc n) k =
+      let z : k + suc n ≡ suc k + n = omega arith in
+      rw z (ap (λ (l : List Join). starter s k ++ l) (starters-more n (suc k)) ∙ sym (append-assoc (starter s k) (starters s n (suc k)) (starter s (suc k + n))))
+
+  pub start-more : (n : ℕ) (w : Work) → admits (starter s (n + 1)) (admits (starters s n 1) w) ≡ admits (starters s (n + 1) 1) w
+  start-more n w =
+      let y : n + 1 ≡ 1 + n = omega arith in
+      let z : n + 1 ≡ suc n = omega arith in
+      ap (λ (m : ℕ). admits (starter s m) (admits (starters s n 1) w)) y
+      ∙ sym (admits-append (starters s n 1) (starter s (1 + n)) w)
+      ∙ ap (λ (l : List Join). admits l w) (sym (starters-more n 1) ∙ ap (λ (m : ℕ). starters s m 1) (sym z))
+
+-- ---- the table before the starts
+pub dormant-fit : (s : List ℕ) (n g : ℕ) → n ≤ 16 → Fit (withTasks (pad 16 noTask (sleepers s n 1)) (blankRest n g))
+unfolding pad
+dormant-fit s n g h = record {
+  all = let l : length (sleepers s n 1) ≡ n = length-sleepers s n 1 in length-pad noTask 16 (sleepers s n 1) (omega arith);
+  few = omega arith;
+  tidy = refl;
+  neat = record { room = omega arith; clear = refl };
+}

@@ -1,0 +1,3 @@
+-- The laws of an entry.
+pub mod FieldBehind
+pub mod EntryLent

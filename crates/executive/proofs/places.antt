@@ -1,0 +1,3 @@
+-- The laws of places.
+pub mod TaskAt
+pub mod EntriesLent

@@ -1,0 +1,73 @@
+-- The bench cards hold, and the law of the fresh table: what is concrete is computed.
+use mathlib.Core.Path.{refl}
+use Prim.Native.Nat.{_-_, _^_}
+use Rattle.records.specs.Kinds.{kindOf}
+use Rattle.records.specs.Reading.{readAs, readOf}
+use Rattle.executive.specs.Queue.{behind}
+use Rattle.executive.specs.Lists.{pad, each, sumOf, upTo, allOf}
+use Rattle.executive.specs.Places.{taskAt, putAt}
+use Rattle.executive.specs.Table.{enterAt, departed, entered, depart, admit, admits, carry}
+use Rattle.executive.specs.Clock.{interval, aimAt, rung, advanced}
+use Rattle.executive.specs.Pool.{placeOf}
+use Rattle.executive.specs.Flags.{isSet}
+use Rattle.executive.specs.Plans.{waking, endPlan, restartPlan, pausePlan, cancelPlan, levelOf, waitOf, argumentOf, startPlan, queuePlan, startOnlyPlan, requestOf, askPlan, rises, risers, setPlan, resetPlan, flagPlan, waitPlan, alarmPlan, tickPlan}
+use Rattle.executive.specs.Plans.{planOf}
+use Rattle.executive.specs.Refusals.{nobodyActive, badBody, namesCaller, alarmRunning, poolFull, endsTime, overfills, refusals, firstOf}
+use Rattle.executive.specs.Step.{marksOf, accepted, refused, stepOf}
+use Rattle.executive.specs.Check.{numbersRight, falls, exactAt, queueRight, timesRight, startedRight, masksRight, busyRight, waitersAt, waitersRight, dormantRight, poolRight, isWellFormed}
+use Rattle.executive.specs.Configuration.{tasksFrom, tasksIn, configurationIn, taskRight, isConfiguration, sleepers, dormantTable, starter, starters, freshTable, freshOf}
+use Rattle.executive.specs.Promises.Demands.{after}
+use Rattle.executive.specs.Promises.Worked.{along}
+use Rattle.executive.specs.Promises.Cards.{one, two, idle, atTime, again, full, Cards}
+use Rattle.executive.specs.Promises.FreshLaw.{FreshLaw}
+use Rattle.executive.proofs.check.Decides.{well-formed-iff}
+use Rattle.executive.proofs.configuration.Shape.{configuration-within, found-again}
+use Rattle.executive.proofs.configuration.Exactly.{spelled, tested}
+use Rattle.executive.proofs.configuration.SaidOut.{said-out}
+use Rattle.executive.proofs.configuration.WellFormed.{fresh-formed, fresh-room, fresh-clock, fresh-flags, fresh-made, fresh-refused, fresh-dispatched}
+
+pub cards : Cards
+unfolding behind pad taskAt putAt enterAt departed entered depart admit admits carry interval aimAt placeOf isSet each rung advanced waking endPlan restartPlan pausePlan cancelPlan levelOf waitOf argumentOf startPlan queuePlan startOnlyPlan requestOf askPlan rises risers setPlan resetPlan flagPlan waitPlan alarmPlan tickPlan upTo allOf sumOf numbersRight falls exactAt queueRight timesRight startedRight masksRight busyRight waitersAt waitersRight dormantRight poolRight isWellFormed kindOf readAs readOf planOf nobodyActive badBody namesCaller alarmRunning poolFull endsTime overfills refusals firstOf marksOf accepted refused stepOf tasksFrom tasksIn configurationIn taskRight isConfiguration sleepers dormantTable starter starters freshTable freshOf after along
+cards = record {
+  formed = (
+    well-formed-iff (one 1) .0 refl,
+    (
+      well-formed-iff (one 10) .0 refl,
+      (well-formed-iff (two 10) .0 refl, (well-formed-iff (two 100) .0 refl, (well-formed-iff idle .0 refl, (well-formed-iff again .0 refl, (well-formed-iff full .0 refl, tt))))),
+    ),
+  );
+  formed-later = (
+    well-formed-iff (atTime 420000 (one 10)) .0 refl,
+    (well-formed-iff (atTime 540000 again) .0 refl, (well-formed-iff (atTime 600000 again) .0 refl, tt)),
+  );
+  formed-last = (well-formed-iff (atTime (2 ^ 40 - 1) (one 1)) .0 refl, (well-formed-iff (atTime (2 ^ 40) (one 1)) .0 refl, tt));
+  p1 = (refl, refl);
+  p2 = (refl, refl, refl);
+  p3 = (refl, refl, refl, refl, refl);
+  p4 = (refl, refl, refl, refl);
+  p5 = (refl, refl, refl, refl);
+  p6 = (refl, refl, refl, refl);
+  p7 = (refl, refl, refl);
+  p8 = (refl, refl, refl, refl);
+  p9 = (refl, refl, refl, refl);
+  p10 = (refl, refl, refl);
+  p11 = (refl, refl, refl);
+  p12 = (refl, refl);
+}
+
+pub fresh-law : FreshLaw
+unfolding behind pad taskAt putAt enterAt entered admit admits upTo tasksFrom tasksIn configurationIn taskRight isConfiguration sleepers dormantTable starter starters freshTable freshOf
+fresh-law = record {
+  exactly = λ s. (spelled s, tested s);
+  formed = fresh-formed;
+  room = fresh-room;
+  said-out = said-out;
+  clock = fresh-clock;
+  flags = fresh-flags;
+  made = fresh-made;
+  refused = fresh-refused;
+  dispatched = fresh-dispatched;
+  within = configuration-within;
+  ends = found-again;
+  example = (refl, refl, refl);
+}

@@ -1,0 +1,13 @@
+-- `executive::promised` meets its contract: the theorems stand.
+use Rattle.executive.proofs.promises.promised.Statement.{statement}
+use Rattle.executive.proofs.promises.promised.Tie as tie
+use Rattle.executive.proofs.queue.Law.{queue-law}
+use Rattle.executive.proofs.promises.Demands.{demands}
+use Rattle.executive.proofs.promises.Worked.{worked}
+use Rattle.executive.proofs.promises.Skipping.{skipping}
+
+returns : tie.Need-returns
+returns c = (demands, queue-law, worked, skipping)
+
+pub promised-spec : {M : Type 1} → statement M
+promised-spec = tie.close (tie.spec returns)

@@ -1,0 +1,3 @@
+-- The laws of the refusals.
+pub mod NothingRefuses
+pub mod OtherKinds

@@ -1,0 +1,2 @@
+-- The laws of states.
+pub mod Laws

@@ -1,0 +1,92 @@
+-- Laws of states: a state is told by its kind, its time and its mask; what a state that waits for a time, or for
+-- flags, is not.
+use Prim.Native.Nat.{ℕ, _+_}
+use mathlib.Core.Path.{_≡_, refl, sym, ap, subst, _∙_}
+use mathlib.Core.Bool.{Bool, true, false, _||_}
+use borrow.Author.Tests.{eqb-true}
+use lib.Dec.{eqb}
+use Rattle.executive.specs.declared.Mode.{Mode}
+use Rattle.executive.specs.declared.Mode.the-variants.{Any, All}
+use Rattle.executive.specs.declared.State.{State}
+use Rattle.executive.specs.declared.State.the-variants.{Dormant, Ready, Paused, Due, Flags, AwaitStart, AwaitEnd}
+use Rattle.executive.specs.Lists.{one}
+use Rattle.executive.specs.States.{dormant, ready, paused, due, awaitAny, awaitAll, awaitStart, awaitEnd, kindOf, timeOf, maskOf, stateOf}
+use Rattle.executive.specs.States.{isOf, is, isDormant, hasTime, hasMask, waitMode, StatesTold}
+use Rattle.executive.proofs.queue.Law.{one-true}
+
+-- ---- the three tell the state
+pub state-back : (s : State) → stateOf (kindOf s) (timeOf s) (maskOf s) ≡ s
+unfolding stateOf
+state-back Dormant = refl
+state-back Ready = refl
+state-back (Paused at) = refl
+state-back (Due at) = refl
+state-back (Flags Any mask) = refl
+state-back (Flags All mask) = refl
+state-back AwaitStart = refl
+state-back AwaitEnd = refl
+
+told : (s : State) (n : ℕ) → isOf n s ≡ true → s ≡ stateOf n (timeOf s) (maskOf s)
+told s n e = sym (state-back s) ∙ ap (λ (k : ℕ). stateOf k (timeOf s) (maskOf s)) (sym (eqb-true n (kindOf s) e))
+
+pub dormant-is : (s : State) → isDormant s ≡ true → s ≡ Dormant
+unfolding stateOf
+dormant-is s e = told s dormant e
+
+pub dormant-named : (s : State) → is dormant s ≡ 1 → s ≡ Dormant
+dormant-named s e = dormant-is s (one-true (isDormant s) e)
+
+pub dormant-kind : (s : State) → s ≡ Dormant → is dormant s ≡ 1
+dormant-kind s e = ap (is dormant) e
+
+pub ready-named : (s : State) → is ready s ≡ 1 → s ≡ Ready
+unfolding stateOf
+ready-named s e = told s ready (one-true (isOf ready s) e)
+
+pub ready-kind : (s : State) → s ≡ Ready → is ready s ≡ 1
+ready-kind s e = ap (is ready) e
+
+-- ---- what holds of a kind holds of every state of that kind; of two kinds, of every state of one of them
+pub of-kind : (P : ℕ → Type 0) (n : ℕ) → P n → (s : State) → isOf n s ≡ true → P (kindOf s)
+of-kind P n x s e = subst P (eqb-true n (kindOf s) e) x
+
+of-kinds : (P : ℕ → Type 0) (m n : ℕ) → P m → P n → (s : State) → isOf m s || isOf n s ≡ true → P (kindOf s)
+of-kinds P m n x y s = go (isOf m s) refl
+  where
+    go : (b : Bool) → isOf m s ≡ b → b || isOf n s ≡ true → P (kindOf s)
+    go true f e = of-kind P m x s f
+    go false f e = of-kind P n y s e
+
+-- the rules count the ready and the dormant tasks and those that wait for a start or an end
+abbrev pub counted : ℕ → ℕ
+counted k = one (eqb ready k) + one (eqb dormant k) + one (eqb awaitStart k) + one (eqb awaitEnd k)
+
+pub time-waits : (s : State) → hasTime s ≡ true → counted (kindOf s) ≡ 0
+time-waits s e = of-kinds (λ (k : ℕ). counted k ≡ 0) paused due refl refl s e
+
+pub mask-waits : (s : State) → hasMask s ≡ true → counted (kindOf s) ≡ 0
+mask-waits s e = of-kinds (λ (k : ℕ). counted k ≡ 0) awaitAny awaitAll refl refl s e
+
+pub mask-no-time : (s : State) → hasMask s ≡ true → hasTime s ≡ false
+mask-no-time s e = of-kinds (λ (k : ℕ). eqb paused k || eqb due k ≡ false) awaitAny awaitAll refl refl s e
+
+pub due-time : (s : State) → isOf due s ≡ true → hasTime s ≡ true
+due-time s e = of-kind (λ (k : ℕ). eqb paused k || eqb due k ≡ true) due refl s e
+
+-- ---- a wait for flags, for any or all of a mask
+pub flags-mask : (m : Mode) (mask : ℕ) → hasMask (Flags m mask) ≡ true
+flags-mask Any mask = refl
+flags-mask All mask = refl
+
+pub flags-mode : (m : Mode) (mask : ℕ) → waitMode (Flags m mask) ≡ m
+flags-mode Any mask = refl
+flags-mode All mask = refl
+
+-- ---- the promise
+pub states-told : StatesTold
+states-told = record {
+  back = state-back;
+  kind-determined = λ s x y e f. e ∙ sym f;
+  time-determined = λ s x y e f. e ∙ sym f;
+  mask-determined = λ s x y e f. e ∙ sym f;
+}

@@ -1,0 +1,7 @@
+-- The laws of the step.
+pub mod CodeIsStep
+pub mod Dispatched
+pub mod FirstThatHolds
+pub mod InWords
+pub mod StepIsPlan
+pub mod OthersStay

@@ -1,0 +1,288 @@
+-- Each test of the refusals says what 01's words say, and so the first that passes is the first that holds.
+use Prim.Native.Nat.{ℕ, _+_, _/_, _%_, _≤_, _<_}
+use mathlib.Core.Path.{_≡_, refl, sym, ap, _∙_}
+use mathlib.Core.Logic.{_↔_, _≢_, _⊎_, inl, inr, ⊎-elim}
+use mathlib.Core.Bool.{Bool, true, false, not}
+use mathlib.Core.List.{List, [], _∷_}
+use native.Mathlib.Omega.{arith}
+use native.Mathlib.Nat.{div-div-eq-div-mul}
+use borrow.Author.Tests.{ltb-true, lt-ltb, leb-true, le-leb, eqb-true, eqb-false, eq-eqb, ne-eqb}
+use lib.Dec.{leb, ltb, eqb}
+use lib.ListN.{length, getD}
+use Rattle.records.specs.declared.TaskNo.{TaskNo}
+use Rattle.records.specs.declared.FlagNo.{FlagNo}
+use Rattle.records.specs.declared.Kind.{Kind}
+use Rattle.records.specs.declared.Kind.the-variants as kind
+use Rattle.records.specs.declared.Call.{Call}
+use Rattle.records.specs.declared.Call.the-variants as call
+use Rattle.records.specs.Kinds.{lengthOf, isCall}
+use Rattle.executive.specs.declared.State.{State}
+use Rattle.executive.specs.declared.State.the-variants.{Dormant}
+use Rattle.executive.specs.declared.Table.{Table}
+use Rattle.executive.specs.Lists.{pick, _and_, _or_}
+use Rattle.executive.specs.Numbers.{endOfTime}
+use Rattle.executive.specs.Places.{never}
+use Rattle.executive.specs.Table.{carry}
+use Rattle.executive.specs.States.{isDormant}
+use Rattle.executive.specs.Plans.{caller, stateAt, planOf}
+use Rattle.executive.specs.Check.{isWellFormed}
+use Rattle.executive.specs.Refusals.{kindIn, callIn, isTick, noSuchTask, nobodyActive, badBody, ofQueue, ofAlarm, namesCaller, alarmRunning, poolFull, endsTime, overfills, Refusal, refusals, firstOf}
+use Rattle.executive.specs.Step.{stepOf}
+use Rattle.executive.specs.Promises.InWords.{Bit, NoCall, NoTask, BadBody, IsQueue, IsAlarm, NamesCaller, AlarmRunning, PoolFull, Case, cases, First, Given}
+use Rattle.executive.proofs.Lists.Tests.{clash}
+use Rattle.executive.proofs.check.Decides.{well-formed-iff}
+use Rattle.executive.proofs.step.FirstThatHolds.{step-number}
+use Rattle.executive.proofs.states.Laws.{dormant-is}
+
+-- ---- a test says a sentence
+abbrev Says : Bool → Type 0 → Type 0
+Says b P = (b ≡ true) ↔ P
+
+says-not : (b : Bool) {P : Type 0} → Says b P → Says (not b) (P → ⊥)
+says-not true x = (λ e. clash e, λ n. absurd (n (x .0 refl)))
+says-not false x = (λ e p. clash (x .1 p), λ n. refl)
+
+says-or : (a b : Bool) {P Q : Type 0} → Says a P → Says b Q → Says (a or b) (P ⊎ Q)
+says-or true b x y = (λ e. inl (x .0 e), λ z. refl)
+says-or false b x y = (λ e. inr (y .0 e), λ z. ⊎-elim (λ p. clash (x .1 p)) (λ q. y .1 q) z)
+
+says-and : (a b : Bool) {P Q : Type 0} → Says a P → Says b Q → Says (a and b) (P × Q)
+says-and true b x y = (λ e. (x .0 refl, y .0 e), λ z. y .1 (z .1))
+says-and false b x y = (λ e. clash e, λ z. x .1 (z .0))
+
+says-nothing : Says false ⊥
+says-nothing = (λ e. clash e, λ n. absurd n)
+
+says-eq : (a b : ℕ) → Says (eqb a b) (a ≡ b)
+says-eq a b = (eqb-true a b, eq-eqb a b)
+
+says-lt : (a b : ℕ) → Says (ltb a b) (a < b)
+says-lt a b = (ltb-true a b, lt-ltb a b)
+
+says-le : (a b : ℕ) → Says (leb a b) (a ≤ b)
+says-le a b = (leb-true a b, le-leb a b)
+
+-- ---- bits: of two both are set, of two one is, of three one is
+odd : (x : ℕ) → (x % 2 ≡ 1) ⊎ (x % 2 ≡ 0)
+odd x = go (eqb (x % 2) 1) refl
+  where
+    go : (b : Bool) → eqb (x % 2) 1 ≡ b → (x % 2 ≡ 1) ⊎ (x % 2 ≡ 0)
+    go true e = inl (eqb-true (x % 2) 1 e)
+    go false e = inr (omega (arith, eqb-false (x % 2) 1 e))
+
+some : (x : ℕ) → (x ≡ 0 → ⊥) → not (eqb x 0) ≡ true
+some x n = rw (ne-eqb x 0 n) refl
+
+not-none : (x : ℕ) → not (eqb x 0) ≡ true → x ≡ 0 → ⊥
+not-none x e = says-not (eqb x 0) (says-eq x 0) .0 e
+
+both-of-two : (x : ℕ) → Says (eqb (x % 4) 3) ((x / 2 % 2 ≡ 1) × (x % 2 ≡ 1))
+both-of-two x = (
+  λ e. let y = eqb-true (x % 4) 3 e in (omega arith, omega arith),
+  λ z. eq-eqb (x % 4) 3 (omega (arith, z .0, z .1)),
+)
+
+one-of-two : (x : ℕ) → Says (not (eqb (x % 4) 0)) ((x / 2 % 2 ≡ 1) ⊎ (x % 2 ≡ 1))
+one-of-two x = (
+  λ e.
+      let n = not-none (x % 4) e in
+      ⊎-elim (λ h. inl h) (λ h. ⊎-elim (λ l. inr l) (λ l. absurd (n (omega (arith, h, l)))) (odd x)) (odd (x / 2)),
+  λ z. some (x % 4) (λ n. ⊎-elim (λ h. omega (arith, n, h)) (λ l. omega (arith, n, l)) z),
+)
+
+one-of-three : (x : ℕ) → Says (not (eqb (x % 8) 0)) ((x / 2 / 2 % 2 ≡ 1) ⊎ ((x / 2 % 2 ≡ 1) ⊎ (x % 2 ≡ 1)))
+one-of-three x = (
+  λ e.
+      let n = not-none (x % 8) e in
+      ⊎-elim (λ g. inl g)
+      (λ g. inr (⊎-elim (λ h. inl h) (λ h. ⊎-elim (λ l. inr l) (λ l. absurd (n (omega (arith, g, h, l)))) (odd x)) (odd (x / 2))))
+      (odd (x / 2 / 2)),
+  λ z. some (x % 8) (λ n. ⊎-elim (λ g. omega (arith, n, g)) (λ y. ⊎-elim (λ h. omega (arith, n, h)) (λ l. omega (arith, n, l)) y) z),
+)
+
+module _ (o : ℕ) where
+  half : o / 64 ≡ o / 32 / 2
+  half = sym (div-div-eq-div-mul o 32 2)
+
+  quarter : o / 64 ≡ o / 16 / 2 / 2
+  quarter = half ∙ ap (λ x. x / 2) (sym (div-div-eq-div-mul o 16 2))
+
+  both-bits : Says (eqb (o / 32 % 4) 3) (Bit 6 o × Bit 5 o)
+  both-bits = rw half (both-of-two (o / 32))
+
+  both-high-bits : Says (eqb (o / 64 % 4) 3) (Bit 7 o × Bit 6 o)
+  both-high-bits = rw (sym (div-div-eq-div-mul o 64 2)) (both-of-two (o / 64))
+
+  either-bit : Says (not (eqb (o / 32 % 4) 0)) (Bit 6 o ⊎ Bit 5 o)
+  either-bit = rw half (one-of-two (o / 32))
+
+  any-bit : Says (not (eqb (o / 16 % 8) 0)) (Bit 6 o ⊎ (Bit 5 o ⊎ Bit 4 o))
+  any-bit = rw (quarter, sym (div-div-eq-div-mul o 16 2)) (one-of-three (o / 16))
+
+-- ---- the kinds, the states and the calls that a test knows
+says-no-call : (k : Kind) → Says (not (isCall k)) (NoCall k)
+says-no-call k = (to k, λ z. ⊎-elim (λ e. rw e refl) (λ y. ⊎-elim (λ e. rw e refl) (λ x. ⊎-elim (λ e. rw e refl) (λ e. rw e refl) x) y) z)
+  where
+    to : (k : Kind) → not (isCall k) ≡ true → NoCall k
+    to kind.Unknown e = inl refl
+    to kind.Terminate e = clash e
+    to kind.Restart e = clash e
+    to kind.Pause e = clash e
+    to kind.CancelPause e = clash e
+    to kind.Start e = clash e
+    to kind.Queue e = clash e
+    to kind.Flag e = clash e
+    to kind.Wait e = clash e
+    to kind.Alarm e = clash e
+    to kind.Tick e = clash e
+    to kind.Granule e = inr (inl refl)
+    to kind.Task e = inr (inr (inl refl))
+    to kind.End e = inr (inr (inr refl))
+
+says-dormant : (x : State) → Says (isDormant x) (x ≡ Dormant)
+says-dormant x = (dormant-is x, λ e. rw e refl)
+
+says-tick : (c : Call) → Says (isTick c) (c ≡ call.Tick)
+says-tick c = (to c, λ e. rw e refl)
+  where
+    to : (c : Call) → isTick c ≡ true → c ≡ call.Tick
+    to call.Terminate e = clash e
+    to (call.Restart p n) e = clash e
+    to (call.Pause u n) e = clash e
+    to (call.CancelPause k) e = clash e
+    to (call.Start o k) e = clash e
+    to (call.Queue o k a) e = clash e
+    to (call.Flag o f) e = clash e
+    to (call.Wait m mask) e = clash e
+    to (call.Alarm u n f) e = clash e
+    to call.Tick e = refl
+    to (call.Granule g) e = clash e
+    to (call.Task p m) e = clash e
+    to call.End e = clash e
+
+says-queue : (h : ℕ → TaskNo → Bool) (P : ℕ → TaskNo → Type 0) → ((o : ℕ) (k : TaskNo) → Says (h o k) (P o k))
+    → (c : Call) → Says (ofQueue h c) (IsQueue P c)
+says-queue h P says c = (to c, λ x. rw (x .call) (says (x .option) (x .target) .1 (x .said)))
+  where
+    to : (c : Call) → ofQueue h c ≡ true → IsQueue P c
+    to call.Terminate e = clash e
+    to (call.Restart p n) e = clash e
+    to (call.Pause u n) e = clash e
+    to (call.CancelPause k) e = clash e
+    to (call.Start o k) e = clash e
+    to (call.Queue o k a) e = record { option = o; target = k; argument = a; call = refl; said = says o k .0 e }
+    to (call.Flag o f) e = clash e
+    to (call.Wait m mask) e = clash e
+    to (call.Alarm u n f) e = clash e
+    to call.Tick e = clash e
+    to (call.Granule g) e = clash e
+    to (call.Task p m) e = clash e
+    to call.End e = clash e
+
+says-alarm : (h : FlagNo → Bool) (P : FlagNo → Type 0) → ((f : FlagNo) → Says (h f) (P f))
+    → (c : Call) → Says (ofAlarm h c) (IsAlarm P c)
+says-alarm h P says c = (to c, λ x. rw (x .call) (says (x .flag) .1 (x .said)))
+  where
+    to : (c : Call) → ofAlarm h c ≡ true → IsAlarm P c
+    to call.Terminate e = clash e
+    to (call.Restart p n) e = clash e
+    to (call.Pause u n) e = clash e
+    to (call.CancelPause k) e = clash e
+    to (call.Start o k) e = clash e
+    to (call.Queue o k a) e = clash e
+    to (call.Flag o f) e = clash e
+    to (call.Wait m mask) e = clash e
+    to (call.Alarm u n f) e = record { unit = u; count = n; flag = f; call = refl; said = says f .0 e }
+    to call.Tick e = clash e
+    to (call.Granule g) e = clash e
+    to (call.Task p m) e = clash e
+    to call.End e = clash e
+
+-- ---- each number
+module _ (t : Table) where
+  says-no-task : (k : TaskNo) → Says (noSuchTask t k) (NoTask t k)
+  says-no-task k = says-or (eqb (k .0) 0) (ltb (t .rest .count) (k .0)) (says-eq (k .0) 0) (says-lt (t .rest .count) (k .0))
+
+  says-bad : (c : Call) → Says (badBody t c) (BadBody t c)
+  unfolding badBody
+  says-bad call.Terminate = says-nothing
+  says-bad (call.Restart p n) = both-high-bits p
+  says-bad (call.Pause u n) = says-lt _ u
+  says-bad (call.CancelPause k) = says-no-task k
+  says-bad (call.Start o k) = says-or (noSuchTask t k) _ (says-no-task k) (any-bit o)
+  says-bad (call.Queue o k a) = says-or (noSuchTask t k) _ (says-no-task k) (both-bits o)
+  says-bad (call.Flag o f) = says-or (ltb 31 (f .0)) (ltb 2 o) (says-lt 31 (f .0)) (says-lt 2 o)
+  says-bad (call.Wait m mask) = says-or (ltb 1 m) (eqb mask 0) (says-lt 1 m) (says-eq mask 0)
+  says-bad (call.Alarm u n f) = says-or _ (ltb 31 (f .0)) (says-lt _ u) (says-lt 31 (f .0))
+  says-bad call.Tick = says-nothing
+  says-bad (call.Granule g) = says-nothing
+  says-bad (call.Task p m) = says-nothing
+  says-bad call.End = says-nothing
+
+  module _ (c : Call) where
+    says-idle : Says (nobodyActive t c) ((c ≢ call.Tick) × (t .ready ≡ 0))
+    unfolding nobodyActive
+    says-idle = says-and (not (isTick c)) (eqb (t .ready) 0) (says-not (isTick c) (says-tick c)) (says-eq (t .ready) 0)
+
+    says-caller : Says (namesCaller t c) (NamesCaller t c)
+    unfolding namesCaller
+    says-caller = says-queue _ _ (λ o k. says-and _ _ (says-eq (k .0) (caller t .0)) (either-bit o)) c
+
+    says-running : Says (alarmRunning t c) (AlarmRunning t c)
+    unfolding alarmRunning
+    says-running = says-alarm _ _ (λ f. says-not _ (says-eq (getD (t .rest .alarms) (f .0) never .0) 0)) c
+
+    says-full : Says (poolFull t c) (PoolFull t c)
+    unfolding poolFull
+    says-full = says-queue _ _ (λ o k. says-and _ _ (says-not _ (says-dormant (stateAt t k))) (says-le 32 (t .rest .queued))) c
+
+    says-late : Says (endsTime t c) ((c ≡ call.Tick) × (endOfTime < t .rest .clock .0 + t .rest .granule))
+    unfolding endsTime
+    says-late = says-and (isTick c) _ (says-tick c) (says-lt endOfTime (t .rest .clock .0 + t .rest .granule))
+
+    says-overfull : Says (overfills t c) (carry (planOf t c) t .full ≡ true)
+    unfolding overfills
+    says-overfull = (λ e. e, λ e. e)
+
+-- ---- the list: the same numbers, and each test says its sentence
+abbrev Matches : List Refusal → List Case → Type 0
+Matches [] [] = Unit {0}
+Matches [] (c ∷ cs) = ⊥
+Matches (r ∷ rs) [] = ⊥
+Matches (r ∷ rs) (c ∷ cs) = (r .number ≡ c .number) × Says (r .given) (c .holds) × Matches rs cs
+
+first-is : (rs : List Refusal) (cs : List Case) → Matches rs cs → (n : ℕ) → (firstOf rs ≡ n) ↔ First n cs
+unfolding firstOf
+first-is [] [] m n = (λ e. sym e, λ e. sym e)
+first-is [] (c ∷ cs) m n = absurd m
+first-is (r ∷ rs) [] m n = absurd m
+first-is (r ∷ rs) (c ∷ cs) m n = go (r .given) (m .1) (first-is rs cs (m .2) n)
+  where
+    go : (b : Bool) → Says b (c .holds) → (firstOf rs ≡ n) ↔ First n cs
+        → (pick b (r .number) (firstOf rs) ≡ n) ↔ First n (c ∷ cs)
+    go true x ih = (λ e. inl (x .0 refl, sym e ∙ m .0), λ z. ⊎-elim (λ h. m .0 ∙ sym (h .1)) (λ h. absurd (h .0 (x .0 refl))) z)
+    go false x ih = (λ e. inr (λ h. clash (x .1 h), ih .0 e), λ z. ⊎-elim (λ h. clash (x .1 (h .0))) (λ h. ih .1 (h .1)) z)
+
+matches : (t : Table) (s : List ℕ) → Matches (refusals t s) (cases t s)
+unfolding refusals
+matches t s =
+    let c : Call = callIn s in (
+      refl,
+      says-not (isWellFormed t) (well-formed-iff t),
+      (
+        refl,
+        says-eq (length s) 0,
+        (
+          refl,
+          says-no-call (kindIn s),
+          (
+            refl,
+            says-not _ (says-eq (length s) (lengthOf (kindIn s))),
+            (refl, says-idle t c, (refl, says-bad t c, (refl, says-caller t c, (refl, says-running t c, (refl, says-full t c, (refl, says-late t c, (refl, says-overfull t c, tt))))))),
+          ),
+        ),
+      ),
+    )
+
+pub given : (t : Table) (s : List ℕ) (n : ℕ) → (stepOf t s .answer .number ≡ n) ↔ Given t s n
+given t s n = let x = first-is (refusals t s) (cases t s) (matches t s) n in (λ e. x .0 (sym (step-number t s) ∙ e), λ g. step-number t s ∙ x .1 g)

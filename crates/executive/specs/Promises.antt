@@ -1,0 +1,9 @@
+-- What is promised: the founder's demands, the queue's law, the fresh table, the cards.
+pub mod Broken
+pub mod Cards
+pub mod Demands
+pub mod FreshLaw
+pub mod InWords
+pub mod QueueLaw
+pub mod Skipping
+pub mod Worked

@@ -1,0 +1,150 @@
+-- Tables that are broken in exactly one rule, a few for each rule: the check refuses each of them, by that rule alone.
+use mathlib.Core.Path.{_≡_}
+use mathlib.Core.Bool.{Bool, true, false}
+use mathlib.Core.List.{List, [], _∷_}
+use Prim.Native.Nat.{ℕ, _+_}
+use lib.ListN.{set, replicate}
+use Rattle.records.specs.declared.TaskNo.{TaskNo}
+use Rattle.executive.specs.declared.Millis.{Millis}
+use Rattle.executive.specs.declared.Mode.the-variants.{All}
+use Rattle.executive.specs.declared.State.{State}
+use Rattle.executive.specs.declared.State.the-variants.{Dormant, Ready, Paused, Flags, AwaitStart, AwaitEnd}
+use Rattle.executive.specs.declared.Task.{Task}
+use Rattle.executive.specs.declared.Request.{Request}
+use Rattle.executive.specs.declared.Table.{Table}
+use Rattle.executive.specs.Numbers.{mostTasks, mostQueued, flagCount, longest}
+use Rattle.executive.specs.Places.{nobody, never, noTask, noRequest, putAt}
+use Rattle.executive.specs.Lists.{pad}
+use Rattle.executive.specs.Check.{numbersRight, queueRight, timesRight, startedRight, masksRight, busyRight, waitersRight, dormantRight}
+use Rattle.executive.specs.Check.{poolRight, isWellFormed}
+
+-- ---- the sound table: seven tasks, the clock at 1,000 ms, flag 0 set
+abbrev pub no : ℕ → TaskNo
+no k = record { 0 = k }
+
+abbrev pub now : ℕ
+now = 1000
+
+abbrev pub entry : State → ℕ → ℕ → ℕ → TaskNo → Task
+entry s p a start w = record { own = 4; state = s; priority = p; argument = a; start = record { 0 = start }; «end_waiter» = w }
+
+-- 1 and 2 are ready, 2 before 1; 3 waits for the end of 1's run; 4 is paused; 5 waits for flags 0 and 1; 6 waits
+-- for a queued request; 7 is dormant
+abbrev pub entries : List Task
+entries =
+    pad mostTasks noTask (
+    entry Ready 5 0 now (no 3)
+    ∷ entry Ready 7 0 0 nobody
+    ∷ entry AwaitEnd 3 0 0 nobody
+    ∷ entry (Paused (record { 0 = now + 1 })) 3 0 0 nobody
+    ∷ entry (Flags All 3) 3 0 0 nobody
+    ∷ entry AwaitStart 3 0 0 nobody
+    ∷ entry Dormant 0 0 0 nobody
+    ∷ [])
+
+abbrev pub lined : List TaskNo → List TaskNo
+lined xs = pad mostTasks nobody xs
+
+-- a request for task k, whose start task 6 waits for
+abbrev pub asking : ℕ → List Request
+asking k = pad mostQueued noRequest (record { target = no k; priority = 9; argument = 77; «start_waiter» = no 6; «end_waiter» = nobody } ∷ [])
+
+-- the alarm of flag 4 is running
+abbrev pub ringing : ℕ → List Millis
+ringing at = set (pad flagCount never []) 4 (record { 0 = at })
+
+abbrev pub tableOf : ℕ → List Task → List TaskNo → List Request → List Millis → Table
+tableOf g ts q p rings = record {
+  tasks = ts;
+  queue = q;
+  ready = 2;
+  rest = record { count = 7; granule = g; clock = record { 0 = now }; flags = 1; alarms = rings; pool = p; queued = 1 };
+}
+
+abbrev pub withEntries : List Task → Table
+withEntries ts = tableOf 10 ts (lined (no 2 ∷ no 1 ∷ [])) (asking 1) (ringing (now + longest))
+
+abbrev pub withQueue : List TaskNo → Table
+withQueue q = tableOf 10 entries (lined q) (asking 1) (ringing (now + longest))
+
+abbrev pub withPool : List Request → Table
+withPool p = tableOf 10 entries (lined (no 2 ∷ no 1 ∷ [])) p (ringing (now + longest))
+
+unfoldable pub sound : Table
+sound = withEntries entries
+
+-- ---- the broken ones: each is the sound one but for one field
+-- a granule of 0 ms; an entry past the task count
+unfoldable pub noGranule : Table
+noGranule = tableOf 0 entries (lined (no 2 ∷ no 1 ∷ [])) (asking 1) (ringing (now + longest))
+
+unfoldable pub entryBeyond : Table
+entryBeyond = withEntries (putAt entries 8 (entry Dormant 0 0 0 nobody))
+
+-- a lower priority in front of a higher one; a task twice in the queue, another ready one not there
+unfoldable pub outOfOrder : Table
+outOfOrder = withQueue (no 1 ∷ no 2 ∷ [])
+
+unfoldable pub twiceReady : Table
+twiceReady = withQueue (no 2 ∷ no 2 ∷ [])
+
+-- a pause until now; an alarm too far away
+unfoldable pub pauseOver : Table
+pauseOver = withEntries (putAt entries 4 (entry (Paused (record { 0 = now })) 3 0 0 nobody))
+
+unfoldable pub alarmFar : Table
+alarmFar = tableOf 10 entries (lined (no 2 ∷ no 1 ∷ [])) (asking 1) (ringing (now + longest + 1))
+
+-- a last scheduled start after the clock
+unfoldable pub lateStart : Table
+lateStart = withEntries (putAt entries 1 (entry Ready 5 0 (now + 1) (no 3)))
+
+-- a wait mask of 0; a wait whose condition is true
+unfoldable pub noMask : Table
+noMask = withEntries (putAt entries 5 (entry (Flags All 0) 3 0 0 nobody))
+
+unfoldable pub waitOver : Table
+waitOver = withEntries (putAt entries 5 (entry (Flags All 1) 3 0 0 nobody))
+
+-- a request for the dormant task
+unfoldable pub idleTarget : Table
+idleTarget = withPool (asking 7)
+
+-- two runs name task 3; none does; the request's target is its own waiter
+unfoldable pub namedTwice : Table
+namedTwice = withEntries (putAt entries 2 (entry Ready 7 0 0 (no 3)))
+
+unfoldable pub unnamed : Table
+unnamed = withEntries (putAt entries 1 (entry Ready 5 0 now nobody))
+
+unfoldable pub ownWaiter : Table
+ownWaiter = withPool (asking 6)
+
+-- a dormant task with an argument
+unfoldable pub sleepTalk : Table
+sleepTalk = withEntries (putAt entries 7 (entry Dormant 0 1 0 nobody))
+
+-- a free place of the pool that is not zero
+unfoldable pub strayPlace : Table
+strayPlace = withPool (set (asking 1) 1 (record { target = nobody; priority = 0; argument = 1; «start_waiter» = nobody; «end_waiter» = nobody }))
+
+-- ---- what the check finds of each
+-- the nine tests, in 01's order; refused, and by the test at place i alone
+abbrev pub tests : Table → List Bool
+tests t =
+    numbersRight t ∷ queueRight t ∷ timesRight t ∷ startedRight t ∷ masksRight t ∷ busyRight t ∷ waitersRight t ∷ dormantRight t ∷ poolRight t ∷ []
+
+abbrev pub OnlyBy : ℕ → Table → Type 0
+OnlyBy i t = (isWellFormed t ≡ false) × (tests t ≡ set (replicate 9 true) i false)
+
+pub record Broken : Type 0 where
+  pub kept : isWellFormed sound ≡ true
+  pub numbers : OnlyBy 0 noGranule × OnlyBy 0 entryBeyond
+  pub queue : OnlyBy 1 outOfOrder × OnlyBy 1 twiceReady
+  pub times : OnlyBy 2 pauseOver × OnlyBy 2 alarmFar
+  pub started : OnlyBy 3 lateStart
+  pub masks : OnlyBy 4 noMask × OnlyBy 4 waitOver
+  pub busy : OnlyBy 5 idleTarget
+  pub waiters : OnlyBy 6 namedTwice × OnlyBy 6 unnamed × OnlyBy 6 ownWaiter
+  pub dormant : OnlyBy 7 sleepTalk
+  pub pool : OnlyBy 8 strayPlace

@@ -1,0 +1,109 @@
+-- The numbers an answer can carry, a second time, in 01's words: propositions where `refusals` has tests, bits as bits.
+-- A step's answer has the number of the first of these cases that holds.
+use Prim.Native.Nat.{ℕ, _+_, _/_, _%_, _^_, _≤_, _<_}
+use mathlib.Core.Path.{_≡_}
+use mathlib.Core.Logic.{_≢_, _⊎_}
+use mathlib.Core.Bool.{true}
+use mathlib.Core.List.{List, [], _∷_}
+use lib.ListN.{length, getD}
+use Rattle.records.specs.declared.TaskNo.{TaskNo}
+use Rattle.records.specs.declared.FlagNo.{FlagNo}
+use Rattle.records.specs.declared.Kind.{Kind}
+use Rattle.records.specs.declared.Kind.the-variants as kind
+use Rattle.records.specs.declared.Call.{Call}
+use Rattle.records.specs.declared.Call.the-variants as call
+use Rattle.records.specs.Kinds.{lengthOf}
+use Rattle.executive.specs.declared.State.the-variants.{Dormant}
+use Rattle.executive.specs.declared.Table.{Table}
+use Rattle.executive.specs.Numbers.{lastUnit, mostQueued, endOfTime}
+use Rattle.executive.specs.Places.{never}
+use Rattle.executive.specs.Table.{carry}
+use Rattle.executive.specs.Plans.{caller, stateAt, planOf}
+use Rattle.executive.specs.WellFormed.{WellFormed}
+use Rattle.executive.specs.Refusals.{kindIn, callIn}
+
+-- bit i of a byte is set
+abbrev pub Bit : ℕ → ℕ → Type 0
+Bit i x = x / 2 ^ i % 2 ≡ 1
+
+-- ---- 4: no carried kind; as a call, also 40 to 42
+abbrev pub NoCall : Kind → Type 0
+NoCall k = (k ≡ kind.Unknown) ⊎ ((k ≡ kind.Granule) ⊎ ((k ≡ kind.Task) ⊎ (k ≡ kind.End)))
+
+-- ---- 6: task not 1 to the task count; flag over 31; unit over 5 in 02 or 0B; operation over 2; mode over 1; mask 0;
+-- in 01 both bits 7 and 6 (02); in 04 any of bits 6..4; in 05 both bits 6 and 5
+abbrev pub NoTask : Table → TaskNo → Type 0
+NoTask t k = (k .0 ≡ 0) ⊎ (t .rest .count < k .0)
+
+abbrev pub BadBody : Table → Call → Type 0
+BadBody t call.Terminate = ⊥
+BadBody t (call.Restart p n) = Bit 7 p × Bit 6 p
+BadBody t (call.Pause u n) = lastUnit < u
+BadBody t (call.CancelPause k) = NoTask t k
+BadBody t (call.Start o k) = NoTask t k ⊎ (Bit 6 o ⊎ (Bit 5 o ⊎ Bit 4 o))
+BadBody t (call.Queue o k a) = NoTask t k ⊎ (Bit 6 o × Bit 5 o)
+BadBody t (call.Flag o f) = (31 < f .0) ⊎ (2 < o)
+BadBody t (call.Wait m mask) = (1 < m) ⊎ (mask ≡ 0)
+BadBody t (call.Alarm u n f) = (lastUnit < u) ⊎ (31 < f .0)
+BadBody t call.Tick = ⊥
+BadBody t (call.Granule g) = ⊥
+BadBody t (call.Task p m) = ⊥
+BadBody t call.End = ⊥
+
+-- ---- 7 to 9: the call is a 05, or a 0B, of which something is said
+pub record IsQueue (P : ℕ → TaskNo → Type 0) (c : Call) : Type 0 where
+  pub option : ℕ
+  pub target : TaskNo
+  pub argument : ℕ
+  pub call : c ≡ call.Queue option target argument
+  pub said : P option target
+
+pub record IsAlarm (P : FlagNo → Type 0) (c : Call) : Type 0 where
+  pub unit : ℕ
+  pub count : ℕ
+  pub flag : FlagNo
+  pub call : c ≡ call.Alarm unit count flag
+  pub said : P flag
+
+-- 05 names its caller, with bit 6 or 5
+abbrev pub NamesCaller : Table → Call → Type 0
+NamesCaller t = IsQueue (λ o k. (k .0 ≡ caller t .0) × (Bit 6 o ⊎ Bit 5 o))
+
+-- 0B, and the flag's alarm is running
+abbrev pub AlarmRunning : Table → Call → Type 0
+AlarmRunning t = IsAlarm (λ f. getD (t .rest .alarms) (f .0) never .0 ≢ 0)
+
+-- 05, target busy, 32 requests queued in all
+abbrev pub PoolFull : Table → Call → Type 0
+PoolFull t = IsQueue (λ o k. (stateAt t k ≢ Dormant) × (mostQueued ≤ t .rest .queued))
+
+-- ---- the cases, in 01's order: a number, and when it is given
+pub record Case : Type 1 where
+  pub number : ℕ
+  pub holds : Type 0
+
+abbrev pub case : ℕ → Type 0 → Case
+case n P = record { number = n; holds = P }
+
+abbrev pub cases : Table → List ℕ → List Case
+cases t s =
+    case 1 (WellFormed t → ⊥)
+    ∷ case 3 (length s ≡ 0)
+    ∷ case 4 (NoCall (kindIn s))
+    ∷ case 3 (length s ≢ lengthOf (kindIn s))
+    ∷ case 5 ((callIn s ≢ call.Tick) × (t .ready ≡ 0))
+    ∷ case 6 (BadBody t (callIn s))
+    ∷ case 7 (NamesCaller t (callIn s))
+    ∷ case 9 (AlarmRunning t (callIn s))
+    ∷ case 8 (PoolFull t (callIn s))
+    ∷ case 10 ((callIn s ≡ call.Tick) × (endOfTime < t .rest .clock .0 + t .rest .granule))
+    ∷ case 11 (carry (planOf t (callIn s)) t .full ≡ true)
+    ∷ []
+
+-- n is the number of the first case that holds, and 0 if none does
+abbrev pub First : ℕ → List Case → Type 0
+First n [] = n ≡ 0
+First n (c ∷ cs) = (c .holds × (n ≡ c .number)) ⊎ ((c .holds → ⊥) × First n cs)
+
+abbrev pub Given : Table → List ℕ → ℕ → Type 0
+Given t s n = First n (cases t s)

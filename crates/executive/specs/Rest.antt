@@ -1,0 +1,18 @@
+-- What is neither a task's entry nor the queue, made anew.
+use Prim.Native.Nat.{ℕ}
+use mathlib.Core.List.{List}
+use Rattle.executive.specs.declared.Millis.{Millis}
+use Rattle.executive.specs.declared.Request.{Request}
+use Rattle.executive.specs.declared.Rest.{Rest}
+
+-- ---- made anew: the clock, the flags, the alarms, the pool and the number of its requests; all else as it was
+abbrev pub remade : Millis → ℕ → List Millis → List Request → ℕ → Rest → Rest
+remade c fs al p n r = record {
+  count = r .count;
+  granule = r .granule;
+  clock = c;
+  flags = fs;
+  alarms = al;
+  pool = p;
+  queued = n;
+}

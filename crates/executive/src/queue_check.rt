@@ -1,0 +1,120 @@
+// The check of the ready queue: exactly the ready tasks, once each, in descending priority.
+use crate::State;
+use crate::Task;
+use crate::places;
+use crate::states;
+use records::TaskNo;
+ghost use mathlib.Core.Path.{_≡_};
+ghost use Prim.Native.Nat.{_≤_, _<_, _+_};
+ghost use lib.Dec.{eqb};
+ghost use lib.ListN.{drop, take};
+ghost use Rattle.executive.specs.Lists.{one, upTo, allOf};
+ghost use Rattle.executive.specs.States.{ready, is};
+ghost use Rattle.executive.specs.Check.{isNobody, falls, exactAt, lineRight, Tallies};
+
+// The queue's free places are zero.
+fn blank_from(queue: [TaskNo; 16], ready: usize) -> bool
+    requires { ⌜ ready ≤ 16 ⌝ }
+    ensures { λ r. ⌜ r ≡ allOf isNobody (drop ready queue) ⌝ }
+{
+    let mut i = ready;
+    while i < 16 {
+        if queue[i].0 != 0 {
+            return false;
+        }
+        i += 1;
+    }
+    true
+}
+
+// Those ready are tasks, in descending priority.
+fn descends(tasks: [Task; 16], queue: [TaskNo; 16], ready: usize, count: u8) -> bool
+    requires { ⌜ (ready ≤ 16) × (count ≤ 16) ⌝ }
+    ensures { λ r. ⌜ r ≡ falls tasks count 15 (take ready queue) ⌝ }
+{
+    let mut p: u8 = 15;
+    let mut i: usize = 0;
+    while i < ready {
+        let k = places::entry_place(queue[i]);
+        if count as usize <= k {
+            return false;
+        }
+        let e = tasks[k];
+        if p < e.priority {
+            return false;
+        }
+        p = e.priority;
+        i += 1;
+    }
+    true
+}
+
+pub(crate) fn plus_if(c: u8, k: u8, x: u8) -> u8
+    requires { ⌜ c < 255 ⌝ }
+    ensures { λ r. ⌜ r ≡ one (eqb k x) + c ⌝ }
+{
+    if k == x {
+        return c + 1;
+    }
+    c
+}
+
+// How often each number stands in a line: that of k at place k - 1. Place 16 is for the numbers that no task can have.
+struct Counts {
+    of: [u8; 17],
+}
+
+// How often each number from 1 to 16 stands in the queue.
+fn tally(queue: [TaskNo; 16], ready: usize) -> Counts
+    requires { ⌜ ready ≤ 16 ⌝ }
+    ensures { λ r. ⌜ Tallies (r .of) (take ready queue) ⌝ }
+{
+    let mut of = [0u8; 17];
+    let mut i = ready;
+    while 0 < i {
+        i -= 1;
+        let k = places::entry_place(queue[i]);
+        let n = of[k];
+        of[k] = n + 1;
+    }
+    Counts { of }
+}
+
+// Whether a task that stands n times in the queue stands there as often as its state says: once if it is ready,
+// else never.
+fn exact_at(s: State, n: u8) -> bool
+    ensures { λ r. ⌜ r ≡ eqb n (is ready s) ⌝ }
+{
+    let kind = states::kind_of(s);
+    let want = plus_if(0, states::READY, kind);
+    n == want
+}
+
+fn all_exact(tasks: [Task; 16], queue: [TaskNo; 16], ready: usize, count: u8) -> bool
+    requires { ⌜ (ready ≤ 16) × (count ≤ 16) ⌝ }
+    ensures { λ r. ⌜ r ≡ upTo (exactAt tasks (take ready queue)) count ⌝ }
+{
+    let c = tally(queue, ready);
+    let mut k: u8 = 0;
+    while k < count {
+        let e = tasks[k as usize];
+        let s = e.state;
+        let n = c.of[k as usize];
+        if !exact_at(s, n) {
+            return false;
+        }
+        k += 1;
+    }
+    true
+}
+
+// The ready queue holds exactly the ready tasks, once each, in descending priority; its free places are zero.
+pub(crate) fn queue_right(tasks: [Task; 16], queue: [TaskNo; 16], ready: usize, count: u8) -> bool
+    requires { ⌜ (ready ≤ 16) × (count ≤ 16) ⌝ }
+    ensures { λ r. ⌜ r ≡ lineRight tasks count ready queue ⌝ }
+{
+    if !descends(tasks, queue, ready, count) {
+        return false;
+    }
+    all_exact(tasks, queue, ready, count) && blank_from(queue, ready)
+}
