@@ -16,7 +16,7 @@ use Rattle.executive.specs.declared.Table.{Table}
 use Rattle.executive.specs.Step.{stepOf}
 use Rattle.bench.specs.declared.Next.{Next}
 use Rattle.bench.specs.declared.Next.the-variants as next
-use Rattle.bench.specs.declared.Run.{Run}
+use Rattle.bench.specs.declared.Progress.{Progress}
 use Rattle.bench.specs.declared.Filled.{Filled}
 use Rattle.bench.specs.Glyphs.{Adds, decimalOf, hexOf, bitOf}
 use Rattle.bench.specs.Lines.{granuleWord, tasksWord, activeWord, stopWord, endWord, headerBy, headerOf, lineOf, stopOf}
@@ -44,24 +44,24 @@ last-some s =
     decide (eqb (length s) 0) (λ e. rw e (row-some (endWord ∷ [])))
     (λ e. rw e (decide (eqb (stepLength s) 0) (λ f. rw f (stop-some 4)) (λ f. rw f (stop-some 3))))
 
-told-as-some : (n : Next) (s : List ℕ) (r : Run) → isMore n ≡ true → 0 < length (toldAs n s r)
+told-as-some : (n : Next) (s : List ℕ) (r : Progress) → isMore n ≡ true → 0 < length (toldAs n s r)
 told-as-some (next.Header k) s r e = header-some (r .table .rest .granule) (r .table .rest .count) (k .0)
 told-as-some next.Step s r e =
     decide (eqb (wholeOf (leftIn s r)) 0) (λ q. rw q (last-some (leftIn s r))) (λ q. rw q (line-some _ _ _))
 told-as-some (next.Stop n) s r e = stop-some n
 told-as-some next.Nothing s r e = absurd (let z : _≡_ {A = ℕ} 0 1 = cc in omega arith)
 
-pub told-some : (s : List ℕ) (r : Run) → isMore (r .next) ≡ true → 0 < length (toldOf s r)
+pub told-some : (s : List ℕ) (r : Progress) → isMore (r .next) ≡ true → 0 < length (toldOf s r)
 unfolding toldOf
 told-some s r e = told-as-some (r .next) s r e
 
 -- ---- a piece, turn by turn
-pub goes-more : (room : ℕ) (r : Run) → goesOn room r ≡ true → (isMore (r .next) ≡ true) × (64 ≤ room)
+pub goes-more : (room : ℕ) (r : Progress) → goesOn room r ≡ true → (isMore (r .next) ≡ true) × (64 ≤ room)
 goes-more room r e =
     decide (isMore (r .next)) (λ q. (q, leb-true 64 room (rw q at e))) (λ q. absurd (let z : _≡_ {A = Bool} false true = rw q at e in let y : _≡_ {A = ℕ} 0 1 = cc in omega arith))
 
 -- more turns than there is room change nothing
-turns-enough : (j k room : ℕ) (s : List ℕ) (r : Run) → room ≤ j → room ≤ k → pieceIn j room s r ≡ pieceIn k room s r
+turns-enough : (j k room : ℕ) (s : List ℕ) (r : Progress) → room ≤ j → room ≤ k → pieceIn j room s r ≡ pieceIn k room s r
 turns-enough zero zero room s r h g = refl
 turns-enough zero (suc k) room s r h g =
     decide (goesOn room r) (λ e. absurd (omega (arith, goes-more room r e .1))) (λ e. rw e)
@@ -74,7 +74,7 @@ turns-enough (suc j) (suc k) room s r h g =
     rw e (ap (before (toldOf s r)) (turns-enough j k (room - length (toldOf s r)) s (afterOf s r) (omega arith) (omega arith))))
     (λ e. rw e)
 
-module _ (room : ℕ) (s : List ℕ) (r : Run) where
+module _ (room : ℕ) (s : List ℕ) (r : Progress) where
   pub piece-none : goesOn room r ≡ false → pieceOf room s r ≡ none r
   unfolding pieceOf
   piece-none e = none-in room
@@ -92,17 +92,17 @@ module _ (room : ℕ) (s : List ℕ) (r : Run) where
       ∙ rw e (ap (before (toldOf s r)) (turns-enough room (room - length (toldOf s r)) (room - length (toldOf s r)) s (afterOf s r) (omega arith) (omega arith)))
 
 -- ---- a buffer a that is used up to place n is on its way: it is now b, used up to place m, and the listing stands at q
-pub record Going (s : List ℕ) (r : Run) (a : List ℕ) (n : ℕ) (b : List ℕ) (m : ℕ) (q : Run) : Type 0 where
+pub record Going (s : List ℕ) (r : Progress) (a : List ℕ) (n : ℕ) (b : List ℕ) (m : ℕ) (q : Progress) : Type 0 where
   pub text : List ℕ
   pub adds : Adds a n b m text
   pub same : pieceOf (length a - n) s r ≡ before text (pieceOf (length a - m) s q)
   pub place : m ≤ length a
 
-pub going-none : (s : List ℕ) (r : Run) (a : List ℕ) (n : ℕ) → n ≤ length a → Going s r a n a n r
+pub going-none : (s : List ℕ) (r : Progress) (a : List ℕ) (n : ℕ) → n ≤ length a → Going s r a n a n r
 going-none s r a n h = record { text = []; adds = nothing a n; same = refl; place = h }
 
 -- a line more
-pub going-more : {s : List ℕ} {r : Run} {a : List ℕ} {n : ℕ} {b : List ℕ} {m : ℕ} {q : Run} {c : List ℕ} {k : ℕ}
+pub going-more : {s : List ℕ} {r : Progress} {a : List ℕ} {n : ℕ} {b : List ℕ} {m : ℕ} {q : Progress} {c : List ℕ} {k : ℕ}
     → Going s r a n b m q → goesOn (length a - m) q ≡ true → Adds b m c k (toldOf s q) → Going s r a n c k (afterOf s q)
 going-more {s} {r} {a} {n} {b} {m} {q} {c} {k} g e p =
     let l : length a - m - length (toldOf s q) ≡ length a - k = omega (arith, p .place) in
@@ -116,7 +116,7 @@ going-more {s} {r} {a} {n} {b} {m} {q} {c} {k} g e p =
     }
 
 -- no line more
-pub going-over : {s : List ℕ} {r : Run} {a : List ℕ} {n : ℕ} {b : List ℕ} {m : ℕ} {q : Run} (more : Bool)
+pub going-over : {s : List ℕ} {r : Progress} {a : List ℕ} {n : ℕ} {b : List ℕ} {m : ℕ} {q : Progress} (more : Bool)
     → Going s r a n b m q → goesOn (length a - m) q ≡ false → more ≡ isMore (q .next) → FillsFrom n s r a b (record { used = m; more = more; run = q })
 going-over {s} {r} {a} {n} {b} {m} {q} more g e h =
     let p : pieceOf (length a - n) s r ≡ before (g .text) (none q) = g .same ∙ ap (before (g .text)) (piece-none (length a - m) s q e) in
@@ -127,7 +127,7 @@ going-over {s} {r} {a} {n} {b} {m} {q} more g e h =
     }
 
 -- what was on its way goes on from there
-pub going-on : {s : List ℕ} {r : Run} {a : List ℕ} {n : ℕ} {b : List ℕ} {m : ℕ} {q : Run} {c : List ℕ} (f : Filled)
+pub going-on : {s : List ℕ} {r : Progress} {a : List ℕ} {n : ℕ} {b : List ℕ} {m : ℕ} {q : Progress} {c : List ℕ} (f : Filled)
     → Going s r a n b m q → FillsFrom m s q b c f → FillsFrom n s r a c f
 going-on {s} {r} {a} {n} {b} {m} {q} {c} f g h =
     let l : length b - m ≡ length a - m = omega (arith, g .adds .size) in
@@ -139,14 +139,14 @@ going-on {s} {r} {a} {n} {b} {m} {q} {c} f g h =
     }
 
 -- a buffer that was not used before
-pub fills-all : {s : List ℕ} {r : Run} {a b : List ℕ} (f : Filled) → FillsFrom 0 s r a b f → Fills s r a b f
+pub fills-all : {s : List ℕ} {r : Progress} {a b : List ℕ} (f : Filled) → FillsFrom 0 s r a b f → Fills s r a b f
 fills-all {s} {r} {a} {b} f h =
     let z : length a - 0 ≡ length a = omega arith in
     let p : Adds a 0 b (f .used) (pieceOf (length a) s r .text) = rw z at (h .adds) in
     record { used = omega (arith, p .place); more = rw z at (h .more); run = rw z at (h .run); out = all-of p }
 
 -- ---- the listing stands before a step
-abbrev pub standing : ℕ → ℕ → Table → Run
+abbrev pub standing : ℕ → ℕ → Table → Progress
 standing at number t = record { next = next.Step; at = at; number = number; table = t }
 
 module _ (s : List ℕ) (at number : ℕ) (t : Table) where
@@ -174,7 +174,7 @@ whole-in s at zero e h = absurd (h refl)
 whole-in s at (suc w) e h = omega (arith, whole-fits (drop at s), length-drop at s)
 
 -- a step more: x are its bytes and o is its outcome
-pub going-step : {s : List ℕ} {r : Run} {a : List ℕ} {n : ℕ} {b : List ℕ} {m : ℕ} {at number : ℕ} {t : Table} {c : List ℕ} {k : ℕ}
+pub going-step : {s : List ℕ} {r : Progress} {a : List ℕ} {n : ℕ} {b : List ℕ} {m : ℕ} {at number : ℕ} {t : Table} {c : List ℕ} {k : ℕ}
     → Going s r a n b m (standing at number t) → 64 ≤ length a - m
     → (w : ℕ) → w ≡ wholeOf (drop at s) → (w ≡ 0 → ⊥)
     → (x : List ℕ) → x ≡ take w (drop at s) → (o : Outcome) → o ≡ stepOf t x
@@ -189,7 +189,7 @@ going-step {s} {r} {a} {n} {b} {m} {at} {number} {t} {c} {k} g h w e z x f o i p
     rw v at (going-more g (le-leb 64 (length a - m) h) (rw (← q) at p))
 
 -- the last line
-pub going-last : {s : List ℕ} {r : Run} {a : List ℕ} {n : ℕ} {b : List ℕ} {m : ℕ} {at number : ℕ} {t : Table} {c : List ℕ} {k : ℕ}
+pub going-last : {s : List ℕ} {r : Progress} {a : List ℕ} {n : ℕ} {b : List ℕ} {m : ℕ} {at number : ℕ} {t : Table} {c : List ℕ} {k : ℕ}
     → Going s r a n b m (standing at number t) → 64 ≤ length a - m → 0 ≡ wholeOf (drop at s) → Adds b m c k (lastOf (drop at s))
     → FillsFrom n s r a c (record { used = k; more = false; run = withNext next.Nothing (standing at number t) })
 going-last {s} {r} {a} {n} {b} {m} {at} {number} {t} {c} {k} g h e p =
@@ -197,16 +197,16 @@ going-last {s} {r} {a} {n} {b} {m} {at} {number} {t} {c} {k} g h e p =
     going-over false (rw (after-last s at number t e) at y) refl refl
 
 -- no room for a line more
-pub going-full : {s : List ℕ} {r : Run} {a : List ℕ} {n : ℕ} {b : List ℕ} {m : ℕ} {at number : ℕ} {t : Table}
+pub going-full : {s : List ℕ} {r : Progress} {a : List ℕ} {n : ℕ} {b : List ℕ} {m : ℕ} {at number : ℕ} {t : Table}
     → Going s r a n b m (standing at number t) → length b - m < 64
     → FillsFrom n s r a b (record { used = m; more = true; run = standing at number t })
 going-full {s} {r} {a} {n} {b} {m} {at} {number} {t} g h = going-over true g (lt-leb 64 (length a - m) (omega (arith, g .adds .size))) refl
 
 -- ---- a whole buffer, by what is told first
-small-room : (room : ℕ) (r : Run) → room < 64 → goesOn room r ≡ false
+small-room : (room : ℕ) (r : Progress) → room < 64 → goesOn room r ≡ false
 small-room room r h = decide (isMore (r .next)) (λ e. rw (e, lt-leb 64 room h)) (λ e. rw e)
 
-module _ (s : List ℕ) (r : Run) (a : List ℕ) where
+module _ (s : List ℕ) (r : Progress) (a : List ℕ) where
   done : (more : Bool) → goesOn (length a - 0) r ≡ false → more ≡ isMore (r .next) → Fills s r a a (record { used = 0; more = more; run = r })
   done more e h = fills-all _ (going-over more (going-none s r a 0 (omega arith)) e h)
 

@@ -14,7 +14,7 @@ use Rattle.executive.specs.Configuration.{configurationIn}
 use Rattle.executive.specs.Step.{stepOf}
 use Rattle.bench.specs.declared.Next.{Next}
 use Rattle.bench.specs.declared.Next.the-variants as next
-use Rattle.bench.specs.declared.Run.{Run}
+use Rattle.bench.specs.declared.Progress.{Progress}
 use Rattle.bench.specs.declared.Filled.{Filled}
 use Rattle.bench.specs.Lines.{headerOf, lineOf, stopOf}
 use Rattle.bench.specs.Listing.{mostBytes, wholeOf, lastOf, stepsOf, madeOf, listingOf}
@@ -50,34 +50,34 @@ steps-enough (suc j) (suc k) n t s h g =
     rw e (ap (λ x. lineOf n (getD s 0 0) (stepOf t (take (wholeOf s) s) .answer) ++ x) (steps-enough j k (suc n) (stepOf t (take (wholeOf s) s) .table) (drop (wholeOf s) s) (omega arith) (omega arith))))
 
 -- ---- what is left to tell
-abbrev pub leftAs : Next → List ℕ → Run → List ℕ
+abbrev pub leftAs : Next → List ℕ → Progress → List ℕ
 leftAs (next.Header k) s r = headerOf (r .table) k ++ stepsOf (length s) (r .number) (r .table) (leftIn s r)
 leftAs next.Step s r = stepsOf (length s) (r .number) (r .table) (leftIn s r)
 leftAs (next.Stop n) s r = stopOf n
 leftAs next.Nothing s r = []
 
-abbrev pub left : List ℕ → Run → List ℕ
+abbrev pub left : List ℕ → Progress → List ℕ
 left s r = leftAs (r .next) s r
 
-no-more : (n : Next) (s : List ℕ) (r : Run) → isMore n ≡ false → leftAs n s r ≡ []
+no-more : (n : Next) (s : List ℕ) (r : Progress) → isMore n ≡ false → leftAs n s r ≡ []
 no-more (next.Header k) s r e = absurd (let z : _≡_ {A = ℕ} 0 1 = cc in omega arith)
 no-more next.Step s r e = absurd (let z : _≡_ {A = ℕ} 0 1 = cc in omega arith)
 no-more (next.Stop n) s r e = absurd (let z : _≡_ {A = ℕ} 0 1 = cc in omega arith)
 no-more next.Nothing s r e = refl
 
-no-lines : (n : Next) (s : List ℕ) (r : Run) → linesAs n s r ≤ 0 → isMore n ≡ false
+no-lines : (n : Next) (s : List ℕ) (r : Progress) → linesAs n s r ≤ 0 → isMore n ≡ false
 no-lines (next.Header k) s r h = absurd (omega arith)
 no-lines next.Step s r h = absurd (omega arith)
 no-lines (next.Stop n) s r h = absurd (omega arith)
 no-lines next.Nothing s r h = refl
 
 -- ---- a turn
-pub record Turn (l t : List ℕ) (k : ℕ) (s : List ℕ) (q : Run) : Type 0 where
+pub record Turn (l t : List ℕ) (k : ℕ) (s : List ℕ) (q : Progress) : Type 0 where
   pub same : l ≡ t ++ left s q
   pub sound : Sound s q
   pub fewer : lines s q < k
 
-step-turn : (s : List ℕ) (r : Run) → SoundAs next.Step s r
+step-turn : (s : List ℕ) (r : Progress) → SoundAs next.Step s r
     → Turn (leftAs next.Step s r) (toldAs next.Step s r) (linesAs next.Step s r) s (afterAs next.Step s r)
 unfolding stepsOf
 step-turn s r h =
@@ -95,36 +95,36 @@ step-turn s r h =
     let a : after (r .number) ≡ suc (r .number) = rw (lt-ltb (r .number) 4294967295 (omega arith)) (add-one (r .number)) in
     rw e (record { same = p ∙ rw (e, d, a); sound = rw a (omega arith); fewer = omega arith }))
 
-turn-as : (n : Next) (s : List ℕ) (r : Run) → SoundAs n s r → isMore n ≡ true → Turn (leftAs n s r) (toldAs n s r) (linesAs n s r) s (afterAs n s r)
+turn-as : (n : Next) (s : List ℕ) (r : Progress) → SoundAs n s r → isMore n ≡ true → Turn (leftAs n s r) (toldAs n s r) (linesAs n s r) s (afterAs n s r)
 turn-as (next.Header k) s r h e = record { same = refl; sound = h; fewer = omega arith }
 turn-as next.Step s r h e = step-turn s r h
 turn-as (next.Stop n) s r h e = record { same = sym (append-nil (stopOf n)); sound = tt; fewer = omega arith }
 turn-as next.Nothing s r h e = absurd (let z : _≡_ {A = ℕ} 0 1 = cc in omega arith)
 
-turn : (s : List ℕ) (r : Run) → Sound s r → isMore (r .next) ≡ true → Turn (left s r) (toldOf s r) (lines s r) s (afterOf s r)
+turn : (s : List ℕ) (r : Progress) → Sound s r → isMore (r .next) ≡ true → Turn (left s r) (toldOf s r) (lines s r) s (afterOf s r)
 unfolding toldOf afterOf
 turn s r h e = turn-as (r .next) s r h e
 
 -- ---- a piece, and pieces one after the other: the same with no turn or with some
-pub record Told (l t : List ℕ) (k : ℕ) (s : List ℕ) (q : Run) : Type 0 where
+pub record Told (l t : List ℕ) (k : ℕ) (s : List ℕ) (q : Progress) : Type 0 where
   pub same : l ≡ t ++ left s q
   pub sound : Sound s q
   pub fewer : lines s q ≤ k
 
-stay : (s : List ℕ) (r : Run) → Sound s r → Told (left s r) [] (lines s r) s r
+stay : (s : List ℕ) (r : Progress) → Sound s r → Told (left s r) [] (lines s r) s r
 stay s r h = record { same = refl; sound = h; fewer = omega arith }
 
-move : {l t u : List ℕ} {j : ℕ} {s : List ℕ} {q p : Run} → Told l t j s q → Told (left s q) u (lines s q) s p → Told l (t ++ u) j s p
+move : {l t u : List ℕ} {j : ℕ} {s : List ℕ} {q p : Progress} → Told l t j s q → Told (left s q) u (lines s q) s p → Told l (t ++ u) j s p
 move {l} {t} {u} {j} {s} {q} {p} a b = record {
   same = a .same ∙ ap (λ x. t ++ x) (b .same) ∙ sym (append-assoc t u (left s p));
   sound = b .sound;
   fewer = omega (arith, a .fewer, b .fewer);
 }
 
-turned : {l t : List ℕ} {k : ℕ} {s : List ℕ} {q : Run} → Turn l t k s q → Told l t k s q
+turned : {l t : List ℕ} {k : ℕ} {s : List ℕ} {q : Progress} → Turn l t k s q → Told l t k s q
 turned a = record { same = a .same; sound = a .sound; fewer = omega (arith, a .fewer) }
 
-piece-told : (k room : ℕ) (s : List ℕ) (r : Run) → Sound s r → Told (left s r) (pieceIn k room s r .text) (lines s r) s (pieceIn k room s r .run)
+piece-told : (k room : ℕ) (s : List ℕ) (r : Progress) → Sound s r → Told (left s r) (pieceIn k room s r .text) (lines s r) s (pieceIn k room s r .run)
 piece-told zero room s r h = stay s r h
 piece-told (suc k) room s r h =
     decide (goesOn room r)
@@ -134,7 +134,7 @@ piece-told (suc k) room s r h =
     (λ e. rw e (stay s r h))
 
 -- a piece with room for a line has one or more
-pub piece-fewer : (room : ℕ) (s : List ℕ) (r : Run) → Sound s r → 64 ≤ room → isMore (r .next) ≡ true → lines s (pieceOf room s r .run) < lines s r
+pub piece-fewer : (room : ℕ) (s : List ℕ) (r : Progress) → Sound s r → 64 ≤ room → isMore (r .next) ≡ true → lines s (pieceOf room s r .run) < lines s r
 unfolding pieceOf
 piece-fewer zero s r h g e = absurd (omega arith)
 piece-fewer (suc k) s r h g e =
@@ -142,21 +142,21 @@ piece-fewer (suc k) s r h g e =
     let o : goesOn (suc k) r ≡ true = rw e (le-leb 64 (suc k) g) in
     rw o (omega (arith, t .fewer, piece-told k (suc k - length (toldOf s r)) s (afterOf s r) (t .sound) .fewer))
 
-pub piece-of : (room : ℕ) (s : List ℕ) (r : Run) → Sound s r → Told (left s r) (pieceOf room s r .text) (lines s r) s (pieceOf room s r .run)
+pub piece-of : (room : ℕ) (s : List ℕ) (r : Progress) → Sound s r → Told (left s r) (pieceOf room s r .text) (lines s r) s (pieceOf room s r .run)
 unfolding pieceOf
 piece-of room s r h = piece-told room room s r h
 
-poured-told : (ns s : List ℕ) (r : Run) → Sound s r → Told (left s r) (pouredBy ns s r .text) (lines s r) s (pouredBy ns s r .run)
+poured-told : (ns s : List ℕ) (r : Progress) → Sound s r → Told (left s r) (pouredBy ns s r .text) (lines s r) s (pouredBy ns s r .run)
 poured-told [] s r h = stay s r h
 poured-told (n ∷ ns) s r h = let t = piece-of n s r h in move t (poured-told ns s (pieceOf n s r .run) (t .sound))
 
-none-lines : (n : Next) (s : List ℕ) (r : Run) → isMore n ≡ false → linesAs n s r ≡ 0
+none-lines : (n : Next) (s : List ℕ) (r : Progress) → isMore n ≡ false → linesAs n s r ≡ 0
 none-lines (next.Header k) s r e = absurd (let z : _≡_ {A = ℕ} 0 1 = cc in omega arith)
 none-lines next.Step s r e = absurd (let z : _≡_ {A = ℕ} 0 1 = cc in omega arith)
 none-lines (next.Stop n) s r e = absurd (let z : _≡_ {A = ℕ} 0 1 = cc in omega arith)
 none-lines next.Nothing s r e = refl
 
-poured-fewer : (ns s : List ℕ) (r : Run) → Sound s r → Roomy ns → lines s (pouredBy ns s r .run) ≤ lines s r - length ns
+poured-fewer : (ns s : List ℕ) (r : Progress) → Sound s r → Roomy ns → lines s (pouredBy ns s r .run) ≤ lines s r - length ns
 poured-fewer [] s r h g = omega arith
 poured-fewer (n ∷ ns) s r h g =
     let t = piece-of n s r h in
@@ -199,7 +199,7 @@ unfolding startOf
 start-more s =
     decide (ltb mostBytes (length s)) (λ e. rw e) (λ e. rw e (decide (eqb (madeOf s .answer .number) 0) (λ f. rw f) (λ f. rw f)))
 
-module _ (s : List ℕ) (r : Run) (a b : List ℕ) (f : Filled) (p : Fills s r a b f) where
+module _ (s : List ℕ) (r : Progress) (a b : List ℕ) (f : Filled) (p : Fills s r a b f) where
   filled-in : f .used ≤ length b
   filled-in =
       let t = pieceOf (length a) s r .text in

@@ -11,7 +11,7 @@ use Rattle.executive.specs.Configuration.{configurationIn}
 use Rattle.executive.specs.Step.{stepOf}
 use Rattle.bench.specs.declared.Next.{Next}
 use Rattle.bench.specs.declared.Next.the-variants as next
-use Rattle.bench.specs.declared.Run.{Run}
+use Rattle.bench.specs.declared.Progress.{Progress}
 use Rattle.bench.specs.declared.Filled.{Filled}
 use Rattle.bench.specs.Glyphs.{Adds}
 use Rattle.bench.specs.Lines.{headerOf, lineOf, stopOf}
@@ -22,14 +22,14 @@ abbrev pub lineRoom : ℕ
 lineRoom = 64
 
 -- ---- where the listing stands
-abbrev pub withNext : Next → Run → Run
+abbrev pub withNext : Next → Progress → Progress
 withNext n r = record { next = n; at = r .at; number = r .number; table = r .table }
 
 -- what is told first, of an input of that length whose configuration gave that number and that active task
 abbrev pub firstOf : ℕ → ℕ → TaskNo → Next
 firstOf n k active = cond (ltb mostBytes n) (next.Stop 12) (cond (eqb k 0) (next.Header active) (next.Stop 2))
 
-unfoldable pub startOf : List ℕ → Run
+unfoldable pub startOf : List ℕ → Progress
 startOf s = record {
   next = firstOf (length s) (madeOf s .answer .number) (madeOf s .answer .active);
   at = configurationIn s;
@@ -50,10 +50,10 @@ abbrev pub after : ℕ → ℕ
 after n = cond (ltb n 4294967295) (n + 1) n
 
 -- the bytes that are left
-abbrev pub leftIn : List ℕ → Run → List ℕ
+abbrev pub leftIn : List ℕ → Progress → List ℕ
 leftIn s r = drop (r .at) s
 
-abbrev pub stepped : ℕ → List ℕ → Run → Run
+abbrev pub stepped : ℕ → List ℕ → Progress → Progress
 stepped w s r = record {
   next = next.Step;
   at = r .at + w;
@@ -61,7 +61,7 @@ stepped w s r = record {
   table = stepOf (r .table) (take w (leftIn s r)) .table;
 }
 
-abbrev pub toldAs : Next → List ℕ → Run → List ℕ
+abbrev pub toldAs : Next → List ℕ → Progress → List ℕ
 toldAs (next.Header k) s r = headerOf (r .table) k
 toldAs next.Step s r =
     cond (eqb (wholeOf (leftIn s r)) 0) (lastOf (leftIn s r))
@@ -69,81 +69,81 @@ toldAs next.Step s r =
 toldAs (next.Stop n) s r = stopOf n
 toldAs next.Nothing s r = []
 
-abbrev pub afterAs : Next → List ℕ → Run → Run
+abbrev pub afterAs : Next → List ℕ → Progress → Progress
 afterAs (next.Header k) s r = withNext next.Step r
 afterAs next.Step s r = cond (eqb (wholeOf (leftIn s r)) 0) (withNext next.Nothing r) (stepped (wholeOf (leftIn s r)) s r)
 afterAs (next.Stop n) s r = withNext next.Nothing r
 afterAs next.Nothing s r = r
 
-unfoldable pub toldOf : List ℕ → Run → List ℕ
+unfoldable pub toldOf : List ℕ → Progress → List ℕ
 toldOf s r = toldAs (r .next) s r
 
-unfoldable pub afterOf : List ℕ → Run → Run
+unfoldable pub afterOf : List ℕ → Progress → Progress
 afterOf s r = afterAs (r .next) s r
 
 -- ---- the whole lines that go into a room, and where the listing stands after them
 pub record Piece : Type 0 where
   pub text : List ℕ
-  pub run : Run
+  pub run : Progress
 
-abbrev pub none : Run → Piece
+abbrev pub none : Progress → Piece
 none r = record { text = []; run = r }
 
 abbrev pub before : List ℕ → Piece → Piece
 before t p = record { text = t ++ p .text; run = p .run }
 
 -- is there a further line, and room for it?
-abbrev pub goesOn : ℕ → Run → Bool
+abbrev pub goesOn : ℕ → Progress → Bool
 goesOn room r = cond (isMore (r .next)) (leb lineRoom room) false
 
 -- each line has a byte or more, so as many turns as there is room are enough
-abbrev pub pieceIn : ℕ → ℕ → List ℕ → Run → Piece
+abbrev pub pieceIn : ℕ → ℕ → List ℕ → Progress → Piece
 pieceIn zero room s r = none r
 pieceIn (suc turns) room s r =
     cond (goesOn room r) (before (toldOf s r) (pieceIn turns (room - length (toldOf s r)) s (afterOf s r))) (none r)
 
-unfoldable pub pieceOf : ℕ → List ℕ → Run → Piece
+unfoldable pub pieceOf : ℕ → List ℕ → Progress → Piece
 pieceOf room s r = pieceIn room room s r
 
 -- ---- the contracts: the listing of s stands at r at its start; what filling a buffer answers, a become b
-abbrev pub Starts : List ℕ → Run → Type 0
+abbrev pub Starts : List ℕ → Progress → Type 0
 Starts s r = r ≡ startOf s
 
-pub record Fills (s : List ℕ) (r : Run) (a b : List ℕ) (f : Filled) : Type 0 where
+pub record Fills (s : List ℕ) (r : Progress) (a b : List ℕ) (f : Filled) : Type 0 where
   pub used : f .used ≡ length (pieceOf (length a) s r .text)
   pub more : f .more ≡ isMore (pieceOf (length a) s r .run .next)
   pub run : f .run ≡ pieceOf (length a) s r .run
   pub out : b ≡ pieceOf (length a) s r .text ++ drop (length (pieceOf (length a) s r .text)) a
 
 -- the same in a buffer that is used up to a place
-pub record FillsFrom (n : ℕ) (s : List ℕ) (r : Run) (a b : List ℕ) (f : Filled) : Type 0 where
+pub record FillsFrom (n : ℕ) (s : List ℕ) (r : Progress) (a b : List ℕ) (f : Filled) : Type 0 where
   pub more : f .more ≡ isMore (pieceOf (length a - n) s r .run .next)
   pub run : f .run ≡ pieceOf (length a - n) s r .run
   pub adds : Adds a n b (f .used) (pieceOf (length a - n) s r .text)
 
 -- ---- where a listing can stand, and how much is left of it
 -- the number of a step has room to count those that are left
-abbrev pub SoundAs : Next → List ℕ → Run → Type 0
+abbrev pub SoundAs : Next → List ℕ → Progress → Type 0
 SoundAs (next.Header k) s r = r .number + length (leftIn s r) < 4294967296
 SoundAs next.Step s r = r .number + length (leftIn s r) < 4294967296
 SoundAs (next.Stop n) s r = Unit {0}
 SoundAs next.Nothing s r = Unit {0}
 
-abbrev pub Sound : List ℕ → Run → Type 0
+abbrev pub Sound : List ℕ → Progress → Type 0
 Sound s r = SoundAs (r .next) s r
 
 -- no more lines are left than this
-abbrev pub linesAs : Next → List ℕ → Run → ℕ
+abbrev pub linesAs : Next → List ℕ → Progress → ℕ
 linesAs (next.Header k) s r = length (leftIn s r) + 2
 linesAs next.Step s r = length (leftIn s r) + 1
 linesAs (next.Stop n) s r = 1
 linesAs next.Nothing s r = 0
 
-abbrev pub lines : List ℕ → Run → ℕ
+abbrev pub lines : List ℕ → Progress → ℕ
 lines s r = linesAs (r .next) s r
 
 -- ---- the promise: from the start on, in buffers of any sizes, one after the other
-abbrev pub pouredBy : List ℕ → List ℕ → Run → Piece
+abbrev pub pouredBy : List ℕ → List ℕ → Progress → Piece
 pouredBy [] s r = none r
 pouredBy (n ∷ ns) s r = before (pieceOf n s r .text) (pouredBy ns s (pieceOf n s r .run))
 
@@ -163,12 +163,12 @@ pub record Promise : Type 0 where
   -- within its buffer, leaves room to count, says whether there is more, and with room for a line leaves fewer lines
   pub start-sound : (s : List ℕ) → Sound s (startOf s)
   pub start-more : (s : List ℕ) → isMore (startOf s .next) ≡ true
-  pub within : (s : List ℕ) (r : Run) (a b : List ℕ) (f : Filled) → Fills s r a b f → f .used ≤ length b
-  pub sound : (s : List ℕ) (r : Run) (a b : List ℕ) (f : Filled) → Fills s r a b f → Sound s r → Sound s (f .run)
-  pub fewer : (s : List ℕ) (r : Run) (a b : List ℕ) (f : Filled) → Fills s r a b f → Sound s r → lineRoom ≤ length a
+  pub within : (s : List ℕ) (r : Progress) (a b : List ℕ) (f : Filled) → Fills s r a b f → f .used ≤ length b
+  pub sound : (s : List ℕ) (r : Progress) (a b : List ℕ) (f : Filled) → Fills s r a b f → Sound s r → Sound s (f .run)
+  pub fewer : (s : List ℕ) (r : Progress) (a b : List ℕ) (f : Filled) → Fills s r a b f → Sound s r → lineRoom ≤ length a
       → isMore (r .next) ≡ true → lines s (f .run) < lines s r
-  pub more : (s : List ℕ) (r : Run) (a b : List ℕ) (f : Filled) → Fills s r a b f → f .more ≡ true
+  pub more : (s : List ℕ) (r : Progress) (a b : List ℕ) (f : Filled) → Fills s r a b f → f .more ≡ true
       → isMore (f .run .next) ≡ true
   -- any two outcomes that a public function's contract allows are equal: the answer, and every byte of the buffer
-  pub start-determined : (s : List ℕ) (x y : Run) → Starts s x → Starts s y → x ≡ y
-  pub settled : (s : List ℕ) (r : Run) (a b c : List ℕ) (f g : Filled) → Fills s r a b f → Fills s r a c g → (b ≡ c) × (f ≡ g)
+  pub start-determined : (s : List ℕ) (x y : Progress) → Starts s x → Starts s y → x ≡ y
+  pub settled : (s : List ℕ) (r : Progress) (a b c : List ℕ) (f g : Filled) → Fills s r a b f → Fills s r a c g → (b ≡ c) × (f ≡ g)

@@ -18,7 +18,7 @@ pub enum Next {
 
 // Where a listing stands: what is told next, where in the input the next step begins, that step's number, and the
 // table.
-pub struct Run {
+pub struct Progress {
     pub next: Next,
     pub at: usize,
     pub number: u32,
@@ -30,5 +30,5 @@ pub struct Run {
 pub struct Filled {
     pub used: usize,
     pub more: bool,
-    pub run: Run,
+    pub run: Progress,
 }

@@ -1,7 +1,7 @@
 // The listing of an input, piece by piece: from its start on, into buffers that are lent.
 use crate::Filled;
 use crate::Next;
-use crate::Run;
+use crate::Progress;
 use crate::lines;
 use crate::steps;
 use executive::Table;
@@ -32,7 +32,7 @@ fn first(length: usize, number: u8, active: TaskNo) -> Next
 }
 
 // The start of an input's listing: the configuration is read.
-pub fn start(input: &[u8]) -> Run
+pub fn start(input: &[u8]) -> Progress
     ensures { λ r. ⌜ Starts (now (input .entry)) r ⌝ }
 {
     let at = configuration::length_in(input);
@@ -40,7 +40,7 @@ pub fn start(input: &[u8]) -> Run
     let answer = made.answer;
     let next = first(input.len(), answer.number, answer.active);
     let table = made.table;
-    Run {
+    Progress {
         next,
         at,
         number: 1,
@@ -80,7 +80,7 @@ fn header(table: Table, active: TaskNo, out: &mut [u8]) -> usize
 }
 
 // The lines of the steps from where a listing stands, into a buffer that is used up to a place.
-fn go_on(input: &[u8], run: Run, out: &mut [u8], from: usize) -> Filled
+fn go_on(input: &[u8], run: Progress, out: &mut [u8], from: usize) -> Filled
     requires { ⌜ from ≤ length (now out) ⌝ }
     ensures { λ r. ⌜ FillsFrom from (now (input .entry)) (withNext Step run) (now (out .entry)) (now (out .exit)) r ⌝ }
 {
@@ -95,7 +95,7 @@ fn go_on(input: &[u8], run: Run, out: &mut [u8], from: usize) -> Filled
             return Filled {
                 used,
                 more: false,
-                run: Run {
+                run: Progress {
                     next: Next::Nothing,
                     at,
                     number,
@@ -113,7 +113,7 @@ fn go_on(input: &[u8], run: Run, out: &mut [u8], from: usize) -> Filled
     Filled {
         used,
         more: true,
-        run: Run {
+        run: Progress {
             next: Next::Step,
             at,
             number,
@@ -123,7 +123,7 @@ fn go_on(input: &[u8], run: Run, out: &mut [u8], from: usize) -> Filled
 }
 
 // Fills a buffer with the whole lines that go into it, from where a listing stands. Its other bytes stay.
-pub fn fill(input: &[u8], run: Run, out: &mut [u8]) -> Filled
+pub fn fill(input: &[u8], run: Progress, out: &mut [u8]) -> Filled
     ensures { λ r. ⌜ Fills (now (input .entry)) run (now (out .entry)) (now (out .exit)) r ⌝ }
 {
     let next = run.next;
@@ -146,7 +146,7 @@ pub fn fill(input: &[u8], run: Run, out: &mut [u8]) -> Filled
             Filled {
                 used,
                 more: false,
-                run: Run {
+                run: Progress {
                     next: Next::Nothing,
                     at: run.at,
                     number: run.number,

@@ -1,7 +1,7 @@
 -- The entry points' answers and buffers, a law for each of their outcomes.
 use Prim.Native.Nat.{ℕ, _≤_, _<_}
 use mathlib.Core.Path.{_≡_, refl, sym, ap, _∙_}
-use mathlib.Core.Bool.{Bool, true, false}
+use mathlib.Core.Bool.{Bool, true, false, cond}
 use mathlib.Core.List.{List}
 use native.Mathlib.Omega.{arith}
 use lib.Dec.{ltb}
@@ -10,14 +10,13 @@ use borrow.Author.Tests.{eq-eqb, ne-eqb, lt-ltb, le-ltb}
 use Rattle.executive.specs.declared.Table.{Table}
 use Rattle.executive.specs.declared.Fresh.{Fresh}
 use Rattle.executive.specs.declared.Outcome.{Outcome}
-use Rattle.executive.specs.Lists.{pick}
 use Rattle.executive.specs.Check.{isWellFormed, Checked}
 use Rattle.executive.proofs.Assured.{decided}
 use Rattle.executive.specs.Step.{noTable, stepOf}
 use Rattle.executive.specs.Configuration.{freshOf}
 use Rattle.board.specs.Blocks.{written}
 use Rattle.board.specs.Image.{noRoom, imageLength, imageOf, loadOf, isImageOf, isImage, FitsTable}
-use Rattle.board.specs.Entries.{checkNumber, CheckedImage, Holds, freshNumber, freshImage, answerLength, answerBytes, answerTo, imageAfter, stepNumber, stepImage, stepAnswer}
+use Rattle.board.specs.EntryPoints.{checkNumber, CheckedImage, Holds, freshNumber, freshImage, answerLength, answerBytes, answerTo, imageAfter, stepNumber, stepImage, stepAnswer}
 use Rattle.board.proofs.Alike.{decide, never}
 use Rattle.board.proofs.Trips.{load-store, stored}
 
@@ -50,7 +49,7 @@ module _ (s : List ℕ) (t : Table) (et : t ≡ loadOf s) where
   check-none h = record { number = rw h; right = (λ e. absurd (omega arith), λ w. absurd (never (sym h ∙ w .image))) }
 
   -- the table's own number, by the computed test
-  table-number : (n : ℕ) → Checked (loadOf s) n → n ≡ pick (isWellFormed (loadOf s)) 0 1
+  table-number : (n : ℕ) → Checked (loadOf s) n → n ≡ cond (isWellFormed (loadOf s)) 0 1
   table-number n k =
       decide (isWellFormed (loadOf s))
       (λ e. rw e (k .right .1 (decided .iff (loadOf s) .0 e)))

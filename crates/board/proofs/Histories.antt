@@ -16,7 +16,7 @@ use Rattle.executive.specs.Promises.Demands.{after, AllBytes, IsReady, Dispatch
 use Rattle.executive.proofs.Assured.{demands, fresh-law}
 use Rattle.board.specs.Blocks.{written}
 use Rattle.board.specs.Image.{imageLength, loadOf}
-use Rattle.board.specs.Entries.{WellFormedImage, Holds, freshNumber, MakesImage, answerLength, activeAt, answerTo, stepNumber, stepAnswer, StepsImage, Stepped, Runs, OvertakingImage}
+use Rattle.board.specs.EntryPoints.{WellFormedImage, Holds, freshNumber, MakesImage, answerLength, activeAt, answerTo, stepNumber, stepAnswer, StepsImage, Stepped, Runs, OvertakingImage}
 use Rattle.board.proofs.Alike.{decide}
 use Rattle.board.proofs.Answered.{refused}
 

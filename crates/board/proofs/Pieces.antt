@@ -9,13 +9,13 @@ use Rattle.executive.specs.declared.Answer.{Answer}
 use Rattle.executive.specs.declared.State.{State}
 use Rattle.executive.specs.Lists.{one}
 use Rattle.executive.specs.declared.Millis.{Millis}
-use Rattle.executive.specs.States.{kindOf, timeOf, maskOf}
+use Rattle.executive.specs.States.{stateKind, timeOf, maskOf}
 use Rattle.board.specs.Blocks.{written}
 use Rattle.board.specs.Coding.{frontBytes}
-use Rattle.board.specs.Entries.{answerLength, answerBytes}
+use Rattle.board.specs.EntryPoints.{answerLength, answerBytes}
 use Rattle.board.proofs.Spans.{and-then}
 
-pub wrote-front : (o : List ℕ) {p q r : List ℕ} (at own : ℕ) (s : State) (k : ℕ) (m : Millis) (n : ℕ) → k ≡ kindOf s → m ≡ timeOf s → n ≡ maskOf s
+pub wrote-front : (o : List ℕ) {p q r : List ℕ} (at own : ℕ) (s : State) (k : ℕ) (m : Millis) (n : ℕ) → k ≡ stateKind s → m ≡ timeOf s → n ≡ maskOf s
     → p ≡ written o at (own ∷ k ∷ []) → q ≡ written p (at + 2) (bytesIn 8 (m .0)) → r ≡ written q (at + 10) (bytesIn 4 n) → at + 14 ≤ length o
     → r ≡ written o at (frontBytes own s)
 wrote-front o at own s k m n ek em en f g h l =

@@ -1,7 +1,7 @@
 -- The round trips of the image: storing and loading gives the same table, loading and storing the same bytes.
 use Prim.Native.Nat.{ℕ, zero, suc, _+_, _*_, _^_, _<_}
 use mathlib.Core.Path.{_≡_, refl, sym, ap, _∙_}
-use mathlib.Core.Bool.{Bool, true, false}
+use mathlib.Core.Bool.{Bool, true, false, cond}
 use mathlib.Core.List.{List, [], _∷_, _++_, append-nil, append-assoc}
 use native.Mathlib.Omega.{arith}
 use native.Mathlib.Nat.{add-zero}
@@ -13,8 +13,7 @@ use Rattle.executive.specs.declared.Millis.{Millis}
 use Rattle.executive.specs.declared.State.{State}
 use Rattle.executive.specs.declared.Task.{Task}
 use Rattle.executive.specs.declared.Table.{Table}
-use Rattle.executive.specs.Lists.{pick}
-use Rattle.executive.specs.States.{dormant, ready, paused, due, awaitAny, awaitAll, awaitStart, awaitEnd, kindOf, timeOf, maskOf, stateOf}
+use Rattle.executive.specs.States.{dormant, ready, paused, due, awaitAny, awaitAll, awaitStart, awaitEnd, stateKind, timeOf, maskOf, stateOf}
 use Rattle.executive.specs.WellFormed.{Sizes}
 use Rattle.executive.proofs.Assured.{states-told}
 use Rattle.board.specs.Blocks.{row, blocks, Each, written, same}
@@ -151,9 +150,9 @@ each-block P f g w zero at = tt
 each-block P f g w (suc n) at = (g at, each-block P f g w n (at + w))
 
 abbrev pub FitsState : State → Type 0
-FitsState x = Fits (1 ∷ 8 ∷ 4 ∷ []) (kindOf x ∷ timeOf x .0 ∷ maskOf x ∷ [])
+FitsState x = Fits (1 ∷ 8 ∷ 4 ∷ []) (stateKind x ∷ timeOf x .0 ∷ maskOf x ∷ [])
 
-either : (b : Bool) (x y : State) → FitsState x → FitsState y → FitsState (pick b x y)
+either : (b : Bool) (x y : State) → FitsState x → FitsState y → FitsState (cond b x y)
 either true x y f g = f
 either false x y f g = g
 

@@ -3,11 +3,10 @@
 use Prim.Native.Nat.{ℕ, zero, suc, _+_, _≤_, _<_, _^_}
 use Prim.{Unit}
 use mathlib.Core.Path.{_≡_}
-use mathlib.Core.Bool.{Bool, true, false}
+use mathlib.Core.Bool.{Bool, true, false, cond}
 use mathlib.Core.List.{List, [], _∷_, _++_}
 use lib.Dec.{eqb}
 use lib.ListN.{length, take, drop}
-use Rattle.executive.specs.Lists.{pick}
 use Rattle.records.specs.Numbers.{numberOf, part}
 
 -- the blocks of some elements, laid one after the other
@@ -34,7 +33,7 @@ unfoldable pub same : List ℕ → List ℕ → Bool
 same [] [] = true
 same [] (y ∷ ys) = false
 same (x ∷ xs) [] = false
-same (x ∷ xs) (y ∷ ys) = pick (eqb x y) (same xs ys) false
+same (x ∷ xs) (y ∷ ys) = cond (eqb x y) (same xs ys) false
 
 -- the number of w bytes from a place on
 pub record Number (s : List ℕ) (at w n : ℕ) : Type 0 where

@@ -5,11 +5,11 @@ use Rattle.records.specs.Numbers.{lay}
 use Rattle.executive.specs.declared.State.{State}
 use Rattle.executive.specs.declared.Task.{Task}
 use Rattle.executive.specs.declared.Rest.{Rest}
-use Rattle.executive.specs.States.{kindOf, timeOf, maskOf}
+use Rattle.executive.specs.States.{stateKind, timeOf, maskOf}
 use Rattle.board.specs.Image.{headWidths}
 
 abbrev pub frontBytes : ℕ → State → List ℕ
-frontBytes own s = lay (1 ∷ 1 ∷ 8 ∷ 4 ∷ []) (own ∷ kindOf s ∷ timeOf s .0 ∷ maskOf s ∷ [])
+frontBytes own s = lay (1 ∷ 1 ∷ 8 ∷ 4 ∷ []) (own ∷ stateKind s ∷ timeOf s .0 ∷ maskOf s ∷ [])
 
 abbrev pub runBytes : Task → List ℕ
 runBytes e = lay (1 ∷ 2 ∷ 8 ∷ 1 ∷ []) (e .priority ∷ e .argument ∷ e .start .0 ∷ e .«end_waiter» .0 ∷ [])

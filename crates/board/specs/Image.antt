@@ -1,7 +1,7 @@
 -- The image of a table: 896 bytes, numbers big-endian. docs/TABLE.md has the layout in words.
 use Prim.Native.Nat.{ℕ, _+_}
 use mathlib.Core.Path.{_≡_}
-use mathlib.Core.Bool.{Bool, false}
+use mathlib.Core.Bool.{Bool, false, cond}
 use mathlib.Core.List.{List, [], _∷_, _++_}
 use lib.Dec.{eqb}
 use lib.ListN.{length, getD}
@@ -11,8 +11,7 @@ use Rattle.executive.specs.declared.Millis.{Millis}
 use Rattle.executive.specs.declared.Task.{Task}
 use Rattle.executive.specs.declared.Request.{Request}
 use Rattle.executive.specs.declared.Table.{Table}
-use Rattle.executive.specs.Lists.{pick}
-use Rattle.executive.specs.States.{kindOf, timeOf, maskOf, stateOf}
+use Rattle.executive.specs.States.{stateKind, timeOf, maskOf, stateOf}
 use Rattle.executive.specs.WellFormed.{Sizes}
 use Rattle.board.specs.Blocks.{row, blocks, Each, same}
 
@@ -39,7 +38,7 @@ requestWidths = 1 ∷ 1 ∷ 2 ∷ 1 ∷ 1 ∷ []
 -- ---- the numbers of each block, and the block's value from its numbers
 abbrev pub taskNumbers : Task → List ℕ
 taskNumbers e =
-    e .own ∷ kindOf (e .state) ∷ timeOf (e .state) .0 ∷ maskOf (e .state) ∷ e .priority ∷ e .argument ∷ e .start .0 ∷ e .«end_waiter» .0 ∷ []
+    e .own ∷ stateKind (e .state) ∷ timeOf (e .state) .0 ∷ maskOf (e .state) ∷ e .priority ∷ e .argument ∷ e .start .0 ∷ e .«end_waiter» .0 ∷ []
 
 abbrev pub taskOf : List ℕ → Task
 taskOf xs = record {
@@ -123,10 +122,10 @@ noRoom = 30
 
 -- storing into a buffer: 0 and the image, or 30 where the buffer has not its length, and then it stays as it was
 unfoldable pub storeNumber : List ℕ → ℕ
-storeNumber o = pick (eqb (length o) imageLength) 0 noRoom
+storeNumber o = cond (eqb (length o) imageLength) 0 noRoom
 
 unfoldable pub storeBytes : Table → List ℕ → List ℕ
-storeBytes t o = pick (eqb (length o) imageLength) (imageOf t) o
+storeBytes t o = cond (eqb (length o) imageLength) (imageOf t) o
 
 -- the contract: n is what storing t into the buffer o answers, and o then is p
 pub record Stores (t : Table) (o p : List ℕ) (n : ℕ) : Type 0 where
@@ -180,7 +179,7 @@ ComesBack t u = u ≡ t
 
 -- ---- an image is byte for byte the image of the table that it loads to
 unfoldable pub isImageOf : List ℕ → Table → Bool
-isImageOf s t = pick (eqb (length s) imageLength) (same (imageOf t) s) false
+isImageOf s t = cond (eqb (length s) imageLength) (same (imageOf t) s) false
 
 abbrev pub isImage : List ℕ → Bool
 isImage s = isImageOf s (loadOf s)

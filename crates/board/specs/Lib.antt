@@ -2,5 +2,5 @@
 pub mod Blocks
 pub mod Image
 pub mod Coding
-pub mod Entries
+pub mod EntryPoints
 pub mod Promises

@@ -8,8 +8,8 @@ use Rattle.records.specs.Numbers.{Bytes}
 use Rattle.executive.specs.declared.Table.{Table}
 use Rattle.executive.specs.Promises.Demands.{AllBytes, IsReady, Dispatched, NotYet}
 use Rattle.board.specs.Image.{imageLength, imageOf, Stores, loadOf, Loads, ComesBack, isImage, FitsTable}
-use Rattle.board.specs.Entries.{WellFormedImage, CheckedImage, answerLength, activeAt, freshNumber, freshImage, MakesImage, stepNumber}
-use Rattle.board.specs.Entries.{stepImage, stepAnswer, StepsImage, Runs, OvertakingImage}
+use Rattle.board.specs.EntryPoints.{WellFormedImage, CheckedImage, answerLength, activeAt, freshNumber, freshImage, MakesImage, stepNumber}
+use Rattle.board.specs.EntryPoints.{stepImage, stepAnswer, StepsImage, Runs, OvertakingImage}
 
 pub record Promises : Type 0 where
   -- storing a table and loading it gives the same table

@@ -7,7 +7,7 @@ ghost use Prim.Native.Nat.{_≤_};
 ghost use lib.ListN.{length};
 ghost use Rattle.executive.specs.Lists.{one};
 ghost use Rattle.board.specs.Blocks.{written};
-ghost use Rattle.board.specs.Entries.{answerLength, answerBytes};
+ghost use Rattle.board.specs.EntryPoints.{answerLength, answerBytes};
 
 fn bit(mark: bool) -> u8
     ensures { λ r. ⌜ r ≡ one mark ⌝ }

@@ -1,6 +1,6 @@
 // The board library: the executive's table as bytes, and entry points for C, on byte slices and numbers only.
 use executive::configuration;
-ghost use Rattle.board.specs.Entries.{MakesImage, CheckedImage, StepsImage};
+ghost use Rattle.board.specs.EntryPoints.{MakesImage, CheckedImage, StepsImage};
 
 mod answers;
 mod checking;

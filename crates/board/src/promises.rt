@@ -7,7 +7,7 @@ ghost use Rattle.board.specs.Image.{ComesBack};
 ghost use Rattle.board.specs.Promises.{Promises};
 
 // Stores a table and loads its image: the same table.
-pub fn there_and_back(table: Table) -> Table
+pub fn write_then_read(table: Table) -> Table
     ensures { λ r. ⌜ ComesBack table r ⌝ }
 {
     let mut image = [0u8; IMAGE];

@@ -2,7 +2,7 @@
 use Prim.Native.Nat.{ℕ, suc, _+_, _-_, _<_}
 use mathlib.Core.Path.{_≡_}
 use mathlib.Core.Logic.{_↔_}
-use mathlib.Core.Bool.{Bool, true, false, not}
+use mathlib.Core.Bool.{Bool, true, false, not, cond}
 use mathlib.Core.List.{List, [], _∷_}
 use lib.Dec.{eqb, leb, ltb}
 use lib.ListN.{length, drop, take, getD}
@@ -15,7 +15,7 @@ use Rattle.executive.specs.declared.Table.{Table}
 use Rattle.executive.specs.declared.waiters.Link.{Link}
 use Rattle.executive.specs.declared.waiters.Link.the-variants.{AtStart, AtEnd}
 use Rattle.executive.specs.Numbers.{mostTasks, mostQueued, flagCount, highest, mostGranule, endOfTime, longest}
-use Rattle.executive.specs.Lists.{pick, one, sumOf, _and_, upTo, allOf}
+use Rattle.executive.specs.Lists.{one, sumOf, _and_, upTo, allOf}
 use Rattle.executive.specs.Table.{line}
 use Rattle.executive.specs.Pool.{requests}
 use Rattle.executive.specs.Places.{taskAt}
@@ -68,7 +68,7 @@ isNobody k = eqb (k .0) 0
 -- each names one of n tasks, none has a priority over p, and they descend
 unfoldable pub falls : List Task → ℕ → ℕ → List TaskNo → Bool
 falls ts n p [] = true
-falls ts n p (k ∷ ks) = pick (isTask n k) (pick (leb (taskAt ts (k .0) .priority) p) (falls ts n (taskAt ts (k .0) .priority) ks) false) false
+falls ts n p (k ∷ ks) = cond (isTask n k) (cond (leb (taskAt ts (k .0) .priority) p) (falls ts n (taskAt ts (k .0) .priority) ks) false) false
 
 -- how often the number k stands in a line: once if it is ready, else never
 abbrev pub standsIn : ℕ → List TaskNo → ℕ
@@ -88,10 +88,10 @@ abbrev pub isStored : ℕ → ℕ → Bool
 isStored c at = ltb c at and leb (at - c) longest
 
 abbrev pub isTimely : ℕ → State → Bool
-isTimely c s = pick (hasTime s) (isStored c (timeOf s .0)) true
+isTimely c s = cond (hasTime s) (isStored c (timeOf s .0)) true
 
 abbrev pub alarmRight : ℕ → Millis → Bool
-alarmRight c a = pick (eqb (a .0) 0) true (isStored c (a .0))
+alarmRight c a = cond (eqb (a .0) 0) true (isStored c (a .0))
 
 abbrev pub taskTimely : ℕ → Task → Bool
 taskTimely c e = isTimely c (e .state)
@@ -108,7 +108,7 @@ startedRight t = allOf (isStarted (t .rest .clock .0)) (t .tasks)
 
 -- ---- wait masks, at the flags fs
 abbrev pub isUnmet : ℕ → State → Bool
-isUnmet fs s = pick (hasMask s) (ltb 0 (maskOf s) and not (met fs (waitMode s) (maskOf s))) true
+isUnmet fs s = cond (hasMask s) (ltb 0 (maskOf s) and not (met fs (waitMode s) (maskOf s))) true
 
 abbrev pub taskUnmet : ℕ → Task → Bool
 taskUnmet fs e = isUnmet fs (e .state)
@@ -134,17 +134,17 @@ abbrev pub namesOthers : Request → Bool
 namesOthers r =
     not (eqb (r .target .0) (r .«start_waiter» .0))
     and not (eqb (r .target .0) (r .«end_waiter» .0))
-    and pick (eqb (r .«start_waiter» .0) 0) true (eqb (r .«end_waiter» .0) 0)
+    and cond (eqb (r .«start_waiter» .0) 0) true (eqb (r .«end_waiter» .0) 0)
 
 unfoldable pub waitersRight : Table → Bool
 waitersRight t = upTo (waitersAt (t .tasks) (requests (t .rest))) (t .rest .count) and allOf namesOthers (requests (t .rest))
 
 -- ---- a dormant task's entry
-abbrev pub sleepsRight : Task → Bool
-sleepsRight e = pick (isDormant (e .state)) (isZero e) true
+abbrev pub dormantEntryRight : Task → Bool
+dormantEntryRight e = cond (isDormant (e .state)) (isZero e) true
 
 unfoldable pub dormantRight : Table → Bool
-dormantRight t = allOf sleepsRight (t .tasks)
+dormantRight t = allOf dormantEntryRight (t .tasks)
 
 -- ---- the pool's free places
 abbrev pub isFree : Request → Bool
@@ -185,7 +185,7 @@ pub record Decided : Type 0 where
 -- all rules on one entry of n tasks, at the clock c with the flags fs; all rules on one request, and those that do
 -- not look at its target's entry
 abbrev pub entryRight : ℕ → ℕ → ℕ → Task → Bool
-entryRight n c fs e = entryInRange n e and taskTimely c e and isStarted c e and taskUnmet fs e and sleepsRight e
+entryRight n c fs e = entryInRange n e and taskTimely c e and isStarted c e and taskUnmet fs e and dormantEntryRight e
 
 abbrev pub requestFits : ℕ → Request → Bool
 requestFits n r = requestInRange n r and namesOthers r

@@ -1,12 +1,12 @@
 -- Intervals, the time that a restart aims at (01, "Intervals" and kind 01), the alarms and the clock.
 use Prim.Native.Nat.{ℕ, _+_, _-_, _*_, _/_, _%_}
-use mathlib.Core.Bool.{Bool, false}
+use mathlib.Core.Bool.{Bool, false, cond}
 use mathlib.Core.List.{List, [], _∷_}
 use lib.Dec.{eqb, ltb, leb}
 use lib.ListN.{getD, set}
 use Rattle.executive.specs.declared.Millis.{Millis}
 use Rattle.executive.specs.Numbers.{lastUnit, flagCount}
-use Rattle.executive.specs.Lists.{pick, each}
+use Rattle.executive.specs.Lists.{each}
 use Rattle.executive.specs.declared.Rest.{Rest}
 use Rattle.executive.specs.Places.{never}
 use Rattle.executive.specs.Rest.{remade}
@@ -30,20 +30,20 @@ nextOnGrid start now every = record { 0 = start .0 + (missed start now every + 1
 
 -- kind 01 skips what was missed: bit 6 of the parameter set, bit 7 clear, and a count (02)
 abbrev pub skipsMissed : ℕ → ℕ → Bool
-skipsMissed p n = pick (eqb (p / 64 % 4) 1) (ltb 0 n) false
+skipsMissed p n = cond (eqb (p / 64 % 4) 1) (ltb 0 n) false
 
 -- kind 01: bits 2..0 of the parameter are the unit, bit 7 the base. Units 6 and 7: now. With bit 6 the first grid
 -- time after now;
 -- else last scheduled start plus interval (bit 7 clear) or now plus interval (set)
 unfoldable pub aimAt : Millis → Millis → ℕ → ℕ → Millis
 aimAt start now p n =
-    pick (ltb lastUnit (p % 8)) now
-    (pick (skipsMissed p n) (nextOnGrid start now (interval (p % 8) n))
-    (record { 0 = pick (ltb p 128) (start .0) (now .0) + interval (p % 8) n .0 }))
+    cond (ltb lastUnit (p % 8)) now
+    (cond (skipsMissed p n) (nextOnGrid start now (interval (p % 8) n))
+    (record { 0 = cond (ltb p 128) (start .0) (now .0) + interval (p % 8) n .0 }))
 
 -- how many grid times are passed over by that
 unfoldable pub skippedOf : Millis → Millis → ℕ → ℕ → ℕ
-skippedOf start now p n = pick (ltb lastUnit (p % 8)) 0 (pick (skipsMissed p n) (missed start now (interval (p % 8) n)) 0)
+skippedOf start now p n = cond (ltb lastUnit (p % 8)) 0 (cond (skipsMissed p n) (missed start now (interval (p % 8) n)) 0)
 
 -- ---- the alarms: the one of flag n is at place n; 0 where it is not running
 abbrev pub withAlarm : ℕ → Millis → Rest → Rest
@@ -55,12 +55,12 @@ withClock c r = remade c (r .flags) (r .alarms) (r .pool) (r .queued) r
 
 -- an alarm is due, at the clock c, when it is running and its time has come
 abbrev pub isDue : ℕ → Millis → Bool
-isDue c a = pick (eqb (a .0) 0) false (leb (a .0) c)
+isDue c a = cond (eqb (a .0) 0) false (leb (a .0) c)
 
 -- alarm i, if it is due, sets its flag and is cleared
 unfoldable pub rung : Rest → ℕ → Rest
 rung r i =
-    pick (isDue (r .clock .0) (getD (r .alarms) i never))
+    cond (isDue (r .clock .0) (getD (r .alarms) i never))
     (withFlags (flagSet (r .flags) i) (withAlarm i never r))
     r
 

@@ -1,20 +1,20 @@
 -- The fresh table of a configuration (01, "Records"): one 40, then 1 to 16 of 41, then 42, and nothing more.
 use Prim.Native.Nat.{ℕ, zero, suc, _+_, _-_, _*_}
 use mathlib.Core.Path.{_≡_}
-use mathlib.Core.Bool.{Bool, false}
+use mathlib.Core.Bool.{Bool, false, cond}
 use mathlib.Core.List.{List, [], _∷_, _++_}
 use lib.Dec.{eqb, leb}
 use lib.ListN.{length, getD}
 use Rattle.executive.specs.declared.State.the-variants.{Dormant}
-use Rattle.executive.specs.declared.Wait.the-variants.{Goes}
+use Rattle.executive.specs.declared.AwaitedMoment.the-variants.{ForNothing}
 use Rattle.executive.specs.declared.Task.{Task}
 use Rattle.executive.specs.declared.Rest.{Rest}
 use Rattle.executive.specs.declared.Table.{Table}
 use Rattle.executive.specs.declared.Fresh.{Fresh}
 use Rattle.executive.specs.Numbers.{mostTasks, mostQueued, flagCount, highest}
-use Rattle.executive.specs.Lists.{pick, pad, _and_, upTo}
+use Rattle.executive.specs.Lists.{pad, _and_, upTo}
 use Rattle.executive.specs.Places.{nobody, never, noTask, noRequest}
-use Rattle.executive.specs.Table.{Join, begin, admits}
+use Rattle.executive.specs.Table.{Join, begin, enterAllInFlight}
 use Rattle.executive.specs.Plans.{asks, begins}
 use Rattle.executive.specs.Step.{marks, answerOf}
 
@@ -34,7 +34,7 @@ markIn s k = getD s (placeIn k + 2) 0
 -- how many 41 follow one another, the first at task k's place; n at most
 unfoldable pub tasksFrom : List ℕ → ℕ → ℕ → ℕ
 tasksFrom s zero k = 0
-tasksFrom s (suc n) k = pick (eqb (getD s (placeIn k) 0) 0x41) (suc (tasksFrom s n (suc k))) 0
+tasksFrom s (suc n) k = cond (eqb (getD s (placeIn k) 0) 0x41) (suc (tasksFrom s n (suc k))) 0
 
 unfoldable pub tasksIn : List ℕ → ℕ
 tasksIn s = tasksFrom s mostTasks 1
@@ -42,7 +42,7 @@ tasksIn s = tasksFrom s mostTasks 1
 -- the length of the configuration that some bytes begin with, up to its 42; 0 where they begin with none. Ranges
 -- are not looked at
 unfoldable pub configurationIn : List ℕ → ℕ
-configurationIn s = pick (eqb (getD s 0 0) 0x40 and eqb (getD s (placeIn (tasksIn s + 1)) 0) 0x42) (3 * tasksIn s + 3) 0
+configurationIn s = cond (eqb (getD s 0 0) 0x40 and eqb (getD s (placeIn (tasksIn s + 1)) 0) 0x42) (3 * tasksIn s + 3) 0
 
 -- own priority 0 to 15; mark 1 or 0
 unfoldable pub taskRight : List ℕ → ℕ → Bool
@@ -75,15 +75,15 @@ unfoldable pub dormantTable : List ℕ → Table
 dormantTable s = withTasks (pad mostTasks noTask (sleepers s (tasksIn s) 1)) (blankRest (tasksIn s) (granuleIn s))
 
 -- the marked tasks start in ascending number at their own priority, with argument 0 and scheduled start 0
-unfoldable pub starter : List ℕ → ℕ → List Join
-starter s k = pick (eqb (markIn s k) 1) (begins (record { 0 = k }) (asks nobody Goes (record { 0 = k }) (ownIn s k) 0) never ∷ []) []
+unfoldable pub markedStart : List ℕ → ℕ → List Join
+markedStart s k = cond (eqb (markIn s k) 1) (begins (record { 0 = k }) (asks nobody ForNothing (record { 0 = k }) (ownIn s k) 0) never ∷ []) []
 
 unfoldable pub starters : List ℕ → ℕ → ℕ → List Join
 starters s zero k = []
-starters s (suc n) k = starter s k ++ starters s n (suc k)
+starters s (suc n) k = markedStart s k ++ starters s n (suc k)
 
 unfoldable pub freshTable : List ℕ → Table
-freshTable s = admits (starters s (tasksIn s) 1) (begin (dormantTable s)) .table
+freshTable s = enterAllInFlight (starters s (tasksIn s) 1) (begin (dormantTable s)) .table
 
 -- a table with its answer: Z, V and C are 0, the active task and its argument are the table's
 abbrev pub madeBy : ℕ → Table → Fresh
@@ -91,7 +91,7 @@ madeBy n t = record { answer = answerOf n (marks false false false) t; table = t
 
 -- number 0 and the table, or number 2 and the all-zero table, in which nobody is active
 unfoldable pub freshOf : List ℕ → Fresh
-freshOf s = pick (isConfiguration s) (madeBy 0 (freshTable s)) (madeBy 2 zeroTable)
+freshOf s = cond (isConfiguration s) (madeBy 0 (freshTable s)) (madeBy 2 zeroTable)
 
 -- ---- the contracts: f is what the bytes s make; n is the length of the configuration that they begin with
 abbrev pub Makes : List ℕ → Fresh → Type 0

@@ -1,10 +1,10 @@
 -- One task's entry, and what a departure or an entry makes of it.
+use mathlib.Core.Bool.{cond}
 use Rattle.executive.specs.declared.Millis.{Millis}
 use Rattle.executive.specs.declared.State.{State}
 use Rattle.executive.specs.declared.State.the-variants.{Dormant, Ready, Due}
 use Rattle.executive.specs.declared.Task.{Task}
 use Rattle.executive.specs.declared.Request.{Request}
-use Rattle.executive.specs.Lists.{pick}
 use Rattle.executive.specs.Places.{nobody, never}
 use Rattle.executive.specs.States.{due, timeOf, isOf}
 
@@ -17,8 +17,8 @@ abbrev pub withState : State → Task → Task
 withState s e = record { own = e .own; state = s; priority = e .priority; argument = e .argument; start = e .start; «end_waiter» = e .«end_waiter» }
 
 -- the entry of a task whose run has ended: dormant, zeros but for its own priority
-abbrev pub sleeping : Task → Task
-sleeping e = record { own = e .own; state = Dormant; priority = 0; argument = 0; start = never; «end_waiter» = nobody }
+abbrev pub asDormant : Task → Task
+asDormant e = record { own = e .own; state = Dormant; priority = 0; argument = 0; start = never; «end_waiter» = nobody }
 
 -- the entry as a request's run begins: its priority and argument, scheduled start now
 abbrev pub begun : Request → Millis → Task → Task
@@ -31,7 +31,7 @@ dueAt at e = record { own = e .own; state = Due at; priority = e .priority; argu
 
 -- a due task's scheduled start becomes the time aimed at when it enters; any other task keeps its own
 abbrev pub aimed : State → Millis → Millis
-aimed s start = pick (isOf due s) (timeOf s) start
+aimed s start = cond (isOf due s) (timeOf s) start
 
 -- the entry of a task whose wait is over
 abbrev pub risen : Task → Task

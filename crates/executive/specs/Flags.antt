@@ -1,10 +1,9 @@
 -- The event flags: flag n is bit n; what sets and resets one, and when a wait for some of them is over.
 use Prim.Native.Nat.{ℕ, _-_, _^_}
-use mathlib.Core.Bool.{Bool, not}
+use mathlib.Core.Bool.{Bool, not, cond}
 use lib.Dec.{eqb}
 use lib.Bits.{bitAnd, bitOr}
 use Rattle.executive.specs.declared.Rest.{Rest}
-use Rattle.executive.specs.Lists.{pick}
 use Rattle.executive.specs.declared.Mode.{Mode}
 use Rattle.executive.specs.declared.Mode.the-variants.{Any, All}
 use Rattle.executive.specs.Rest.{remade}
@@ -30,4 +29,4 @@ met fs All mask = eqb (bitAnd fs mask) mask
 
 -- ---- 0A: wait for 0 any, 1 all. Condition true already: no change. Otherwise the caller departs
 abbrev pub modeOf : ℕ → Mode
-modeOf m = pick (eqb m 0) Any All
+modeOf m = cond (eqb m 0) Any All

@@ -1,12 +1,8 @@
 -- Choices, tests and sums over lists, and lines that stand in arrays: what all other definitions rest on.
-use mathlib.Core.Bool.{Bool, true, false}
+use mathlib.Core.Bool.{Bool, true, false, cond}
 use mathlib.Core.List.{List, [], _∷_, _++_}
 use Prim.Native.Nat.{ℕ, suc, _+_, zero}
 use lib.ListN.{drop, take}
-
-abbrev pub pick : {A : Type 0} → Bool → A → A → A
-pick true a b = a
-pick false a b = b
 
 -- 1 where the test passes, else 0
 abbrev pub one : Bool → ℕ
@@ -21,16 +17,11 @@ _and_ false b = false
 -- a test at each number from 1 to n; a test of each element
 unfoldable pub upTo : (ℕ → Bool) → ℕ → Bool
 upTo f zero = true
-upTo f (suc n) = pick (upTo f n) (f (suc n)) false
+upTo f (suc n) = cond (upTo f n) (f (suc n)) false
 
 unfoldable pub allOf : {A : Type 0} → (A → Bool) → List A → Bool
 allOf f [] = true
-allOf f (x ∷ xs) = pick (f x) (allOf f xs) false
-
-infixr 25 _or_
-abbrev pub _or_ : Bool → Bool → Bool
-_or_ true b = true
-_or_ false b = b
+allOf f (x ∷ xs) = cond (f x) (allOf f xs) false
 
 -- ---- counting
 unfoldable pub sumOf : {A : Type 0} → (A → ℕ) → List A → ℕ
@@ -50,7 +41,7 @@ closedAt d p at = take at p ++ (drop (at + 1) p ++ (d ∷ []))
 -- the number of the next that passes a test, of those numbered from i on; the number past the last where none does
 unfoldable pub nextOf : {A : Type 0} → (A → Bool) → ℕ → List A → ℕ
 nextOf f i [] = i
-nextOf f i (x ∷ xs) = pick (f x) i (nextOf f (suc i) xs)
+nextOf f i (x ∷ xs) = cond (f x) i (nextOf f (suc i) xs)
 
 -- a step for each of n numbers, ascending from k
 unfoldable pub each : {A : Type 0} → (A → ℕ → A) → ℕ → ℕ → A → A

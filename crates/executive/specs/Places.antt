@@ -1,4 +1,5 @@
 -- The blank entries, and the entry of a task by its number: tasks are numbered from 1, and 0 is nobody.
+use mathlib.Core.Bool.{cond}
 use mathlib.Core.List.{List}
 use Prim.Native.Nat.{ℕ, zero, suc, _≤_, _<_}
 use lib.Dec.{ltb}
@@ -9,7 +10,6 @@ use Rattle.executive.specs.declared.State.the-variants.{Dormant}
 use Rattle.executive.specs.declared.Task.{Task}
 use Rattle.executive.specs.declared.Request.{Request}
 use Rattle.executive.specs.Numbers.{mostTasks}
-use Rattle.executive.specs.Lists.{pick}
 
 -- ---- blank entries
 abbrev pub nobody : TaskNo
@@ -36,12 +36,12 @@ putAt ts (suc i) e = set ts i e
 -- the place of number k in an array of sixteen, k - 1; 16, which is no place, where k is 0 or over 16
 unfoldable pub entryPlace : ℕ → ℕ
 entryPlace zero = mostTasks
-entryPlace (suc i) = pick (ltb i mostTasks) i mostTasks
+entryPlace (suc i) = cond (ltb i mostTasks) i mostTasks
 
 -- a number that names a task
 abbrev pub Names : ℕ → List Task → Type 0
 Names k ts = (0 < k) × (k ≤ length ts)
 
 -- the priority p of the task numbered n; a number that names no task has none
-unfoldable pub levelAt : ℕ → ℕ → ℕ
-levelAt n p = pick (ltb (entryPlace n) mostTasks) p 0
+unfoldable pub priorityAt : ℕ → ℕ → ℕ
+priorityAt n p = cond (ltb (entryPlace n) mostTasks) p 0

@@ -2,26 +2,25 @@
 -- what the rest of the table is afterwards.
 -- Rulings that 01 marks H are marked H here.
 use Prim.Native.Nat.{ℕ, suc, _+_, _/_, _%_}
-use mathlib.Core.Bool.{Bool, _&&_}
+use mathlib.Core.Bool.{Bool, _&&_, cond}
 use mathlib.Core.List.{List, [], _∷_, _++_}
 use lib.Dec.{leb, ltb, eqb}
 use lib.ListN.{length, getD}
 use Rattle.records.specs.declared.TaskNo.{TaskNo}
 use Rattle.records.specs.declared.FlagNo.{FlagNo}
 use Rattle.executive.specs.declared.Millis.{Millis}
-use Rattle.executive.specs.declared.Wait.{Wait}
-use Rattle.executive.specs.declared.Wait.the-variants.{Goes, ForStart, ForEnd}
+use Rattle.executive.specs.declared.AwaitedMoment.{AwaitedMoment}
+use Rattle.executive.specs.declared.AwaitedMoment.the-variants.{ForNothing, ForStart, ForEnd}
 use Rattle.executive.specs.declared.State.{State}
 use Rattle.executive.specs.declared.State.the-variants.{Ready, Paused, Flags, AwaitStart, AwaitEnd}
 use Rattle.executive.specs.declared.Task.{Task}
 use Rattle.executive.specs.declared.Request.{Request}
 use Rattle.executive.specs.declared.Table.{Table}
-use Rattle.executive.specs.Lists.{pick, _or_}
 use Rattle.executive.specs.Places.{nobody, noRequest, taskAt}
 use Rattle.executive.specs.Table.{line, headOf, Out, stays, leaves, Join, Plan}
 use Rattle.executive.specs.Pool.{requests, withRequests, placeOf, removed}
 use Rattle.executive.specs.States.{timeOf, maskOf, isDormant, isPaused, hasTime, hasMask, waitMode}
-use Rattle.executive.specs.Entries.{withState, sleeping, begun, dueAt, risen}
+use Rattle.executive.specs.Entries.{withState, asDormant, begun, dueAt, risen}
 use Rattle.executive.specs.Clock.{interval, aimAt, withAlarm, advanced}
 use Rattle.executive.specs.Flags.{withFlags, flagSet, flagReset, met, modeOf}
 use Rattle.records.specs.declared.Call.{Call}
@@ -37,7 +36,7 @@ stateAt t k = taskAt (t .tasks) (k .0) .state
 -- ---- who enters
 -- whoever is named enters; 0 names nobody
 unfoldable pub waking : TaskNo → List Join
-waking k = pick (eqb (k .0) 0) [] (record { who = k; change = withState Ready } ∷ [])
+waking k = cond (eqb (k .0) 0) [] (record { who = k; change = withState Ready } ∷ [])
 
 -- whoever waits for the end of task c's run
 abbrev pub endWaiter : Table → TaskNo → TaskNo
@@ -59,18 +58,18 @@ nothing t = record { out = stays; ins = []; rest = t .rest }
 -- and the caller enters with its priority and argument, scheduled start now; whoever waited for that start enters
 -- (H). The caller c, the requests rs,
 -- the earliest of them for c at place i
-abbrev pub endBy : Table → TaskNo → List Request → ℕ → Plan
-endBy t c rs i =
-    pick (ltb i (length rs))
+abbrev pub terminateBy : Table → TaskNo → List Request → ℕ → Plan
+terminateBy t c rs i =
+    cond (ltb i (length rs))
     (record {
-      out = leaves sleeping;
+      out = leaves asDormant;
       ins = waking (endWaiter t c) ++ (begins c (getD rs i noRequest) (t .rest .clock) ∷ waking (getD rs i noRequest .«start_waiter»));
       rest = withRequests (removed i rs) (t .rest);
     })
-    (record { out = leaves sleeping; ins = waking (endWaiter t c); rest = t .rest })
+    (record { out = leaves asDormant; ins = waking (endWaiter t c); rest = t .rest })
 
-unfoldable pub endPlan : Table → Plan
-endPlan t = endBy t (headOf (line t)) (requests (t .rest)) (placeOf (headOf (line t) .0) (requests (t .rest)))
+unfoldable pub terminatePlan : Table → Plan
+terminatePlan t = terminateBy t (headOf (line t)) (requests (t .rest)) (placeOf (headOf (line t) .0) (requests (t .rest)))
 
 -- ---- 01: the caller departs and its end-waiter enters. It is due at the time aimed at; if that is at or before
 -- the clock, it enters at once, and
@@ -78,7 +77,7 @@ endPlan t = endBy t (headOf (line t)) (requests (t .rest)) (placeOf (headOf (lin
 abbrev pub restartBy : Table → TaskNo → Millis → Plan
 restartBy t c aim = record {
   out = leaves (dueAt aim);
-  ins = waking (endWaiter t c) ++ pick (leb (aim .0) (t .rest .clock .0)) (raising c ∷ []) [];
+  ins = waking (endWaiter t c) ++ cond (leb (aim .0) (t .rest .clock .0)) (raising c ∷ []) [];
   rest = t .rest;
 }
 
@@ -88,69 +87,69 @@ restartPlan t p n = restartBy t (headOf (line t)) (aimAt (taskAt (t .tasks) (hea
 -- ---- 02: count 0 changes nothing (H); otherwise the caller departs until now plus interval
 unfoldable pub pausePlan : Table → ℕ → ℕ → Plan
 pausePlan t unit n =
-    pick (eqb n 0) (nothing t)
+    cond (eqb n 0) (nothing t)
     (record { out = leaves (withState (Paused (record { 0 = t .rest .clock .0 + interval unit n .0 }))); ins = []; rest = t .rest })
 
 -- ---- 03: a paused task enters; any other state, a due one included: no change
-unfoldable pub cancelPlan : Table → TaskNo → Plan
-cancelPlan t k = pick (isPaused (stateAt t k)) (record { out = stays; ins = raising k ∷ []; rest = t .rest }) (nothing t)
+unfoldable pub cancelPausePlan : Table → TaskNo → Plan
+cancelPausePlan t k = cond (isPaused (stateAt t k)) (record { out = stays; ins = raising k ∷ []; rest = t .rest }) (nothing t)
 
 -- ---- 04, 05: option bit 7: the target's own priority, otherwise bits 3..0
-unfoldable pub levelOf : ℕ → ℕ → ℕ
-levelOf option own = pick (ltb option 128) (option % 16) own
+unfoldable pub priorityOf : ℕ → ℕ → ℕ
+priorityOf option own = cond (ltb option 128) (option % 16) own
 
 -- in 05, bit 6 waits for the run's end, bit 5 for its start, bit 4 means no argument
-unfoldable pub waitOf : ℕ → Wait
-waitOf option = pick (eqb (option / 64 % 2) 1) ForEnd (pick (eqb (option / 32 % 2) 1) ForStart Goes)
+unfoldable pub waitOf : ℕ → AwaitedMoment
+waitOf option = cond (eqb (option / 64 % 2) 1) ForEnd (cond (eqb (option / 32 % 2) 1) ForStart ForNothing)
 
 unfoldable pub argumentOf : ℕ → ℕ → ℕ
-argumentOf option a = pick (eqb (option / 16 % 2) 1) 0 a
+argumentOf option a = cond (eqb (option / 16 % 2) 1) 0 a
 
 -- waiting for a start that happens at once is no wait
-abbrev pub atOnce : Wait → Wait
-atOnce Goes = Goes
-atOnce ForStart = Goes
+abbrev pub atOnce : AwaitedMoment → AwaitedMoment
+atOnce ForNothing = ForNothing
+atOnce ForStart = ForNothing
 atOnce ForEnd = ForEnd
 
-abbrev pub outOf : Wait → Out
-outOf Goes = stays
+abbrev pub outOf : AwaitedMoment → Out
+outOf ForNothing = stays
 outOf ForStart = leaves (withState AwaitStart)
 outOf ForEnd = leaves (withState AwaitEnd)
 
-abbrev pub startWaiterOf : Wait → TaskNo → TaskNo
-startWaiterOf Goes c = nobody
+abbrev pub startWaiterOf : AwaitedMoment → TaskNo → TaskNo
+startWaiterOf ForNothing c = nobody
 startWaiterOf ForStart c = c
 startWaiterOf ForEnd c = nobody
 
-abbrev pub endWaiterOf : Wait → TaskNo → TaskNo
-endWaiterOf Goes c = nobody
+abbrev pub endWaiterOf : AwaitedMoment → TaskNo → TaskNo
+endWaiterOf ForNothing c = nobody
 endWaiterOf ForStart c = nobody
 endWaiterOf ForEnd c = c
 
 -- the request that caller c makes for task k, at priority p with argument a
-abbrev pub asks : TaskNo → Wait → TaskNo → ℕ → ℕ → Request
+abbrev pub asks : TaskNo → AwaitedMoment → TaskNo → ℕ → ℕ → Request
 asks c wt k p a = record { target = k; priority = p; argument = a; «start_waiter» = startWaiterOf wt c; «end_waiter» = endWaiterOf wt c }
 
 -- a dormant target starts now. A caller that must wait departs first, and then the target enters
-unfoldable pub startPlan : Table → Request → Wait → Plan
-startPlan t q wt = record { out = outOf (atOnce wt); ins = begins (q .target) q (t .rest .clock) ∷ []; rest = t .rest }
+unfoldable pub startNowPlan : Table → Request → AwaitedMoment → Plan
+startNowPlan t q wt = record { out = outOf (atOnce wt); ins = begins (q .target) q (t .rest .clock) ∷ []; rest = t .rest }
 
 -- a busy target: the request is queued
-unfoldable pub queuePlan : Table → Request → Wait → Plan
-queuePlan t q wt = record { out = outOf wt; ins = []; rest = withRequests (requests (t .rest) ++ (q ∷ [])) (t .rest) }
+unfoldable pub queueRequestPlan : Table → Request → AwaitedMoment → Plan
+queueRequestPlan t q wt = record { out = outOf wt; ins = []; rest = withRequests (requests (t .rest) ++ (q ∷ [])) (t .rest) }
 
 -- 04: a dormant target starts with argument 0 (H), a busy one changes nothing
-unfoldable pub startOnlyPlan : Table → ℕ → TaskNo → Plan
-startOnlyPlan t option k =
-    pick (isDormant (stateAt t k)) (startPlan t (asks (caller t) Goes k (levelOf option (taskAt (t .tasks) (k .0) .own)) 0) Goes) (nothing t)
+unfoldable pub startIfDormantPlan : Table → ℕ → TaskNo → Plan
+startIfDormantPlan t option k =
+    cond (isDormant (stateAt t k)) (startNowPlan t (asks (caller t) ForNothing k (priorityOf option (taskAt (t .tasks) (k .0) .own)) 0) ForNothing) (nothing t)
 
 -- 05: a dormant target starts, a busy one is asked for later
 unfoldable pub requestOf : Table → ℕ → TaskNo → ℕ → Request
-requestOf t option k a = asks (caller t) (waitOf option) k (levelOf option (taskAt (t .tasks) (k .0) .own)) (argumentOf option a)
+requestOf t option k a = asks (caller t) (waitOf option) k (priorityOf option (taskAt (t .tasks) (k .0) .own)) (argumentOf option a)
 
-unfoldable pub askPlan : Table → ℕ → TaskNo → ℕ → Plan
-askPlan t option k a =
-    pick (isDormant (stateAt t k)) (startPlan t (requestOf t option k a) (waitOf option)) (queuePlan t (requestOf t option k a) (waitOf option))
+unfoldable pub startOrQueuePlan : Table → ℕ → TaskNo → ℕ → Plan
+startOrQueuePlan t option k a =
+    cond (isDormant (stateAt t k)) (startNowPlan t (requestOf t option k a) (waitOf option)) (queueRequestPlan t (requestOf t option k a) (waitOf option))
 
 -- whether a task waits for flags and its condition holds
 abbrev pub holds : ℕ → State → Bool
@@ -158,7 +157,7 @@ holds fs s = hasMask s && met fs (waitMode s) (maskOf s)
 
 -- task k enters if its state passes a test; all tasks from number k on, in ascending number
 unfoldable pub rises : (State → Bool) → ℕ → Task → List Join
-rises f k e = pick (f (e .state)) (raising (record { 0 = k }) ∷ []) []
+rises f k e = cond (f (e .state)) (raising (record { 0 = k }) ∷ []) []
 
 unfoldable pub risers : (State → Bool) → ℕ → List Task → List Join
 risers f k [] = []
@@ -177,21 +176,21 @@ resetPlan t f = record { out = stays; ins = []; rest = withFlags (flagReset (t .
 
 -- operation 0 resets, 1 sets, 2 tests
 unfoldable pub flagPlan : Table → ℕ → FlagNo → Plan
-flagPlan t operation f = pick (eqb operation 0) (resetPlan t f) (pick (eqb operation 1) (setPlan t f) (nothing t))
+flagPlan t operation f = cond (eqb operation 0) (resetPlan t f) (cond (eqb operation 1) (setPlan t f) (nothing t))
 
 unfoldable pub waitPlan : Table → ℕ → ℕ → Plan
 waitPlan t m mask =
-    pick (met (t .rest .flags) (modeOf m) mask) (nothing t) (record { out = leaves (withState (Flags (modeOf m) mask)); ins = []; rest = t .rest })
+    cond (met (t .rest .flags) (modeOf m) mask) (nothing t) (record { out = leaves (withState (Flags (modeOf m) mask)); ins = []; rest = t .rest })
 
 -- ---- 0B: count 0 acts as a set now; otherwise the alarm is stored
 unfoldable pub alarmPlan : Table → ℕ → ℕ → FlagNo → Plan
 alarmPlan t unit n f =
-    pick (eqb n 0) (setPlan t f)
+    cond (eqb n 0) (setPlan t f)
     (record { out = stays; ins = []; rest = withAlarm (f .0) (record { 0 = t .rest .clock .0 + interval unit n .0 }) (t .rest) })
 
 -- ---- 80: whether a wait is over, at the clock c with the flags fs
 abbrev pub over : ℕ → ℕ → State → Bool
-over c fs s = pick (hasTime s) (leb (timeOf s .0) c) (holds fs s)
+over c fs s = cond (hasTime s) (leb (timeOf s .0) c) (holds fs s)
 
 -- the clock gains one granule and due alarms set their flags; then, in ascending task number, each paused or due
 -- task whose time is at or before the
@@ -201,12 +200,12 @@ tickPlan t = record { out = stays; ins = risers (over (advanced (t .rest) .clock
 
 -- ---- the plan of each kind; a configuration record is no call
 unfoldable pub planOf : Table → Call → Plan
-planOf t call.Terminate = endPlan t
+planOf t call.Terminate = terminatePlan t
 planOf t (call.Restart p n) = restartPlan t p n
 planOf t (call.Pause u n) = pausePlan t u n
-planOf t (call.CancelPause k) = cancelPlan t k
-planOf t (call.Start o k) = startOnlyPlan t o k
-planOf t (call.Queue o k a) = askPlan t o k a
+planOf t (call.CancelPause k) = cancelPausePlan t k
+planOf t (call.StartIfDormant o k) = startIfDormantPlan t o k
+planOf t (call.StartOrQueue o k a) = startOrQueuePlan t o k a
 planOf t (call.Flag o f) = flagPlan t o f
 planOf t (call.Wait m mask) = waitPlan t m mask
 planOf t (call.Alarm u n f) = alarmPlan t u n f

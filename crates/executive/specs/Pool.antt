@@ -1,4 +1,5 @@
 -- The pool of queued start requests, in the order of asking, and what a step makes of it.
+use mathlib.Core.Bool.{cond}
 use mathlib.Core.Path.{_≡_}
 use mathlib.Core.List.{List, [], _∷_, _++_}
 use Prim.Native.Nat.{ℕ, suc, _≤_, _+_}
@@ -7,7 +8,7 @@ use lib.ListN.{length, take, drop}
 use Rattle.executive.specs.declared.Request.{Request}
 use Rattle.executive.specs.declared.Rest.{Rest}
 use Rattle.executive.specs.Numbers.{mostQueued}
-use Rattle.executive.specs.Lists.{pick, pad}
+use Rattle.executive.specs.Lists.{pad}
 use Rattle.executive.specs.Places.{noRequest}
 use Rattle.executive.specs.declared.pool.Found.{Found}
 use Rattle.executive.specs.declared.pool.Found.the-variants.{At, Nothing}
@@ -17,7 +18,7 @@ abbrev pub requests : Rest → List Request
 requests r = take (r .queued) (r .pool)
 
 -- the places behind a line are blank
-pub record Neat (r : Rest) : Type 0 where
+pub record PoolInOrder (r : Rest) : Type 0 where
   pub room : r .queued ≤ mostQueued
   pub clear : r .pool ≡ pad mostQueued noRequest (requests r)
 
@@ -29,10 +30,10 @@ withRequests p r = remade (r .clock) (r .flags) (r .alarms) (pad mostQueued noRe
 -- the one at a place
 unfoldable pub placeOf : ℕ → List Request → ℕ
 placeOf k [] = 0
-placeOf k (r ∷ rs) = pick (eqb k (r .target .0)) 0 (suc (placeOf k rs))
+placeOf k (r ∷ rs) = cond (eqb k (r .target .0)) 0 (suc (placeOf k rs))
 
 abbrev pub removed : ℕ → List Request → List Request
 removed i rs = take i rs ++ drop (suc i) rs
 
 unfoldable pub foundAt : ℕ → ℕ → Found
-foundAt i n = pick (ltb i n) (At i) Nothing
+foundAt i n = cond (ltb i n) (At i) Nothing

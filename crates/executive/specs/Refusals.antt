@@ -1,7 +1,7 @@
 -- The numbers an answer can carry (01): one list, in 01's order, of each number and when it is given. The first
 -- whose condition holds is the answer's.
 use Prim.Native.Nat.{ℕ, _+_, _/_, _%_}
-use mathlib.Core.Bool.{Bool, true, false, not}
+use mathlib.Core.Bool.{Bool, true, false, not, cond, _||_}
 use mathlib.Core.List.{List, [], _∷_}
 use lib.Dec.{leb, ltb, eqb}
 use lib.ListN.{length, getD}
@@ -16,16 +16,16 @@ use Rattle.records.specs.Kinds.{kindOf, lengthOf, isCall}
 use Rattle.records.specs.Reading.{readOf}
 use Rattle.executive.specs.declared.Table.{Table}
 use Rattle.executive.specs.Numbers.{lastUnit, mostQueued, endOfTime}
-use Rattle.executive.specs.Lists.{pick, _and_, _or_}
+use Rattle.executive.specs.Lists.{_and_}
 use Rattle.executive.specs.Places.{never}
-use Rattle.executive.specs.Table.{carry}
+use Rattle.executive.specs.Table.{applyInFlight}
 use Rattle.executive.specs.States.{isDormant}
 use Rattle.executive.specs.Plans.{caller, stateAt, planOf}
 use Rattle.executive.specs.Check.{isWellFormed}
 
 -- ---- the record: 4 where its first byte is no carried kind, and as a call also 40 to 42
-abbrev pub kindIn : List ℕ → Kind
-kindIn s = kindOf (getD s 0 0)
+abbrev pub kindOfRecord : List ℕ → Kind
+kindOfRecord s = kindOf (getD s 0 0)
 
 -- the call that a record holds; what stands for one that holds none is never looked at
 abbrev pub calledBy : Got → Call
@@ -41,8 +41,8 @@ isTick call.Terminate = false
 isTick (call.Restart p n) = false
 isTick (call.Pause u n) = false
 isTick (call.CancelPause k) = false
-isTick (call.Start o k) = false
-isTick (call.Queue o k a) = false
+isTick (call.StartIfDormant o k) = false
+isTick (call.StartOrQueue o k a) = false
 isTick (call.Flag o f) = false
 isTick (call.Wait m mask) = false
 isTick (call.Alarm u n f) = false
@@ -57,18 +57,18 @@ nobodyActive t c = not (isTick c) and eqb (t .ready) 0
 -- ---- 6: task not 1 to the task count; flag over 31; unit over 5 in 02 or 0B; operation over 2; mode over 1; mask
 -- 0; in 01 both bits 7 and 6 (02); in 04 any of bits 6..4; in 05 both bits 6 and 5
 abbrev pub noSuchTask : Table → TaskNo → Bool
-noSuchTask t k = eqb (k .0) 0 or ltb (t .rest .count) (k .0)
+noSuchTask t k = eqb (k .0) 0 || ltb (t .rest .count) (k .0)
 
 unfoldable pub badBody : Table → Call → Bool
 badBody t call.Terminate = false
 badBody t (call.Restart p n) = eqb (p / 64 % 4) 3
 badBody t (call.Pause u n) = ltb lastUnit u
 badBody t (call.CancelPause k) = noSuchTask t k
-badBody t (call.Start o k) = noSuchTask t k or not (eqb (o / 16 % 8) 0)
-badBody t (call.Queue o k a) = noSuchTask t k or eqb (o / 32 % 4) 3
-badBody t (call.Flag o f) = ltb 31 (f .0) or ltb 2 o
-badBody t (call.Wait m mask) = ltb 1 m or eqb mask 0
-badBody t (call.Alarm u n f) = ltb lastUnit u or ltb 31 (f .0)
+badBody t (call.StartIfDormant o k) = noSuchTask t k || not (eqb (o / 16 % 8) 0)
+badBody t (call.StartOrQueue o k a) = noSuchTask t k || eqb (o / 32 % 4) 3
+badBody t (call.Flag o f) = ltb 31 (f .0) || ltb 2 o
+badBody t (call.Wait m mask) = ltb 1 m || eqb mask 0
+badBody t (call.Alarm u n f) = ltb lastUnit u || ltb 31 (f .0)
 badBody t call.Tick = false
 badBody t (call.Granule g) = false
 badBody t (call.Task p m) = false
@@ -80,8 +80,8 @@ ofQueue h call.Terminate = false
 ofQueue h (call.Restart p n) = false
 ofQueue h (call.Pause u n) = false
 ofQueue h (call.CancelPause k) = false
-ofQueue h (call.Start o k) = false
-ofQueue h (call.Queue o k a) = h o k
+ofQueue h (call.StartIfDormant o k) = false
+ofQueue h (call.StartOrQueue o k a) = h o k
 ofQueue h (call.Flag o f) = false
 ofQueue h (call.Wait m mask) = false
 ofQueue h (call.Alarm u n f) = false
@@ -95,8 +95,8 @@ ofAlarm h call.Terminate = false
 ofAlarm h (call.Restart p n) = false
 ofAlarm h (call.Pause u n) = false
 ofAlarm h (call.CancelPause k) = false
-ofAlarm h (call.Start o k) = false
-ofAlarm h (call.Queue o k a) = false
+ofAlarm h (call.StartIfDormant o k) = false
+ofAlarm h (call.StartOrQueue o k a) = false
 ofAlarm h (call.Flag o f) = false
 ofAlarm h (call.Wait m mask) = false
 ofAlarm h (call.Alarm u n f) = h f
@@ -123,7 +123,7 @@ endsTime t c = isTick c and ltb endOfTime (t .rest .clock .0 + t .rest .granule)
 
 -- ---- 11: a task must enter a ready queue that holds 16
 unfoldable pub overfills : Table → Call → Bool
-overfills t c = carry (planOf t c) t .full
+overfills t c = applyInFlight (planOf t c) t .full
 
 -- ---- the list, in 01's order
 pub record Refusal : Type 0 where
@@ -149,14 +149,14 @@ unfoldable pub refusals : Table → List ℕ → List Refusal
 refusals t s =
     when 1 (not (isWellFormed t))
     ∷ when 3 (eqb (length s) 0)
-    ∷ when 4 (not (isCall (kindIn s)))
-    ∷ when 3 (not (eqb (length s) (lengthOf (kindIn s))))
+    ∷ when 4 (not (isCall (kindOfRecord s)))
+    ∷ when 3 (not (eqb (length s) (lengthOf (kindOfRecord s))))
     ∷ callRefusals t (callIn s)
 
 -- the number of the first that is given; 0: accepted
 unfoldable pub firstOf : List Refusal → ℕ
 firstOf [] = 0
-firstOf (r ∷ rs) = pick (r .given) (r .number) (firstOf rs)
+firstOf (r ∷ rs) = cond (r .given) (r .number) (firstOf rs)
 
 -- ---- for the code, which judges 11 on what the call comes to: the number of the first of all but the last of a
 -- call's refusals
@@ -165,5 +165,5 @@ butLast [] = []
 butLast (r ∷ []) = []
 butLast (r ∷ s ∷ rs) = r ∷ butLast (s ∷ rs)
 
-unfoldable pub earlyOf : Table → Call → ℕ
-earlyOf t c = firstOf (butLast (callRefusals t c))
+unfoldable pub refusalBefore11 : Table → Call → ℕ
+refusalBefore11 t c = firstOf (butLast (callRefusals t c))

@@ -2,14 +2,14 @@
 -- together again, name each state; all else that is said of a state is said by them.
 use Prim.Native.Nat.{ℕ}
 use mathlib.Core.Path.{_≡_}
-use mathlib.Core.Bool.{Bool, _||_}
+use mathlib.Core.Bool.{Bool, _||_, cond}
 use lib.Dec.{eqb}
 use Rattle.executive.specs.declared.Millis.{Millis}
 use Rattle.executive.specs.declared.Mode.{Mode}
 use Rattle.executive.specs.declared.Mode.the-variants.{Any, All}
 use Rattle.executive.specs.declared.State.{State}
 use Rattle.executive.specs.declared.State.the-variants.{Dormant, Ready, Paused, Due, Flags, AwaitStart, AwaitEnd}
-use Rattle.executive.specs.Lists.{pick, one}
+use Rattle.executive.specs.Lists.{one}
 use Rattle.executive.specs.Places.{never}
 
 -- ---- the kinds of state, numbered: the check goes by these numbers, and a table's image holds them
@@ -37,15 +37,15 @@ awaitStart = 6
 abbrev pub awaitEnd : ℕ
 awaitEnd = 7
 
-abbrev pub kindOf : State → ℕ
-kindOf Dormant = dormant
-kindOf Ready = ready
-kindOf (Paused at) = paused
-kindOf (Due at) = due
-kindOf (Flags Any mask) = awaitAny
-kindOf (Flags All mask) = awaitAll
-kindOf AwaitStart = awaitStart
-kindOf AwaitEnd = awaitEnd
+abbrev pub stateKind : State → ℕ
+stateKind Dormant = dormant
+stateKind Ready = ready
+stateKind (Paused at) = paused
+stateKind (Due at) = due
+stateKind (Flags Any mask) = awaitAny
+stateKind (Flags All mask) = awaitAll
+stateKind AwaitStart = awaitStart
+stateKind AwaitEnd = awaitEnd
 
 -- ---- the time until which it waits, and the flags for which it waits; 0 where it holds none
 abbrev pub timeOf : State → Millis
@@ -70,19 +70,19 @@ maskOf AwaitEnd = 0
 -- well-formed table holds
 unfoldable pub stateOf : ℕ → Millis → ℕ → State
 stateOf kind time mask =
-    pick (eqb kind dormant) Dormant
-    (pick (eqb kind ready) Ready
-    (pick (eqb kind paused) (Paused time)
-    (pick (eqb kind due) (Due time)
-    (pick (eqb kind awaitAny) (Flags Any mask)
-    (pick (eqb kind awaitAll) (Flags All mask)
-    (pick (eqb kind awaitStart) AwaitStart
-    (pick (eqb kind awaitEnd) AwaitEnd
+    cond (eqb kind dormant) Dormant
+    (cond (eqb kind ready) Ready
+    (cond (eqb kind paused) (Paused time)
+    (cond (eqb kind due) (Due time)
+    (cond (eqb kind awaitAny) (Flags Any mask)
+    (cond (eqb kind awaitAll) (Flags All mask)
+    (cond (eqb kind awaitStart) AwaitStart
+    (cond (eqb kind awaitEnd) AwaitEnd
     (Flags Any 0))))))))
 
 -- ---- whether a state is of kind n; the same as a count, 1 where it is, else 0
 abbrev pub isOf : ℕ → State → Bool
-isOf n s = eqb n (kindOf s)
+isOf n s = eqb n (stateKind s)
 
 abbrev pub is : ℕ → State → ℕ
 is n s = one (isOf n s)
@@ -103,11 +103,11 @@ abbrev pub hasMask : State → Bool
 hasMask s = isOf awaitAny s || isOf awaitAll s
 
 abbrev pub waitMode : State → Mode
-waitMode s = pick (isOf awaitAll s) All Any
+waitMode s = cond (isOf awaitAll s) All Any
 
 -- ---- the contracts: r is the state's kind, its time, its mask
 abbrev pub KindIs : State → ℕ → Type 0
-KindIs s r = r ≡ kindOf s
+KindIs s r = r ≡ stateKind s
 
 abbrev pub TimeIs : State → Millis → Type 0
 TimeIs s r = r ≡ timeOf s
@@ -117,7 +117,7 @@ MaskIs s r = r ≡ maskOf s
 
 -- the three tell the state, and there is one answer each
 pub record StatesTold : Type 0 where
-  pub back : (s : State) → stateOf (kindOf s) (timeOf s) (maskOf s) ≡ s
+  pub back : (s : State) → stateOf (stateKind s) (timeOf s) (maskOf s) ≡ s
   pub kind-determined : (s : State) (x y : ℕ) → KindIs s x → KindIs s y → x ≡ y
   pub time-determined : (s : State) (x y : Millis) → TimeIs s x → TimeIs s y → x ≡ y
   pub mask-determined : (s : State) (x y : ℕ) → MaskIs s x → MaskIs s y → x ≡ y

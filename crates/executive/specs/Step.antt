@@ -1,7 +1,7 @@
 -- The step: the answer and the table that a record brings about, from any table and any bytes.
 use Prim.Native.Nat.{ℕ, _%_}
 use mathlib.Core.Path.{_≡_}
-use mathlib.Core.Bool.{Bool, false, not}
+use mathlib.Core.Bool.{Bool, false, not, cond, _||_}
 use mathlib.Core.List.{List}
 use lib.Dec.{ltb, eqb}
 use Rattle.records.specs.declared.Call.{Call}
@@ -14,9 +14,9 @@ use Rattle.executive.specs.declared.Marks.{Marks}
 use Rattle.executive.specs.declared.Answer.{Answer}
 use Rattle.executive.specs.declared.Outcome.{Outcome}
 use Rattle.executive.specs.Numbers.{lastUnit}
-use Rattle.executive.specs.Lists.{pick, _and_, _or_}
+use Rattle.executive.specs.Lists.{_and_}
 use Rattle.executive.specs.Places.{nobody, taskAt}
-use Rattle.executive.specs.Table.{carry}
+use Rattle.executive.specs.Table.{applyInFlight}
 use Rattle.executive.specs.Clock.{skippedOf}
 use Rattle.executive.specs.Flags.{isSet, met, modeOf}
 use Rattle.executive.specs.Plans.{caller, stateAt, planOf}
@@ -29,7 +29,7 @@ marks z v c = record { z = z; v = v; c = c; skipped = 0 }
 
 -- 09: C is the flag's old value; Z if set or reset changes nothing; test has Z 0
 abbrev pub flagMarks : ℕ → Bool → Marks
-flagMarks operation old = marks (pick (eqb operation 0) (not old) (pick (eqb operation 1) old false)) false old
+flagMarks operation old = marks (cond (eqb operation 0) (not old) (cond (eqb operation 1) old false)) false old
 
 unfoldable pub marksOf : Table → Call → Marks
 marksOf t call.Terminate = marks false false false
@@ -45,8 +45,8 @@ marksOf t (call.Pause u n) = marks (eqb n 0) false false
 -- 03: Z where the task is not paused
 marksOf t (call.CancelPause k) = marks (not (isPaused (stateAt t k))) false false
 -- 04, 05: Z where the target is busy
-marksOf t (call.Start o k) = marks (not (isDormant (stateAt t k))) false false
-marksOf t (call.Queue o k a) = marks (not (isDormant (stateAt t k))) false false
+marksOf t (call.StartIfDormant o k) = marks (not (isDormant (stateAt t k))) false false
+marksOf t (call.StartOrQueue o k a) = marks (not (isDormant (stateAt t k))) false false
 marksOf t (call.Flag o f) = flagMarks o (isSet (t .rest .flags) (f .0))
 -- 0A: Z where the condition is true already
 marksOf t (call.Wait m mask) = marks (met (t .rest .flags) (modeOf m) mask) false false
@@ -71,12 +71,12 @@ answerOf n m t = record {
 
 -- an accepted call executes its plan
 unfoldable pub accepted : Table → Call → Outcome
-accepted t c = record { answer = answerOf 0 (marksOf t c) (carry (planOf t c) t .table); table = carry (planOf t c) t .table }
+accepted t c = record { answer = answerOf 0 (marksOf t c) (applyInFlight (planOf t c) t .table); table = applyInFlight (planOf t c) t .table }
 
 -- V is 1 for 4, 6 and 7; after 1 active and argument are 0, after the others the kept table's. Every refusal keeps
 -- the table as given
 abbrev pub hasV : ℕ → Bool
-hasV n = eqb n 4 or eqb n 6 or eqb n 7
+hasV n = eqb n 4 || (eqb n 6 || eqb n 7)
 
 -- the answer where there is no well-formed table
 abbrev pub noTable : Answer
@@ -84,12 +84,12 @@ noTable = record { number = 1; z = false; v = false; c = false; active = nobody;
 
 unfoldable pub refused : Table → ℕ → Outcome
 refused t n =
-    pick (eqb n 1)
+    cond (eqb n 1)
     (record { answer = noTable; table = t })
     (record { answer = answerOf n (marks false (hasV n) false) t; table = t })
 
 abbrev pub outcomeOf : Table → ℕ → Call → Outcome
-outcomeOf t n c = pick (eqb n 0) (accepted t c) (refused t n)
+outcomeOf t n c = cond (eqb n 0) (accepted t c) (refused t n)
 
 -- a call that was read, at a well-formed table
 unfoldable pub performed : Table → Call → Outcome
@@ -107,9 +107,9 @@ IsNoTable a = a ≡ noTable
 abbrev pub Steps : Table → List ℕ → Outcome → Type 0
 Steps t s o = o ≡ stepOf t s
 
-abbrev pub Takes : Table → Call → Outcome → Type 0
-Takes t c o = o ≡ stepOf t (bytesOf c)
+abbrev pub StepsCall : Table → Call → Outcome → Type 0
+StepsCall t c o = o ≡ stepOf t (bytesOf c)
 
 -- ---- for the code: whether a call that was read is one that a step takes; a configuration record is none
 abbrev pub isStep : Call → Bool
-isStep c = isCall (calls.kindIn c)
+isStep c = isCall (calls.kindOfCall c)

@@ -1,7 +1,7 @@
 -- The table, and the three things that a step does to it: the caller leaves, tasks join, the rest is replaced.
 -- The types are the code's own.
 use mathlib.Core.Path.{_≡_}
-use mathlib.Core.Bool.{Bool, true, false}
+use mathlib.Core.Bool.{Bool, true, false, cond}
 use mathlib.Core.List.{List, [], _∷_, tail, _++_}
 use Prim.Native.Nat.{ℕ, suc, _≤_, _+_, _-_}
 use lib.Dec.{ltb}
@@ -13,23 +13,23 @@ use Rattle.executive.specs.declared.Table.{Table}
 use Rattle.executive.specs.declared.Work.{Work}
 use Rattle.executive.specs.Numbers.{mostTasks, endOfTime}
 use Rattle.executive.specs.Queue.{Item, Moves, behind}
-use Rattle.executive.specs.Lists.{pick, pad}
+use Rattle.executive.specs.Lists.{pad}
 use Rattle.executive.specs.Places.{taskAt, nobody, putAt}
-use Rattle.executive.specs.Pool.{Neat}
+use Rattle.executive.specs.Pool.{PoolInOrder}
 
 -- the ready queue and the queued requests, first to last
 abbrev pub line : Table → List TaskNo
 line t = take (t .ready) (t .queue)
 
-pub record Fit (t : Table) : Type 0 where
+pub record ArraysInOrder (t : Table) : Type 0 where
   pub all : length (t .tasks) ≡ mostTasks
   pub few : t .ready ≤ mostTasks
   pub tidy : t .queue ≡ pad mostTasks nobody (line t)
-  pub neat : Neat (t .rest)
+  pub neat : PoolInOrder (t .rest)
 
 -- what the calls' methods ask of a table, besides a caller: the arrays in order, no time out of range
-pub record Standing (t : Table) : Type 0 where
-  pub fit : Fit t
+pub record TimesInOrder (t : Table) : Type 0 where
+  pub fit : ArraysInOrder t
   pub clocked : t .rest .clock .0 ≤ endOfTime
   pub started : (k : ℕ) → taskAt (t .tasks) k .start .0 ≤ t .rest .clock .0
 
@@ -47,7 +47,7 @@ view t = items (t .tasks) (line t)
 -- the number k goes behind all of equal or higher priority
 unfoldable pub enterAt : List Task → TaskNo → List TaskNo → List TaskNo
 enterAt ts k [] = k ∷ []
-enterAt ts k (j ∷ js) = pick (behind (taskAt ts (k .0) .priority) (taskAt ts (j .0) .priority)) (j ∷ enterAt ts k js) (k ∷ j ∷ js)
+enterAt ts k (j ∷ js) = cond (behind (taskAt ts (k .0) .priority) (taskAt ts (j .0) .priority)) (j ∷ enterAt ts k js) (k ∷ j ∷ js)
 
 abbrev pub headOf : List TaskNo → TaskNo
 headOf [] = nobody
@@ -105,22 +105,22 @@ seated k e w = record { table = entered k e (w .table); full = w .full }
 abbrev pub away : Work → Work
 away w = record { table = w .table; full = true }
 
-unfoldable pub admit : TaskNo → Task → Work → Work
-admit k e w = pick (ltb (w .table .ready) mostTasks) (seated k e w) (away w)
+unfoldable pub enterInFlight : TaskNo → Task → Work → Work
+enterInFlight k e w = cond (ltb (w .table .ready) mostTasks) (seated k e w) (away w)
 
 -- what every method in flight asks
-pub record Flying (w : Work) : Type 0 where
-  pub fit : Fit (w .table)
+pub record InFlight (w : Work) : Type 0 where
+  pub fit : ArraysInOrder (w .table)
 
-unfoldable pub admits : List Join → Work → Work
-admits [] w = w
-admits (j ∷ js) w = admits js (admit (j .who) (j .change (taskAt (w .table .tasks) (j .who .0))) w)
+unfoldable pub enterAllInFlight : List Join → Work → Work
+enterAllInFlight [] w = w
+enterAllInFlight (j ∷ js) w = enterAllInFlight js (enterInFlight (j .who) (j .change (taskAt (w .table .tasks) (j .who .0))) w)
 
-abbrev pub resting : Rest → Work → Work
-resting r w = record { table = withRest r (w .table); full = w .full }
+abbrev pub restInFlight : Rest → Work → Work
+restInFlight r w = record { table = withRest r (w .table); full = w .full }
 
-unfoldable pub carry : Plan → Table → Work
-carry p t = resting (p .rest) (admits (p .ins) (begin (depart (p .out) t)))
+unfoldable pub applyInFlight : Plan → Table → Work
+applyInFlight p t = restInFlight (p .rest) (enterAllInFlight (p .ins) (begin (depart (p .out) t)))
 
 -- ---- what the plan does to the queue: its departure and its entries, and no others
 abbrev pub left? : Out → Bool
@@ -149,7 +149,7 @@ movesOf p t = record { out = left? (p .out); ins = entries (p .ins) (outTasks (p
 -- how many at the front stay ahead of a task of priority p: all of equal or higher priority
 unfoldable pub aheadOf : List Task → ℕ → List TaskNo → ℕ
 aheadOf ts p [] = 0
-aheadOf ts p (x ∷ xs) = pick (behind p (taskAt ts (x .0) .priority)) (suc (aheadOf ts p xs)) 0
+aheadOf ts p (x ∷ xs) = cond (behind p (taskAt ts (x .0) .priority)) (suc (aheadOf ts p xs)) 0
 
 -- r places are taken, and k comes in at one of them or behind them
 unfoldable pub slidOf : List TaskNo → ℕ → ℕ → TaskNo → List TaskNo

@@ -1,7 +1,7 @@
 -- A well-formed table (01, "A table is well formed when"): a field for each of its rules, in 01's order. Rules on
 -- links and names are counts.
 use mathlib.Core.Path.{_≡_}
-use mathlib.Core.Bool.{true, false, not}
+use mathlib.Core.Bool.{true, false, not, cond}
 use mathlib.Core.List.{List}
 use Prim.Native.Nat.{ℕ, _+_, _≤_, _<_}
 use lib.Dec.{eqb, ltb}
@@ -13,7 +13,7 @@ use Rattle.executive.specs.declared.Task.{Task}
 use Rattle.executive.specs.declared.Request.{Request}
 use Rattle.executive.specs.declared.Table.{Table}
 use Rattle.executive.specs.Numbers.{mostTasks, mostQueued, flagCount, highest, mostGranule, endOfTime, longest}
-use Rattle.executive.specs.Lists.{pick, one, pad, sumOf}
+use Rattle.executive.specs.Lists.{one, pad, sumOf}
 use Rattle.executive.specs.Queue.{count, Desc}
 use Rattle.executive.specs.Places.{nobody, never, noTask, noRequest, taskAt}
 use Rattle.executive.specs.Table.{line, items}
@@ -38,20 +38,20 @@ runsOf k ts = sumOf (λ (e : Task). one (eqb k (e .«end_waiter» .0))) ts
 
 -- how many requests have a priority over 15; a task number over n; their own target for a waiter; two waiters; a
 -- dormant target
-abbrev pub steepOf : List Request → ℕ
-steepOf p = sumOf (λ (r : Request). one (ltb highest (r .priority))) p
+abbrev pub overPriority : List Request → ℕ
+overPriority p = sumOf (λ (r : Request). one (ltb highest (r .priority))) p
 
-abbrev pub wildOf : ℕ → List Request → ℕ
-wildOf n p = sumOf (λ (r : Request). one (ltb n (r .target .0)) + one (ltb n (r .«start_waiter» .0)) + one (ltb n (r .«end_waiter» .0))) p
+abbrev pub outOfRange : ℕ → List Request → ℕ
+outOfRange n p = sumOf (λ (r : Request). one (ltb n (r .target .0)) + one (ltb n (r .«start_waiter» .0)) + one (ltb n (r .«end_waiter» .0))) p
 
-abbrev pub selfsOf : List Request → ℕ
-selfsOf p = sumOf (λ (r : Request). one (eqb (r .target .0) (r .«start_waiter» .0)) + one (eqb (r .target .0) (r .«end_waiter» .0))) p
+abbrev pub waitsForItself : List Request → ℕ
+waitsForItself p = sumOf (λ (r : Request). one (eqb (r .target .0) (r .«start_waiter» .0)) + one (eqb (r .target .0) (r .«end_waiter» .0))) p
 
-abbrev pub twiceOf : List Request → ℕ
-twiceOf p = sumOf (λ (r : Request). pick (eqb (r .«start_waiter» .0) 0) 0 (one (not (eqb (r .«end_waiter» .0) 0)))) p
+abbrev pub twoWaiters : List Request → ℕ
+twoWaiters p = sumOf (λ (r : Request). cond (eqb (r .«start_waiter» .0) 0) 0 (one (not (eqb (r .«end_waiter» .0) 0)))) p
 
-abbrev pub idleOf : List Task → List Request → ℕ
-idleOf ts p = sumOf (λ (r : Request). is dormant (taskAt ts (r .target .0) .state)) p
+abbrev pub dormantTarget : List Task → List Request → ℕ
+dormantTarget ts p = sumOf (λ (r : Request). is dormant (taskAt ts (r .target .0) .state)) p
 
 -- ---- every number is in range: entries past the task count are zero, and no name is over the count
 pub record Sizes (t : Table) : Type 0 where
@@ -71,8 +71,8 @@ pub record InRange (t : Table) : Type 0 where
   pub priority : (k : ℕ) → taskAt (t .tasks) k .priority ≤ highest
   pub waiter : (k : ℕ) → taskAt (t .tasks) k .«end_waiter» .0 ≤ t .rest .count
   pub beyond : (k : ℕ) → t .rest .count < k → taskAt (t .tasks) k ≡ noTask
-  pub levels : steepOf (requests (t .rest)) ≡ 0
-  pub names : wildOf (t .rest .count) (requests (t .rest)) ≡ 0
+  pub priorities : overPriority (requests (t .rest)) ≡ 0
+  pub names : outOfRange (t .rest .count) (requests (t .rest)) ≡ 0
 
 -- ---- the line r holds exactly the tasks of ts whose state is of kind n, once each, in descending priority
 pub record Line (n : ℕ) (ts : List Task) (r : List TaskNo) : Type 0 where
@@ -107,9 +107,9 @@ Unmet fs s = hasMask s ≡ true → (0 < maskOf s) × (met fs (waitMode s) (mask
 pub record Waiters (ts : List Task) (p : List Request) : Type 0 where
   pub starts : (k : ℕ) → 0 < k → startsOf k p ≡ is awaitStart (taskAt ts k .state)
   pub ends : (k : ℕ) → 0 < k → endsOf k p + runsOf k ts ≡ is awaitEnd (taskAt ts k .state)
-  pub others : selfsOf p ≡ 0
+  pub others : waitsForItself p ≡ 0
   pub apart : (k : ℕ) → 0 < k → eqb k (taskAt ts k .«end_waiter» .0) ≡ false
-  pub single : twiceOf p ≡ 0
+  pub single : twoWaiters p ≡ 0
 
 -- ---- a dormant task's entry: zeros but for its own priority
 pub record Zeros (e : Task) : Type 0 where
@@ -131,7 +131,7 @@ pub record WellFormed (t : Table) : Type 0 where
   -- each wait mask is nonzero and its condition is false now
   pub masks : (k : ℕ) → Unmet (t .rest .flags) (taskAt (t .tasks) k .state)
   -- queued requests name busy tasks only
-  pub busy : idleOf (t .tasks) (requests (t .rest)) ≡ 0
+  pub busy : dormantTarget (t .tasks) (requests (t .rest)) ≡ 0
   -- each request or run that names a waiter names a different task in the matching state, each such state is named once
   pub waiters : Waiters (t .tasks) (requests (t .rest))
   -- a dormant task holds zeros but for its own priority

@@ -13,7 +13,7 @@ use records::TaskNo;
 ghost use mathlib.Core.Path.{_≡_};
 ghost use mathlib.Core.Bool.{false};
 ghost use Prim.Native.Nat.{_<_};
-ghost use Rattle.executive.specs.Table.{Standing};
+ghost use Rattle.executive.specs.Table.{TimesInOrder};
 ghost use Rattle.executive.specs.Refusals.{badBody};
 ghost use Rattle.executive.specs.Step.{IsNoTable, marks, flagMarks, marksOf, answerOf, hasV, refused};
 
@@ -79,7 +79,7 @@ fn has_v(number: u8) -> bool
 impl Table {
     // Kind 01: V where there is no such unit, and the grid times that are passed over.
     fn restart_marks(self, parameter: u8, count: u8) -> Marks
-        requires { ⌜ Standing self ⌝ }
+        requires { ⌜ TimesInOrder self ⌝ }
         ensures { λ r. ⌜ r ≡ marksOf self (Call.Restart parameter count) ⌝ }
     {
         let active = self.active();
@@ -107,7 +107,7 @@ impl Table {
 
     // Kinds 04 and 05: Z where the target is busy.
     fn start_marks(self, k: TaskNo) -> Marks
-        ensures { λ r. ⌜ r ≡ marksOf self (Call.Start 0 k) ⌝ }
+        ensures { λ r. ⌜ r ≡ marksOf self (Call.StartIfDormant 0 k) ⌝ }
     {
         let s = self.state_at(k);
         let dormant = states::is_dormant(s);
@@ -139,15 +139,15 @@ impl Table {
 
     // The marks of a call that is accepted.
     pub(crate) fn marks_of(self, call: Call) -> Marks
-        requires { ⌜ Standing self × (badBody self call ≡ false) ⌝ }
+        requires { ⌜ TimesInOrder self × (badBody self call ≡ false) ⌝ }
         ensures { λ r. ⌜ r ≡ marksOf self call ⌝ }
     {
         match call {
             Call::Restart { parameter, count } => self.restart_marks(parameter, count),
             Call::Pause { count, .. } => only_z(count == 0),
             Call::CancelPause { task } => self.cancel_marks(task),
-            Call::Start { task, .. } => self.start_marks(task),
-            Call::Queue { task, .. } => self.start_marks(task),
+            Call::StartIfDormant { task, .. } => self.start_marks(task),
+            Call::StartOrQueue { task, .. } => self.start_marks(task),
             Call::Flag { operation, flag } => {
                 let fs = self.rest.flags;
                 let old = flags::is_set(fs, flag);

@@ -13,14 +13,14 @@ use records::TaskNo;
 ghost use mathlib.Core.Path.{_≡_};
 ghost use Prim.Native.Nat.{_<_, _≤_, _+_};
 ghost use Rattle.executive.specs.Numbers.{lastUnit, endOfTime};
-ghost use Rattle.executive.specs.Table.{Fit, Standing, Out, depart, carry};
+ghost use Rattle.executive.specs.Table.{ArraysInOrder, TimesInOrder, Out, depart, applyInFlight};
 ghost use Rattle.executive.specs.Entries.{withState};
-ghost use Rattle.executive.specs.Plans.{endPlan, restartPlan, pausePlan, cancelPlan, tickPlan};
+ghost use Rattle.executive.specs.Plans.{terminatePlan, restartPlan, pausePlan, cancelPausePlan, tickPlan};
 
 impl Table {
     // The caller departs, in another state.
     pub(crate) fn depart_as(self, s: State) -> Table
-        requires { ⌜ Fit self × (0 < self .ready) ⌝ }
+        requires { ⌜ ArraysInOrder self × (0 < self .ready) ⌝ }
         ensures { λ r. ⌜ r ≡ depart (Out.leaves (withState s)) self ⌝ }
     {
         let queue = self.queue;
@@ -32,15 +32,15 @@ impl Table {
 
     // Kind 00.
     pub(crate) fn terminate(mut self) -> Work
-        requires { ⌜ Fit self × (0 < self .ready) ⌝ }
-        ensures { λ r. ⌜ r ≡ carry (endPlan self) self ⌝ }
+        requires { ⌜ ArraysInOrder self × (0 < self .ready) ⌝ }
+        ensures { λ r. ⌜ r ≡ applyInFlight (terminatePlan self) self ⌝ }
     {
         let queue = self.queue;
         let k = queue[0];
         let tasks = self.tasks;
         let old = places::task_at(tasks, k);
         let waiter = old.end_waiter;
-        let gone = entries::asleep(old);
+        let gone = entries::as_dormant(old);
         let t = self.depart(gone);
         let w = t.begin();
         let w1 = w.wake(waiter);
@@ -59,8 +59,8 @@ impl Table {
 
     // Kind 01.
     pub(crate) fn restart(mut self, param: u8, count: u8) -> Work
-        requires { ⌜ Standing self × (0 < self .ready) ⌝ }
-        ensures { λ r. ⌜ r ≡ carry (restartPlan self param count) self ⌝ }
+        requires { ⌜ TimesInOrder self × (0 < self .ready) ⌝ }
+        ensures { λ r. ⌜ r ≡ applyInFlight (restartPlan self param count) self ⌝ }
     {
         let queue = self.queue;
         let k = queue[0];
@@ -83,8 +83,8 @@ impl Table {
 
     // Kind 02, its interval in range.
     pub(crate) fn pause(mut self, unit: u8, count: u8) -> Work
-        requires { ⌜ Fit self × (0 < self .ready) × (self .rest .clock .0 ≤ endOfTime) × (unit ≤ lastUnit) ⌝ }
-        ensures { λ r. ⌜ r ≡ carry (pausePlan self unit count) self ⌝ }
+        requires { ⌜ ArraysInOrder self × (0 < self .ready) × (self .rest .clock .0 ≤ endOfTime) × (unit ≤ lastUnit) ⌝ }
+        ensures { λ r. ⌜ r ≡ applyInFlight (pausePlan self unit count) self ⌝ }
     {
         if count == 0 {
             return self.begin();
@@ -100,9 +100,9 @@ impl Table {
     }
 
     // Kind 03: only a paused task enters, not a due one.
-    pub(crate) fn cancel(mut self, k: TaskNo) -> Work
-        requires { ⌜ Fit self ⌝ }
-        ensures { λ r. ⌜ r ≡ carry (cancelPlan self k) self ⌝ }
+    pub(crate) fn cancel_pause(mut self, k: TaskNo) -> Work
+        requires { ⌜ ArraysInOrder self ⌝ }
+        ensures { λ r. ⌜ r ≡ applyInFlight (cancelPausePlan self k) self ⌝ }
     {
         let tasks = self.tasks;
         let e = places::task_at(tasks, k);
@@ -116,8 +116,8 @@ impl Table {
 
     // Kind 80.
     pub(crate) fn tick(mut self) -> Work
-        requires { ⌜ Fit self × (self .rest .clock .0 + self .rest .granule ≤ endOfTime) ⌝ }
-        ensures { λ r. ⌜ r ≡ carry (tickPlan self) self ⌝ }
+        requires { ⌜ ArraysInOrder self × (self .rest .clock .0 + self .rest .granule ≤ endOfTime) ⌝ }
+        ensures { λ r. ⌜ r ≡ applyInFlight (tickPlan self) self ⌝ }
     {
         let old = self.rest;
         let rest = old.advance();

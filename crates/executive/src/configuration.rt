@@ -12,11 +12,11 @@ use records::TaskNo;
 ghost use mathlib.Core.Path.{_≡_};
 ghost use Prim.Native.Nat.{_<_, _≤_};
 ghost use lib.ListN.{getD};
-ghost use Rattle.executive.specs.Table.{Flying, admits};
+ghost use Rattle.executive.specs.Table.{InFlight, enterAllInFlight};
 ghost use Rattle.executive.specs.Lists.{pad, upTo};
 ghost use Rattle.executive.specs.Places.{noTask};
 ghost use Rattle.executive.specs.Configuration.{placeIn, ownIn, markIn, tasksIn, taskRight, isConfiguration, blankRest, withTasks, dormantAt, sleepers};
-ghost use Rattle.executive.specs.Configuration.{starter, starters, madeBy, Makes, Measures};
+ghost use Rattle.executive.specs.Configuration.{markedStart, starters, madeBy, Makes, Measures};
 
 // The byte at a place, and 0 past the end.
 fn at(s: &[u8], i: usize) -> u8
@@ -176,8 +176,8 @@ fn table_of(tasks: [Task; 16], rest: Rest) -> Table
 
 // Task k starts if it is marked: at its own priority, with argument 0 and scheduled start 0.
 fn start_at(w: Work, s: &[u8], k: TaskNo) -> Work
-    requires { ⌜ Flying w × (0 < k .0) ⌝ }
-    ensures { λ r. ⌜ r ≡ admits (starter (now (s .entry)) (k .0)) w ⌝ }
+    requires { ⌜ InFlight w × (0 < k .0) ⌝ }
+    ensures { λ r. ⌜ r ≡ enterAllInFlight (markedStart (now (s .entry)) (k .0)) w ⌝ }
 {
     if mark_in(s, k) != 1 {
         return w;
@@ -191,8 +191,8 @@ fn start_at(w: Work, s: &[u8], k: TaskNo) -> Work
 
 // The marked tasks of 1 to n start, in ascending number.
 fn start_marked(w: Work, s: &[u8], n: u8) -> Work
-    requires { ⌜ Flying w × (n ≤ 16) ⌝ }
-    ensures { λ r. ⌜ r ≡ admits (starters (now (s .entry)) n 1) w ⌝ }
+    requires { ⌜ InFlight w × (n ≤ 16) ⌝ }
+    ensures { λ r. ⌜ r ≡ enterAllInFlight (starters (now (s .entry)) n 1) w ⌝ }
 {
     let mut v = w;
     let mut k: u8 = 0;

@@ -6,7 +6,7 @@ use crate::Task;
 use crate::states;
 use records::TaskNo;
 ghost use mathlib.Core.Path.{_≡_};
-ghost use Rattle.executive.specs.Entries.{scheduled, withState, sleeping, begun, aimed, risen, dueAt};
+ghost use Rattle.executive.specs.Entries.{scheduled, withState, asDormant, begun, aimed, risen, dueAt};
 
 // One task's entry, lent: its state and its time are set, and nothing else is.
 pub(crate) fn set_state(task: &mut Task, state: State, start: Millis)
@@ -34,8 +34,8 @@ pub(crate) fn with_state(e: Task, s: State) -> Task
 }
 
 // The entry of a task whose run has ended.
-pub(crate) fn asleep(e: Task) -> Task
-    ensures { λ r. ⌜ r ≡ sleeping e ⌝ }
+pub(crate) fn as_dormant(e: Task) -> Task
+    ensures { λ r. ⌜ r ≡ asDormant e ⌝ }
 {
     Task {
         own: e.own,

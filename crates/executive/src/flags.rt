@@ -10,7 +10,7 @@ use records::FlagNo;
 ghost use mathlib.Core.Path.{_≡_};
 ghost use Prim.Native.Nat.{_<_, _≤_};
 ghost use Rattle.executive.specs.Numbers.{lastUnit, endOfTime};
-ghost use Rattle.executive.specs.Table.{Fit, carry};
+ghost use Rattle.executive.specs.Table.{ArraysInOrder, applyInFlight};
 ghost use Rattle.executive.specs.Flags.{isSet, flagSet, flagReset, withFlags, modeOf, met};
 ghost use Rattle.executive.specs.Clock.{withAlarm};
 ghost use Rattle.executive.specs.Plans.{setPlan, resetPlan, flagPlan, waitPlan, alarmPlan};
@@ -83,8 +83,8 @@ impl Table {
     // Kind 09, operation 1, and kind 0B with count 0: all tasks whose condition now holds enter. No stored time has
     // come, so nobody else does.
     pub(crate) fn set(self, f: FlagNo) -> Work
-        requires { ⌜ Fit self × Times self × (f .0 < 32) ⌝ }
-        ensures { λ r. ⌜ r ≡ carry (setPlan self f) self ⌝ }
+        requires { ⌜ ArraysInOrder self × Times self × (f .0 < 32) ⌝ }
+        ensures { λ r. ⌜ r ≡ applyInFlight (setPlan self f) self ⌝ }
     {
         let old = self.rest;
         let rest = old.with_flag(f);
@@ -98,7 +98,7 @@ impl Table {
     // Kind 09, operation 0.
     pub(crate) fn reset(self, f: FlagNo) -> Work
         requires { ⌜ f .0 < 32 ⌝ }
-        ensures { λ r. ⌜ r ≡ carry (resetPlan self f) self ⌝ }
+        ensures { λ r. ⌜ r ≡ applyInFlight (resetPlan self f) self ⌝ }
     {
         let old = self.rest;
         let rest = old.without_flag(f);
@@ -108,8 +108,8 @@ impl Table {
 
     // Kind 09: operation 0 resets, 1 sets, 2 tests.
     pub(crate) fn flag(mut self, operation: u8, f: FlagNo) -> Work
-        requires { ⌜ Fit self × Times self × (f .0 < 32) ⌝ }
-        ensures { λ r. ⌜ r ≡ carry (flagPlan self operation f) self ⌝ }
+        requires { ⌜ ArraysInOrder self × Times self × (f .0 < 32) ⌝ }
+        ensures { λ r. ⌜ r ≡ applyInFlight (flagPlan self operation f) self ⌝ }
     {
         if operation == 0 {
             return self.reset(f);
@@ -122,8 +122,8 @@ impl Table {
 
     // Kind 0A: the caller departs, unless its condition holds already.
     pub(crate) fn wait(mut self, mode: u8, mask: u32) -> Work
-        requires { ⌜ Fit self × (0 < self .ready) ⌝ }
-        ensures { λ r. ⌜ r ≡ carry (waitPlan self mode mask) self ⌝ }
+        requires { ⌜ ArraysInOrder self × (0 < self .ready) ⌝ }
+        ensures { λ r. ⌜ r ≡ applyInFlight (waitPlan self mode mask) self ⌝ }
     {
         let m = mode_of(mode);
         let flags = self.rest.flags;
@@ -136,8 +136,8 @@ impl Table {
 
     // Kind 0B, its interval in range.
     pub(crate) fn alarm(mut self, unit: u8, count: u8, f: FlagNo) -> Work
-        requires { ⌜ Fit self × Times self × (f .0 < 32) × (self .rest .clock .0 ≤ endOfTime) × (unit ≤ lastUnit) ⌝ }
-        ensures { λ r. ⌜ r ≡ carry (alarmPlan self unit count f) self ⌝ }
+        requires { ⌜ ArraysInOrder self × Times self × (f .0 < 32) × (self .rest .clock .0 ≤ endOfTime) × (unit ≤ lastUnit) ⌝ }
+        ensures { λ r. ⌜ r ≡ applyInFlight (alarmPlan self unit count f) self ⌝ }
     {
         if count == 0 {
             return self.set(f);

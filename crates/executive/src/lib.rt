@@ -88,8 +88,8 @@ struct Work {
 }
 
 // What a caller of kind 05 waits for.
-enum Wait {
-    Goes,
+enum AwaitedMoment {
+    ForNothing,
     ForStart,
     ForEnd,
 }

@@ -6,7 +6,7 @@ ghost use mathlib.Core.Path.{_≡_};
 ghost use Prim.Native.Nat.{_<_, _≤_};
 ghost use lib.ListN.{take};
 ghost use mathlib.Core.List.{_∷_, [], _++_};
-ghost use Rattle.executive.specs.Pool.{Neat, requests, foundAt, placeOf, removed, withRequests};
+ghost use Rattle.executive.specs.Pool.{PoolInOrder, requests, foundAt, placeOf, removed, withRequests};
 ghost use Rattle.executive.specs.Places.{noRequest};
 ghost use Rattle.executive.specs.Lists.{closedAt};
 
@@ -58,7 +58,7 @@ pub(crate) fn dropped_at(pool: [Request; 32], at: usize) -> [Request; 32]
 impl Rest {
     // The rest with a request taken from the pool.
     pub(crate) fn without(mut self, i: usize) -> Rest
-        requires { ⌜ Neat self × (i < self .queued) ⌝ }
+        requires { ⌜ PoolInOrder self × (i < self .queued) ⌝ }
         ensures { λ r. ⌜ r ≡ withRequests (removed i (requests self)) self ⌝ }
     {
         let pool = self.pool;
@@ -70,7 +70,7 @@ impl Rest {
 
     // The rest with one more request queued.
     pub(crate) fn with_request(mut self, q: Request) -> Rest
-        requires { ⌜ Neat self × (self .queued < 32) ⌝ }
+        requires { ⌜ PoolInOrder self × (self .queued < 32) ⌝ }
         ensures { λ r. ⌜ r ≡ withRequests (requests self ++ (q ∷ [])) self ⌝ }
     {
         let mut pool = self.pool;

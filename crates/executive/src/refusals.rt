@@ -6,14 +6,14 @@ use crate::states;
 use records::Call;
 use records::FlagNo;
 use records::TaskNo;
+ghost use mathlib.Core.Bool.{_||_};
 ghost use mathlib.Core.Path.{_≡_};
 ghost use Prim.Native.Nat.{_≤_};
 ghost use lib.Dec.{ltb, eqb};
 ghost use lib.ListN.{getD};
 ghost use Rattle.executive.specs.Numbers.{lastUnit, endOfTime};
 ghost use Rattle.executive.specs.Places.{never};
-ghost use Rattle.executive.specs.Lists.{_or_};
-ghost use Rattle.executive.specs.Refusals.{isTick, noSuchTask, nobodyActive, badBody, namesCaller, alarmRunning, poolFull, endsTime, earlyOf};
+ghost use Rattle.executive.specs.Refusals.{isTick, noSuchTask, nobodyActive, badBody, namesCaller, alarmRunning, poolFull, endsTime, refusalBefore11};
 
 pub(crate) fn is_tick(call: Call) -> bool
     ensures { λ r. ⌜ r ≡ isTick call ⌝ }
@@ -24,8 +24,8 @@ pub(crate) fn is_tick(call: Call) -> bool
         Call::Restart { .. } => false,
         Call::Pause { .. } => false,
         Call::CancelPause { .. } => false,
-        Call::Start { .. } => false,
-        Call::Queue { .. } => false,
+        Call::StartIfDormant { .. } => false,
+        Call::StartOrQueue { .. } => false,
         Call::Flag { .. } => false,
         Call::Wait { .. } => false,
         Call::Alarm { .. } => false,
@@ -37,7 +37,7 @@ pub(crate) fn is_tick(call: Call) -> bool
 
 // 6 in kinds 09, 0A and 0B.
 fn bad_flag(operation: u8, f: FlagNo) -> bool
-    ensures { λ r. ⌜ r ≡ (ltb 31 (f .0) or ltb 2 operation) ⌝ }
+    ensures { λ r. ⌜ r ≡ (ltb 31 (f .0) || ltb 2 operation) ⌝ }
 {
     if 31 < f.0 {
         return true;
@@ -46,7 +46,7 @@ fn bad_flag(operation: u8, f: FlagNo) -> bool
 }
 
 fn bad_wait(mode: u8, mask: u32) -> bool
-    ensures { λ r. ⌜ r ≡ (ltb 1 mode or eqb mask 0) ⌝ }
+    ensures { λ r. ⌜ r ≡ (ltb 1 mode || eqb mask 0) ⌝ }
 {
     if 1 < mode {
         return true;
@@ -55,7 +55,7 @@ fn bad_wait(mode: u8, mask: u32) -> bool
 }
 
 fn bad_alarm(unit: u8, f: FlagNo) -> bool
-    ensures { λ r. ⌜ r ≡ (ltb lastUnit unit or ltb 31 (f .0)) ⌝ }
+    ensures { λ r. ⌜ r ≡ (ltb lastUnit unit || ltb 31 (f .0)) ⌝ }
 {
     if clock::LAST_UNIT < unit {
         return true;
@@ -96,7 +96,7 @@ impl Table {
     }
 
     fn bad_start(self, option: u8, k: TaskNo) -> bool
-        ensures { λ r. ⌜ r ≡ badBody self (Call.Start option k) ⌝ }
+        ensures { λ r. ⌜ r ≡ badBody self (Call.StartIfDormant option k) ⌝ }
     {
         if self.no_such_task(k) {
             return true;
@@ -105,7 +105,7 @@ impl Table {
     }
 
     fn bad_queue(self, option: u8, k: TaskNo) -> bool
-        ensures { λ r. ⌜ r ≡ badBody self (Call.Queue option k 0) ⌝ }
+        ensures { λ r. ⌜ r ≡ badBody self (Call.StartOrQueue option k 0) ⌝ }
     {
         if self.no_such_task(k) {
             return true;
@@ -119,8 +119,8 @@ impl Table {
         match call {
             Call::Pause { unit, .. } => clock::LAST_UNIT < unit,
             Call::CancelPause { task } => self.no_such_task(task),
-            Call::Start { option, task } => self.bad_start(option, task),
-            Call::Queue { option, task, .. } => self.bad_queue(option, task),
+            Call::StartIfDormant { option, task } => self.bad_start(option, task),
+            Call::StartOrQueue { option, task, .. } => self.bad_queue(option, task),
             Call::Flag { operation, flag } => bad_flag(operation, flag),
             Call::Wait { mode, mask } => bad_wait(mode, mask),
             Call::Alarm { unit, flag, .. } => bad_alarm(unit, flag),
@@ -137,7 +137,7 @@ impl Table {
     fn names_caller(self, call: Call) -> bool
         ensures { λ r. ⌜ r ≡ namesCaller self call ⌝ }
     {
-        let Call::Queue { option, task, .. } = call else {
+        let Call::StartOrQueue { option, task, .. } = call else {
             return false;
         };
         let c = self.active();
@@ -164,7 +164,7 @@ impl Table {
     fn pool_full(self, call: Call) -> bool
         ensures { λ r. ⌜ r ≡ poolFull self call ⌝ }
     {
-        let Call::Queue { task, .. } = call else {
+        let Call::StartOrQueue { task, .. } = call else {
             return false;
         };
         let s = self.state_at(task);
@@ -191,7 +191,7 @@ impl Table {
     // what the call comes to.
     pub(crate) fn refusal(self, call: Call) -> u8
         requires { ⌜ self .rest .clock .0 ≤ endOfTime ⌝ }
-        ensures { λ r. ⌜ r ≡ earlyOf self call ⌝ }
+        ensures { λ r. ⌜ r ≡ refusalBefore11 self call ⌝ }
     {
         if self.nobody_active(call) {
             return 5;

@@ -10,7 +10,7 @@ ghost use mathlib.Core.Path.{_≡_};
 ghost use Prim.Native.Nat.{_<_};
 ghost use Rattle.executive.specs.States.{ready};
 ghost use Rattle.executive.specs.Check.{inBounds, entryInRange, isZero, isBlank, requestInRange};
-ghost use Rattle.executive.specs.Check.{isStored, isTimely, alarmRight, isUnmet, namesOthers, sleepsRight, isFree, entryRight, requestFits};
+ghost use Rattle.executive.specs.Check.{isStored, isTimely, alarmRight, isUnmet, namesOthers, dormantEntryRight, isFree, entryRight, requestFits};
 
 // The counts, the granule and the clock are in range.
 pub(crate) fn in_bounds(count: u8, granule: u8, clock: Millis, ready: u8, queued: u8) -> bool
@@ -77,8 +77,8 @@ pub(crate) fn is_blank(e: Task) -> bool
 }
 
 // A dormant task holds zeros but for its own priority.
-fn sleeps_right(e: Task) -> bool
-    ensures { λ r. ⌜ r ≡ sleepsRight e ⌝ }
+fn dormant_entry_right(e: Task) -> bool
+    ensures { λ r. ⌜ r ≡ dormantEntryRight e ⌝ }
 {
     let s = e.state;
     if !states::is_dormant(s) {
@@ -134,7 +134,7 @@ pub(crate) fn entry_right(e: Task, count: u8, now: Millis, flags: u32) -> bool
     if !is_unmet(s, flags) {
         return false;
     }
-    sleeps_right(e)
+    dormant_entry_right(e)
 }
 
 fn request_in_range(q: Request, count: u8) -> bool

@@ -8,13 +8,13 @@ use records::kinds;
 use records::reading;
 ghost use mathlib.Core.Path.{_≡_};
 ghost use Rattle.records.specs.Writing.{bytesOf};
-ghost use Rattle.executive.specs.Table.{carry};
+ghost use Rattle.executive.specs.Table.{applyInFlight};
 ghost use Rattle.executive.specs.WellFormed.{WellFormed};
 ghost use mathlib.Core.Bool.{true};
 ghost use Rattle.executive.specs.Check.{isWellFormed};
 ghost use Rattle.executive.specs.Plans.{planOf};
-ghost use Rattle.executive.specs.Refusals.{earlyOf};
-ghost use Rattle.executive.specs.Step.{isStep, performed, stepOf, Steps, Takes};
+ghost use Rattle.executive.specs.Refusals.{refusalBefore11};
+ghost use Rattle.executive.specs.Step.{isStep, performed, stepOf, Steps, StepsCall};
 
 // Whether a step takes the call; a configuration record it does not.
 fn is_step(call: Call) -> bool
@@ -25,8 +25,8 @@ fn is_step(call: Call) -> bool
         Call::Restart { .. } => true,
         Call::Pause { .. } => true,
         Call::CancelPause { .. } => true,
-        Call::Start { .. } => true,
-        Call::Queue { .. } => true,
+        Call::StartIfDormant { .. } => true,
+        Call::StartOrQueue { .. } => true,
         Call::Flag { .. } => true,
         Call::Wait { .. } => true,
         Call::Alarm { .. } => true,
@@ -40,17 +40,17 @@ fn is_step(call: Call) -> bool
 impl Table {
     // Executes a call that nothing refuses.
     fn run(self, call: Call) -> Work
-        requires { ⌜ WellFormed self × (earlyOf self call ≡ 0) ⌝ }
-        ensures { λ r. ⌜ r ≡ carry (planOf self call) self ⌝ }
+        requires { ⌜ WellFormed self × (refusalBefore11 self call ≡ 0) ⌝ }
+        ensures { λ r. ⌜ r ≡ applyInFlight (planOf self call) self ⌝ }
     {
         let same = self.begin();
         match call {
             Call::Terminate => self.terminate(),
             Call::Restart { parameter, count } => self.restart(parameter, count),
             Call::Pause { unit, count } => self.pause(unit, count),
-            Call::CancelPause { task } => self.cancel(task),
-            Call::Start { option, task } => self.start_only(option, task),
-            Call::Queue {
+            Call::CancelPause { task } => self.cancel_pause(task),
+            Call::StartIfDormant { option, task } => self.start_if_dormant(option, task),
+            Call::StartOrQueue {
                 option,
                 task,
                 argument,
@@ -104,7 +104,7 @@ impl Table {
     }
 
     // The same from a call that was read.
-    pub(crate) fn take_checked(self, call: Call) -> Outcome
+    pub(crate) fn step_call_checked(self, call: Call) -> Outcome
         requires { ⌜ isWellFormed self ≡ true ⌝ }
         ensures { λ r. ⌜ r ≡ stepOf self (bytesOf call) ⌝ }
     {
@@ -125,11 +125,11 @@ impl Table {
     }
 
     // The same from a call that was read: what its record's bytes give.
-    pub fn take(self, call: Call) -> Outcome
-        ensures { λ r. ⌜ Takes self call r ⌝ }
+    pub fn step_call(self, call: Call) -> Outcome
+        ensures { λ r. ⌜ StepsCall self call r ⌝ }
     {
         if self.is_well_formed() {
-            return self.take_checked(call);
+            return self.step_call_checked(call);
         }
         self.refuse(1)
     }

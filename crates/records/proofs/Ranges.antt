@@ -29,8 +29,8 @@ in-range call.Terminate vs q = tt
 in-range (call.Restart p n) vs q = let known = owed the-type the-laws (call.Restart p n) vs q in (omega arith, (omega arith, tt))
 in-range (call.Pause u n) vs q = let known = owed the-type the-laws (call.Pause u n) vs q in (omega arith, (omega arith, tt))
 in-range (call.CancelPause t) vs q = let known = owed the-type the-laws (call.CancelPause t) vs q in (omega arith, tt)
-in-range (call.Start o t) vs q = let known = owed the-type the-laws (call.Start o t) vs q in (omega arith, (omega arith, tt))
-in-range (call.Queue o t a) vs q = let known = owed the-type the-laws (call.Queue o t a) vs q in (omega arith, (omega arith, (omega arith, tt)))
+in-range (call.StartIfDormant o t) vs q = let known = owed the-type the-laws (call.StartIfDormant o t) vs q in (omega arith, (omega arith, tt))
+in-range (call.StartOrQueue o t a) vs q = let known = owed the-type the-laws (call.StartOrQueue o t a) vs q in (omega arith, (omega arith, (omega arith, tt)))
 in-range (call.Flag o f) vs q = let known = owed the-type the-laws (call.Flag o f) vs q in (omega arith, (omega arith, tt))
 in-range (call.Wait m x) vs q = let known = owed the-type the-laws (call.Wait m x) vs q in (omega arith, (omega arith, tt))
 in-range (call.Alarm u n f) vs q = let known = owed the-type the-laws (call.Alarm u n f) vs q in (omega arith, (omega arith, (omega arith, tt)))
@@ -51,8 +51,8 @@ read-as-in-range s h kind.Terminate = cut-fits s h (bodyOf kind.Terminate) 1
 read-as-in-range s h kind.Restart = cut-fits s h (bodyOf kind.Restart) 1
 read-as-in-range s h kind.Pause = cut-fits s h (bodyOf kind.Pause) 1
 read-as-in-range s h kind.CancelPause = cut-fits s h (bodyOf kind.CancelPause) 1
-read-as-in-range s h kind.Start = cut-fits s h (bodyOf kind.Start) 1
-read-as-in-range s h kind.Queue = cut-fits s h (bodyOf kind.Queue) 1
+read-as-in-range s h kind.StartIfDormant = cut-fits s h (bodyOf kind.StartIfDormant) 1
+read-as-in-range s h kind.StartOrQueue = cut-fits s h (bodyOf kind.StartOrQueue) 1
 read-as-in-range s h kind.Flag = cut-fits s h (bodyOf kind.Flag) 1
 read-as-in-range s h kind.Wait = cut-fits s h (bodyOf kind.Wait) 1
 read-as-in-range s h kind.Alarm = cut-fits s h (bodyOf kind.Alarm) 1

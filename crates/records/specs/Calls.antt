@@ -12,20 +12,20 @@ use Rattle.records.specs.declared.Got.{Got}
 use Rattle.records.specs.declared.Got.the-variants as got
 
 -- the kind of a call
-abbrev pub kindIn : Call → Kind
-kindIn call.Terminate = kind.Terminate
-kindIn (call.Restart p n) = kind.Restart
-kindIn (call.Pause u n) = kind.Pause
-kindIn (call.CancelPause t) = kind.CancelPause
-kindIn (call.Start o t) = kind.Start
-kindIn (call.Queue o t a) = kind.Queue
-kindIn (call.Flag o f) = kind.Flag
-kindIn (call.Wait m x) = kind.Wait
-kindIn (call.Alarm u n f) = kind.Alarm
-kindIn call.Tick = kind.Tick
-kindIn (call.Granule g) = kind.Granule
-kindIn (call.Task p m) = kind.Task
-kindIn call.End = kind.End
+abbrev pub kindOfCall : Call → Kind
+kindOfCall call.Terminate = kind.Terminate
+kindOfCall (call.Restart p n) = kind.Restart
+kindOfCall (call.Pause u n) = kind.Pause
+kindOfCall (call.CancelPause t) = kind.CancelPause
+kindOfCall (call.StartIfDormant o t) = kind.StartIfDormant
+kindOfCall (call.StartOrQueue o t a) = kind.StartOrQueue
+kindOfCall (call.Flag o f) = kind.Flag
+kindOfCall (call.Wait m x) = kind.Wait
+kindOfCall (call.Alarm u n f) = kind.Alarm
+kindOfCall call.Tick = kind.Tick
+kindOfCall (call.Granule g) = kind.Granule
+kindOfCall (call.Task p m) = kind.Task
+kindOfCall call.End = kind.End
 
 -- the numbers of a call's body, in the order of its row
 abbrev pub fieldsOf : Call → List ℕ
@@ -33,8 +33,8 @@ fieldsOf call.Terminate = []
 fieldsOf (call.Restart p n) = p ∷ n ∷ []
 fieldsOf (call.Pause u n) = u ∷ n ∷ []
 fieldsOf (call.CancelPause t) = t .0 ∷ []
-fieldsOf (call.Start o t) = o ∷ t .0 ∷ []
-fieldsOf (call.Queue o t a) = o ∷ t .0 ∷ a ∷ []
+fieldsOf (call.StartIfDormant o t) = o ∷ t .0 ∷ []
+fieldsOf (call.StartOrQueue o t a) = o ∷ t .0 ∷ a ∷ []
 fieldsOf (call.Flag o f) = o ∷ f .0 ∷ []
 fieldsOf (call.Wait m x) = m ∷ x ∷ []
 fieldsOf (call.Alarm u n f) = u ∷ n ∷ f .0 ∷ []
@@ -50,8 +50,8 @@ gotOf kind.Terminate xs = got.Call call.Terminate
 gotOf kind.Restart xs = got.Call (call.Restart (getD xs 0 0) (getD xs 1 0))
 gotOf kind.Pause xs = got.Call (call.Pause (getD xs 0 0) (getD xs 1 0))
 gotOf kind.CancelPause xs = got.Call (call.CancelPause (record { 0 = getD xs 0 0 }))
-gotOf kind.Start xs = got.Call (call.Start (getD xs 0 0) (record { 0 = getD xs 1 0 }))
-gotOf kind.Queue xs = got.Call (call.Queue (getD xs 0 0) (record { 0 = getD xs 1 0 }) (getD xs 2 0))
+gotOf kind.StartIfDormant xs = got.Call (call.StartIfDormant (getD xs 0 0) (record { 0 = getD xs 1 0 }))
+gotOf kind.StartOrQueue xs = got.Call (call.StartOrQueue (getD xs 0 0) (record { 0 = getD xs 1 0 }) (getD xs 2 0))
 gotOf kind.Flag xs = got.Call (call.Flag (getD xs 0 0) (record { 0 = getD xs 1 0 }))
 gotOf kind.Wait xs = got.Call (call.Wait (getD xs 0 0) (getD xs 1 0))
 gotOf kind.Alarm xs = got.Call (call.Alarm (getD xs 0 0) (getD xs 1 0) (record { 0 = getD xs 2 0 }))
@@ -62,7 +62,7 @@ gotOf kind.End xs = got.Call call.End
 
 -- each number of a call is below the bound of its width
 abbrev pub InRange : Call → Type 0
-InRange c = Fits (bodyOf (kindIn c)) (fieldsOf c)
+InRange c = Fits (bodyOf (kindOfCall c)) (fieldsOf c)
 
 -- the same of what a reader answers
 abbrev pub GotInRange : Got → Type 0

@@ -30,8 +30,8 @@ table =
     ∷ row kind.Restart 0x01 (1 ∷ 1 ∷ [])
     ∷ row kind.Pause 0x02 (1 ∷ 1 ∷ [])
     ∷ row kind.CancelPause 0x03 (1 ∷ [])
-    ∷ row kind.Start 0x04 (1 ∷ 1 ∷ [])
-    ∷ row kind.Queue 0x05 (1 ∷ 1 ∷ 2 ∷ [])
+    ∷ row kind.StartIfDormant 0x04 (1 ∷ 1 ∷ [])
+    ∷ row kind.StartOrQueue 0x05 (1 ∷ 1 ∷ 2 ∷ [])
     ∷ row kind.Flag 0x09 (1 ∷ 1 ∷ [])
     ∷ row kind.Wait 0x0A (1 ∷ 4 ∷ [])
     ∷ row kind.Alarm 0x0B (1 ∷ 1 ∷ 1 ∷ [])
@@ -53,8 +53,8 @@ place kind.Terminate = 1
 place kind.Restart = 2
 place kind.Pause = 3
 place kind.CancelPause = 4
-place kind.Start = 5
-place kind.Queue = 6
+place kind.StartIfDormant = 5
+place kind.StartOrQueue = 6
 place kind.Flag = 7
 place kind.Wait = 8
 place kind.Alarm = 9

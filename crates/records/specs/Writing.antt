@@ -7,14 +7,14 @@ use lib.ListN.{length, take, drop}
 use lib.Dec.{leb}
 use Rattle.records.specs.Numbers.{lay}
 use Rattle.records.specs.Kinds.{byteOf, bodyOf}
-use Rattle.records.specs.Calls.{kindIn, fieldsOf}
+use Rattle.records.specs.Calls.{kindOfCall, fieldsOf}
 use Rattle.records.specs.declared.Call.{Call}
 use Rattle.records.specs.declared.Written.{Written}
 use Rattle.records.specs.declared.Written.the-variants as written
 
 -- the record of a call
 abbrev pub bytesOf : Call → List ℕ
-bytesOf c = byteOf (kindIn c) ∷ lay (bodyOf (kindIn c)) (fieldsOf c)
+bytesOf c = byteOf (kindOfCall c) ∷ lay (bodyOf (kindOfCall c)) (fieldsOf c)
 
 -- some bytes put at the start of a buffer: their number, or 20 where the buffer is shorter
 abbrev pub putOf : List ℕ → List ℕ → Written

@@ -18,8 +18,8 @@ pub enum Kind {
     Restart,
     Pause,
     CancelPause,
-    Start,
-    Queue,
+    StartIfDormant,
+    StartOrQueue,
     Flag,
     Wait,
     Alarm,
@@ -43,11 +43,11 @@ pub enum Call {
     CancelPause {
         task: TaskNo,
     },
-    Start {
+    StartIfDormant {
         option: u8,
         task: TaskNo,
     },
-    Queue {
+    StartOrQueue {
         option: u8,
         task: TaskNo,
         argument: u16,

@@ -55,8 +55,8 @@ fn call_of(kind: Kind, bytes: &[u8]) -> Got
         }),
         Kind::Pause => Got::Call(Call::Pause { unit: a, count: b }),
         Kind::CancelPause => Got::Call(Call::CancelPause { task: TaskNo(a) }),
-        Kind::Start => Got::Call(Call::Start { option: a, task }),
-        Kind::Queue => Got::Call(Call::Queue {
+        Kind::StartIfDormant => Got::Call(Call::StartIfDormant { option: a, task }),
+        Kind::StartOrQueue => Got::Call(Call::StartOrQueue {
             option: a,
             task,
             argument: pair(c, at(bytes, 4)),

@@ -7,7 +7,7 @@ use crate::writing;
 ghost use Rattle.records.specs.Trips.{ComesBack, WritesAgain};
 
 // Writes a call and reads the record: the same call.
-pub fn there_and_back(call: Call) -> Got
+pub fn write_then_read(call: Call) -> Got
     ensures { λ r. ⌜ ComesBack call r ⌝ }
 {
     let mut record = [0u8; 6];
@@ -19,7 +19,7 @@ pub fn there_and_back(call: Call) -> Got
 
 // Reads a record and writes its call: the same bytes stand at out's start. Refused, and no byte changed, where the
 // one or the other is.
-pub fn back_and_there(bytes: &[u8], out: &mut [u8]) -> Written
+pub fn read_then_write(bytes: &[u8], out: &mut [u8]) -> Written
     ensures { λ r. ⌜ WritesAgain (now (bytes .entry)) (now (out .entry)) (now (out .exit)) r ⌝ }
 {
     match reading::read(bytes) {

@@ -19,8 +19,8 @@ fn encode(call: Call) -> Encoded
         Call::Restart { parameter, count } => Encoded([0x01, parameter, count, 0, 0, 0], 3),
         Call::Pause { unit, count } => Encoded([0x02, unit, count, 0, 0, 0], 3),
         Call::CancelPause { task } => Encoded([0x03, task.0, 0, 0, 0, 0], 2),
-        Call::Start { option, task } => Encoded([0x04, option, task.0, 0, 0, 0], 3),
-        Call::Queue {
+        Call::StartIfDormant { option, task } => Encoded([0x04, option, task.0, 0, 0, 0], 3),
+        Call::StartOrQueue {
             option,
             task,
             argument,

@@ -6,7 +6,7 @@ use borrow.Author.Tests.{not-true, not-false}
 use Rattle.executive.specs.Step.{stepOf}
 use Rattle.executive.specs.declared.Outcome.{Outcome}
 use Rattle.board.specs.Blocks.{written}
-use Rattle.board.specs.Entries.{answerBytes}
+use Rattle.board.specs.EntryPoints.{answerBytes}
 use Rattle.board.specs.Image.{loadOf}
 use Rattle.board.proofs.Owned.{outcome-owned}
 use Rattle.board.proofs.Trips.{image-parts}

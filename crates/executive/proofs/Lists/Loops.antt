@@ -1,7 +1,7 @@
 -- The laws of the check's loops: counting from the back, a test at each number, a test of each element.
 use Prim.Native.Nat.{ℕ, zero, suc, _+_, _-_, _≤_, _<_}
 use mathlib.Core.Path.{_≡_, refl, ap, _∙_}
-use mathlib.Core.Bool.{Bool, true, false}
+use mathlib.Core.Bool.{Bool, true, false, cond}
 use mathlib.Core.Logic.{⊎-elim, _≢_}
 use mathlib.Core.List.{List, [], _∷_}
 use native.Mathlib.Omega.{arith}
@@ -12,7 +12,7 @@ use lib.ListN.{length, take, drop, getD, set, length-set, length-drop, replicate
 use borrow.Author.Tests.{eqb-true, eqb-false, ne-eqb, ltb-true, ltb-false}
 use Rattle.records.specs.declared.TaskNo.{TaskNo}
 use lib.Seq.{length-take-le, getD-take, drop-cons, getD-set-same, getD-set-other}
-use Rattle.executive.specs.Lists.{pick, one, sumOf, upTo, allOf, each}
+use Rattle.executive.specs.Lists.{one, sumOf, upTo, allOf, each}
 use Rattle.executive.specs.Places.{nobody, entryPlace}
 use Rattle.executive.specs.Check.{Tallies}
 
@@ -35,11 +35,11 @@ module _ {A : Type 0} (f : A → ℕ) (d : A) (p : List A) (n : ℕ) (hn : n ≤
       drop-cons (take n p) (i - 1) d (omega arith) ∙ rw (getD-take n p (i - 1) d (omega arith), s) refl in
       rw (x, e) refl
 
-stuck : (b : Bool) → pick b false false ≡ false
+stuck : (b : Bool) → cond b false false ≡ false
 stuck true = refl
 stuck false = refl
 
-pub both : (a b : Bool) → pick a b false ≡ true → (a ≡ true) × (b ≡ true)
+pub both : (a b : Bool) → cond a b false ≡ true → (a ≡ true) × (b ≡ true)
 both true b e = (refl, e)
 both false b e = absurd (let z : _≡_ {A = ℕ} 0 1 = cc in omega arith)
 
@@ -124,7 +124,7 @@ unfolding entryPlace
 more-counts c zero j l h = more-other c 16 j (λ e. omega arith) ∙ rw (ne-eqb (suc j) 0 (λ e. omega arith)) (omega arith)
 more-counts c (suc i) j l h = go (ltb i 16) refl (eqb (suc j) (suc i)) refl
   where
-    go : (b : Bool) → ltb i 16 ≡ b → (d : Bool) → eqb (suc j) (suc i) ≡ d → getD (set c (pick b i 16) (getD c (pick b i 16) 0 + 1)) j 0 ≡ one d + getD c j 0
+    go : (b : Bool) → ltb i 16 ≡ b → (d : Bool) → eqb (suc j) (suc i) ≡ d → getD (set c (cond b i 16) (getD c (cond b i 16) 0 + 1)) j 0 ≡ one d + getD c j 0
     go true e true f = more-same c i j (omega arith) (omega (arith, eqb-true (suc j) (suc i) f)) ∙ omega arith
     go true e false f = more-other c i j (λ q. eqb-false (suc j) (suc i) f (omega arith)) ∙ omega arith
     go false e true f = absurd (omega (arith, ltb-false i 16 e, eqb-true (suc j) (suc i) f))

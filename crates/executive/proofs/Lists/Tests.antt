@@ -12,14 +12,14 @@ use borrow.Author.Tests.{le-leb, le-ltb, ltb-false, leb-true}
 use Rattle.executive.proofs.Lists.Loops.{both}
 
 -- ---- tests as numbers
-pub T-of : (b : Bool) → b ≡ true → T b
-T-of b e = rw e tt
+pub So-of-true : (b : Bool) → b ≡ true → T b
+So-of-true b e = rw e tt
 
-pub nT-of : (b : Bool) → b ≡ false → T (not b)
-nT-of b e = rw e tt
+pub So-not-of-false : (b : Bool) → b ≡ false → T (not b)
+So-not-of-false b e = rw e tt
 
-pub clash : {A : Type 0} → false ≡ true → A
-clash e = absurd (let z : _≡_ {A = ℕ} 0 1 = cc in omega arith)
+pub false-not-true : {A : Type 0} → false ≡ true → A
+false-not-true e = absurd (let z : _≡_ {A = ℕ} 0 1 = cc in omega arith)
 
 -- which way a test went, with the fact that it says
 pub data Le (m n : ℕ) : Bool → Type 0 where
@@ -30,8 +30,8 @@ pub leb-is : (m n : ℕ) → Le m n (leb m n)
 leb-is m n = go (leb m n) refl
   where
     go : (b : Bool) → leb m n ≡ b → Le m n b
-    go true e = le-yes (leb→le m n (T-of (leb m n) e))
-    go false e = le-no (nleb→lt m n (nT-of (leb m n) e))
+    go true e = le-yes (leb→le m n (So-of-true (leb m n) e))
+    go false e = le-no (nleb→lt m n (So-not-of-false (leb m n) e))
 
 pub data Lt (m n : ℕ) : Bool → Type 0 where
   lt-yes : m < n → Lt m n true
@@ -41,8 +41,8 @@ pub ltb-is : (m n : ℕ) → Lt m n (ltb m n)
 ltb-is m n = go (ltb m n) refl
   where
     go : (b : Bool) → ltb m n ≡ b → Lt m n b
-    go true e = lt-yes (ltb→lt m n (T-of (ltb m n) e))
-    go false e = lt-no (nltb→le m n (nT-of (ltb m n) e))
+    go true e = lt-yes (ltb→lt m n (So-of-true (ltb m n) e))
+    go false e = lt-no (nltb→le m n (So-not-of-false (ltb m n) e))
 
 pub one-lt : (m n : ℕ) → m < n → one (ltb m n) ≡ 1
 one-lt m n h = go (ltb m n) (ltb-is m n)
@@ -90,31 +90,31 @@ pub eqb-swap : (a b : ℕ) → eqb a b ≡ false → eqb b a ≡ false
 eqb-swap a b h = go (eqb b a) refl
   where
     go : (c : Bool) → eqb b a ≡ c → c ≡ false
-    go true f = absurd (eqb-no a b h (sym (eqb→eq b a (T-of (eqb b a) f))))
+    go true f = absurd (eqb-no a b h (sym (eqb→eq b a (So-of-true (eqb b a) f))))
     go false f = refl
 
-pub split : (a b : Bool) → (a and b) ≡ true → (a ≡ true) × (b ≡ true)
-split true b e = (refl, e)
-split false b e = absurd (let z : _≡_ {A = ℕ} 0 1 = cc in omega arith)
+pub and-true : (a b : Bool) → (a and b) ≡ true → (a ≡ true) × (b ≡ true)
+and-true true b e = (refl, e)
+and-true false b e = absurd (let z : _≡_ {A = ℕ} 0 1 = cc in omega arith)
 
-pub paired : (a b : Bool) → a ≡ true → b ≡ true → (a and b) ≡ true
-paired a b p q = rw (p, q) refl
+pub true-and : (a b : Bool) → a ≡ true → b ≡ true → (a and b) ≡ true
+true-and a b p q = rw (p, q) refl
 
 -- the first of two fails; the second does
-pub here : (a b : Bool) → a ≡ false → false ≡ (a and b)
-here a b e = rw e refl
+pub and-false-left : (a b : Bool) → a ≡ false → false ≡ (a and b)
+and-false-left a b e = rw e refl
 
-pub beyond : (a b : Bool) → false ≡ b → false ≡ (a and b)
-beyond true b e = e
-beyond false b e = refl
+pub and-false-right : (a b : Bool) → false ≡ b → false ≡ (a and b)
+and-false-right true b e = e
+and-false-right false b e = refl
 
 -- the first passes, and the second decides
-pub onward : (a b r : Bool) → a ≡ true → r ≡ b → r ≡ (a and b)
-onward a b r e f = rw e f
+pub and-true-left : (a b r : Bool) → a ≡ true → r ≡ b → r ≡ (a and b)
+and-true-left a b r e f = rw e f
 
 -- what is false is what fails
-pub shut : {r x : Bool} → r ≡ false → false ≡ x → r ≡ x
-shut e f = e ∙ f
+pub both-false : {r x : Bool} → r ≡ false → false ≡ x → r ≡ x
+both-false e f = e ∙ f
 
 pub one-none : (b : Bool) → one b ≡ 0 → not b ≡ true
 one-none true e = absurd (omega arith)

@@ -1,6 +1,6 @@
 -- The plan of kind 0B is good.
 use mathlib.Core.Path.{_≡_, refl, _∙_}
-use mathlib.Core.Bool.{Bool, true, false}
+use mathlib.Core.Bool.{Bool, true, false, cond}
 use mathlib.Core.List.{[]}
 use Prim.Native.Nat.{ℕ, _+_, _-_, _≤_, _<_}
 use native.Mathlib.Omega.{arith}
@@ -12,18 +12,17 @@ use Rattle.executive.specs.Numbers.{lastUnit, longest}
 use Rattle.executive.specs.declared.Millis.{Millis}
 use Rattle.executive.specs.declared.Table.{Table}
 use Rattle.executive.specs.Plans.{setPlan, alarmPlan}
-use Rattle.executive.specs.Lists.{pick}
 use Rattle.executive.specs.Clock.{withAlarm, interval}
 use Rattle.executive.specs.Places.{never}
 use Rattle.executive.specs.Table.{stays}
 use Rattle.executive.specs.WellFormed.{Stored}
-use Rattle.executive.proofs.Plans.WorkingForm.{Formed}
+use Rattle.executive.proofs.Plans.WorkingForm.{WellFormedByPart}
 use Rattle.executive.proofs.clock.Interval.{interval-most, interval-some}
 use Rattle.executive.proofs.Lists.Sums.{set-all}
 use Rattle.executive.proofs.Plans.GoodIsKept.{puts, Good}
 use Rattle.executive.proofs.Plans.Flag.{set-good}
 
-module _ (t : Table) (w : Formed t) where
+module _ (t : Table) (w : WellFormedByPart t) where
   -- ---- 0B
   pub alarm-good : (unit n : ℕ) (f : FlagNo) → unit ≤ lastUnit → n < 256 → Good (alarmPlan t unit n f) t
   unfolding alarmPlan puts
@@ -32,7 +31,7 @@ module _ (t : Table) (w : Formed t) where
       at : Millis
       at = record { 0 = t .rest .clock .0 + interval unit n .0 }
 
-      go : (b : Bool) → eqb n 0 ≡ b → Good (pick b (setPlan t f) (record { out = stays; ins = []; rest = withAlarm (f .0) at (t .rest) })) t
+      go : (b : Bool) → eqb n 0 ≡ b → Good (cond b (setPlan t f) (record { out = stays; ins = []; rest = withAlarm (f .0) at (t .rest) })) t
       go true e = (set-good t w) f
       go false e =
           let m : interval unit n .0 ≤ longest = interval-most unit n hn in
@@ -48,7 +47,7 @@ module _ (t : Table) (w : Formed t) where
               clocked = w .rested .clocked;
               sized = length-set (t .rest .alarms) (f .0) at ∙ w .rested .sized;
               alarms = set-all (λ (i : ℕ) (x : Millis). 0 < x .0 → Stored (t .rest .clock .0) (x .0)) (t .rest .alarms) (f .0) at never (λ _. (omega arith, omega arith)) (w .rested .alarms);
-              levels = w .rested .levels;
+              priorities = w .rested .priorities;
               neat = record { room = w .rested .neat .room; clear = w .rested .neat .clear };
             };
           }

@@ -1,6 +1,6 @@
 -- The plan of kind 03 is good.
 use mathlib.Core.Path.{_≡_, refl}
-use mathlib.Core.Bool.{Bool, true, false}
+use mathlib.Core.Bool.{Bool, true, false, cond}
 use mathlib.Core.List.{[], _∷_}
 use Prim.Native.Nat.{ℕ, _≤_}
 use native.Mathlib.Omega.{arith}
@@ -11,27 +11,26 @@ use Rattle.executive.specs.declared.Millis.{Millis}
 use Rattle.executive.specs.declared.State.{State}
 use Rattle.executive.specs.declared.Table.{Table}
 use Rattle.executive.specs.Entries.{aimed}
-use Rattle.executive.specs.Plans.{stateAt, nothing, raising, rises, cancelPlan}
-use Rattle.executive.specs.Lists.{pick}
+use Rattle.executive.specs.Plans.{stateAt, nothing, raising, rises, cancelPausePlan}
 use Rattle.executive.specs.Places.{taskAt}
 use Rattle.executive.specs.Pool.{requests}
 use Rattle.executive.specs.Table.{stays}
-use Rattle.executive.specs.States.{isPaused, paused, due, kindOf}
-use Rattle.executive.proofs.Plans.WorkingForm.{Formed}
-use Rattle.executive.proofs.Plans.LinksKept.{ok-up, up-ok}
+use Rattle.executive.specs.States.{isPaused, paused, due, stateKind}
+use Rattle.executive.proofs.Plans.WorkingForm.{WellFormedByPart}
+use Rattle.executive.proofs.Plans.LinksKept.{links-up, up-links}
 use Rattle.executive.proofs.Plans.GoodIsKept.{puts, Good}
-use Rattle.executive.proofs.Plans.Shared.{OwnOf, nothing-good}
+use Rattle.executive.proofs.Plans.Shared.{EntryOkIn, nothing-good}
 use Rattle.executive.proofs.Plans.Rising.{Tells, One, one-task}
 use Rattle.executive.proofs.states.Laws.{of-kind, counted}
 
 -- ---- 03
-paused-waits : (s : State) → isPaused s ≡ true → counted (kindOf s) ≡ 0
+paused-waits : (s : State) → isPaused s ≡ true → counted (stateKind s) ≡ 0
 paused-waits s e = of-kind (λ (k : ℕ). counted k ≡ 0) paused refl s e
 
 paused-aims : (c : ℕ) (s : State) (at : Millis) → isPaused s ≡ true → at .0 ≤ c → aimed s at .0 ≤ c
 paused-aims c s at e h = rw (of-kind (λ (k : ℕ). eqb due k ≡ false) paused refl s e) h
 
-module _ (t : Table) (w : Formed t) where
+module _ (t : Table) (w : WellFormedByPart t) where
   abbrev now : ℕ
   now = t .rest .clock .0
 
@@ -39,28 +38,28 @@ module _ (t : Table) (w : Formed t) where
   paused-tells = record { onward = omega arith; waits = paused-waits; aims = paused-aims now; calms = λ s e m. m }
 
   raised : (k : TaskNo) → One (rises isPaused (k .0) (taskAt (t .tasks) (k .0))) (t .tasks) (requests (t .rest)) now (t .rest .flags) (t .rest .count) (k .0)
-  raised k = one-task isPaused (requests (t .rest)) now (t .rest .flags) now (t .rest .flags) (t .rest .count) paused-tells (t .tasks) (k .0) (ok-up (w .links)) (taskAt (t .tasks) (k .0)) refl (w .own (k .0))
+  raised k = one-task isPaused (requests (t .rest)) now (t .rest .flags) now (t .rest .flags) (t .rest .count) paused-tells (t .tasks) (k .0) (links-up (w .links)) (taskAt (t .tasks) (k .0)) refl (w .own (k .0))
 
   -- whoever is paused enters
   raise-good : (k : TaskNo) → Good (record { out = stays; ins = rises isPaused (k .0) (taskAt (t .tasks) (k .0)); rest = t .rest }) t
   raise-good k = record {
     leaving = refl;
     joining = raised k .joining;
-    linked = up-ok (raised k .linked);
+    linked = up-links (raised k .linked);
     own = λ j. go j (eqb j (k .0)) refl;
     rested = w .rested;
   }
     where
-      go : (j : ℕ) (b : Bool) → eqb j (k .0) ≡ b → OwnOf (t .rest) j (taskAt (puts (rises isPaused (k .0) (taskAt (t .tasks) (k .0))) (t .tasks)) j)
+      go : (j : ℕ) (b : Bool) → eqb j (k .0) ≡ b → EntryOkIn (t .rest) j (taskAt (puts (rises isPaused (k .0) (taskAt (t .tasks) (k .0))) (t .tasks)) j)
       go j true e = rw (eqb-true j (k .0) e) (raised k .own)
       go j false e = rw (raised k .rest j e) (w .own j)
 
-  pub cancel-good : (k : TaskNo) → Good (cancelPlan t k) t
-  unfolding cancelPlan rises
+  pub cancel-good : (k : TaskNo) → Good (cancelPausePlan t k) t
+  unfolding cancelPausePlan rises
   cancel-good k = go (isPaused (stateAt t k)) refl (raise-good k)
     where
       go : (b : Bool) → isPaused (stateAt t k) ≡ b
-          → Good (record { out = stays; ins = pick b (raising k ∷ []) []; rest = t .rest }) t
-          → Good (pick b (record { out = stays; ins = raising k ∷ []; rest = t .rest }) (nothing t)) t
+          → Good (record { out = stays; ins = cond b (raising k ∷ []) []; rest = t .rest }) t
+          → Good (cond b (record { out = stays; ins = raising k ∷ []; rest = t .rest }) (nothing t)) t
       go true e g = g
       go false e g = nothing-good t w

@@ -1,6 +1,6 @@
 -- The plan of kind 09 is good.
 use mathlib.Core.Path.{refl, _∙_}
-use mathlib.Core.Bool.{Bool, true, false}
+use mathlib.Core.Bool.{Bool, true, false, cond}
 use Prim.Native.Nat.{ℕ, _^_, _-_}
 use native.Mathlib.Omega.{arith}
 use lib.Dec.{eqb}
@@ -10,13 +10,12 @@ use Rattle.executive.specs.declared.State.{State}
 use Rattle.executive.specs.declared.Table.{Table}
 use Rattle.executive.specs.Plans.{nothing, holds, risers, setPlan, resetPlan, flagPlan, over}
 use Rattle.executive.specs.Flags.{withFlags, flagSet, flagReset}
-use Rattle.executive.specs.Lists.{pick}
 use Rattle.executive.specs.Places.{taskAt}
 use Rattle.executive.specs.Pool.{requests}
 use Rattle.executive.specs.States.{maskOf, waitMode}
 use Rattle.executive.specs.WellFormed.{Unmet}
-use Rattle.executive.proofs.Plans.WorkingForm.{Rested, Formed}
-use Rattle.executive.proofs.Plans.LinksKept.{ok-up, up-ok}
+use Rattle.executive.proofs.Plans.WorkingForm.{RestOk, WellFormedByPart}
+use Rattle.executive.proofs.Plans.LinksKept.{links-up, up-links}
 use Rattle.executive.proofs.Plans.GoodIsKept.{puts, Good}
 use Rattle.executive.proofs.Plans.Shared.{nothing-good}
 use Rattle.executive.proofs.Plans.Rising.{Tells, Done, all-risen}
@@ -39,16 +38,16 @@ holds-tells c fa fs =
 unmet-fewer : (fs x : ℕ) (s : State) → Unmet fs s → Unmet (bitAnd fs x) s
 unmet-fewer fs x s u e = (u e .0, met-fewer fs x (waitMode s) (maskOf s) (u e .1))
 
-module _ (t : Table) (w : Formed t) where
+module _ (t : Table) (w : WellFormedByPart t) where
   -- the rest with other flags
-  flagged : (fs : ℕ) → Rested (withFlags fs (t .rest))
+  flagged : (fs : ℕ) → RestOk (withFlags fs (t .rest))
   flagged fs = record {
     count = w .rested .count;
     granule = w .rested .granule;
     clocked = w .rested .clocked;
     sized = w .rested .sized;
     alarms = w .rested .alarms;
-    levels = w .rested .levels;
+    priorities = w .rested .priorities;
     neat = record { room = w .rested .neat .room; clear = w .rested .neat .clear };
   }
 
@@ -59,8 +58,8 @@ module _ (t : Table) (w : Formed t) where
       let fs : ℕ = flagSet (t .rest .flags) (f .0) in
       let now : ℕ = t .rest .clock .0 in
       let d : Done (risers (holds fs) 1 (t .tasks)) (t .tasks) (requests (t .rest)) now fs (t .rest .count) =
-      all-risen (holds fs) (requests (t .rest)) now (t .rest .flags) now fs (t .rest .count) (holds-tells now (t .rest .flags) fs) (t .tasks) (ok-up (w .links)) (w .own) in
-      record { leaving = refl; joining = d .joining; linked = up-ok (d .linked); own = d .own; rested = flagged fs }
+      all-risen (holds fs) (requests (t .rest)) now (t .rest .flags) now fs (t .rest .count) (holds-tells now (t .rest .flags) fs) (t .tasks) (links-up (w .links)) (w .own) in
+      record { leaving = refl; joining = d .joining; linked = up-links (d .linked); own = d .own; rested = flagged fs }
 
   pub reset-good : (f : FlagNo) → Good (resetPlan t f) t
   unfolding resetPlan puts
@@ -85,7 +84,7 @@ module _ (t : Table) (w : Formed t) where
   unfolding flagPlan
   flag-good operation f = go (eqb operation 0) (eqb operation 1)
     where
-      go : (a b : Bool) → Good (pick a (resetPlan t f) (pick b (setPlan t f) (nothing t))) t
+      go : (a b : Bool) → Good (cond a (resetPlan t f) (cond b (setPlan t f) (nothing t))) t
       go true b = reset-good f
       go false true = set-good f
       go false false = nothing-good t w

@@ -11,14 +11,14 @@ use Rattle.executive.specs.declared.Task.{Task}
 use Rattle.executive.specs.declared.Table.{Table}
 use Rattle.executive.specs.declared.Work.{Work}
 use Rattle.executive.specs.Queue.{count}
-use Rattle.executive.specs.Table.{Fit, line, items, headOf, Out, stays, leaves, Join, Plan, entered, depart, join, joins, withRest, apply, begin, admit, admits, carry, change-at, outTasks}
+use Rattle.executive.specs.Table.{ArraysInOrder, line, items, headOf, Out, stays, leaves, Join, Plan, entered, depart, join, joins, withRest, apply, begin, enterInFlight, enterAllInFlight, applyInFlight, change-at, outTasks}
 use Rattle.executive.specs.Pool.{requests}
 use Rattle.executive.specs.Places.{taskAt, putAt}
 use Rattle.executive.specs.States.{ready, is}
 use Rattle.executive.specs.WellFormed.{Line}
-use Rattle.executive.proofs.Plans.WorkingForm.{AllOwn, LinksOk, Rested, Formed}
+use Rattle.executive.proofs.Plans.WorkingForm.{EntriesOk, LinksOk, RestOk, WellFormedByPart}
 use Rattle.executive.proofs.queue.ArraysAreLists.{line-length, departed-fit, entered-fit}
-use Rattle.executive.proofs.Plans.Moves.{Entering, Sound, out-tasks, leave-line}
+use Rattle.executive.proofs.Plans.Moves.{Entering, MovesAreLegal, out-tasks, leave-line}
 use Rattle.executive.proofs.Plans.QueueKept.{Joins, join-kept, head-is, line-out}
 use Rattle.executive.proofs.Plans.Size.{room-to-enter}
 
@@ -44,8 +44,8 @@ pub record Good (p : Plan) (t : Table) : Type 0 where
   pub leaving : outReady (p .out) (taskAt (t .tasks) (headOf (line t) .0)) ≡ 0
   pub joining : JoinsAll (p .ins) (outTasks (p .out) (t .tasks) (headOf (line t) .0))
   pub linked : LinksOk (after-tasks p t) (requests (p .rest))
-  pub own : AllOwn (p .rest) (after-tasks p t)
-  pub rested : Rested (p .rest)
+  pub own : EntriesOk (p .rest) (after-tasks p t)
+  pub rested : RestOk (p .rest)
 
 pub joins-tasks : (js : List Join) (t : Table) → joins js t .tasks ≡ puts js (t .tasks)
 unfolding joins puts join entered
@@ -53,45 +53,45 @@ joins-tasks [] t = refl
 joins-tasks (j ∷ js) t = joins-tasks js (join j t)
 
 -- the entries in flight come to the same table, and nobody finds the queue full
-pub record Through (js : List Join) (w : Work) (t : Table) : Type 0 where
-  pub table : admits js w .table ≡ joins js t
-  pub full : admits js w .full ≡ w .full
+pub record FlightIsJoins (js : List Join) (w : Work) (t : Table) : Type 0 where
+  pub table : enterAllInFlight js w .table ≡ joins js t
+  pub full : enterAllInFlight js w .full ≡ w .full
 
 -- what the entries come to, one after the other
-pub record Came (js : List Join) (t : Table) : Type 0 where
+pub record JoinsKeep (js : List Join) (t : Table) : Type 0 where
   pub queue : Line ready (joins js t .tasks) (line (joins js t))
   pub entering : Entering js t
-  pub fit : Fit (joins js t)
-  pub room : (w : Work) → w .table ≡ t → Through js w t
+  pub fit : ArraysInOrder (joins js t)
+  pub room : (w : Work) → w .table ≡ t → FlightIsJoins js w t
 
-joined-fit : (j : Join) (t : Table) → Fit t → t .ready < 16 → Fit (join j t)
+joined-fit : (j : Join) (t : Table) → ArraysInOrder t → t .ready < 16 → ArraysInOrder (join j t)
 unfolding join
 joined-fit j t f m = entered-fit t f (j .who) (j .change (taskAt (t .tasks) (j .who .0))) m
 
 admit-room : (j : Join) (w : Work) (t : Table) → w .table ≡ t → t .ready < 16
-    → (admit (j .who) (j .change (taskAt (w .table .tasks) (j .who .0))) w .table ≡ join j t) × (admit (j .who) (j .change (taskAt (w .table .tasks) (j .who .0))) w .full ≡ w .full)
-unfolding join admit
+    → (enterInFlight (j .who) (j .change (taskAt (w .table .tasks) (j .who .0))) w .table ≡ join j t) × (enterInFlight (j .who) (j .change (taskAt (w .table .tasks) (j .who .0))) w .full ≡ w .full)
+unfolding join enterInFlight
 admit-room j w t e m = rw (e, lt-ltb (t .ready) 16 m) (refl, refl)
 
 joined-tasks : (j : Join) (t : Table) → join j t .tasks ≡ change-at (t .tasks) (j .who .0) (j .change)
 unfolding join entered
 joined-tasks j t = refl
 
-pub joins-kept : (js : List Join) (t : Table) → Fit t → Line ready (t .tasks) (line t) → JoinsAll js (t .tasks) → Came js t
-unfolding joins admits
+pub joins-kept : (js : List Join) (t : Table) → ArraysInOrder t → Line ready (t .tasks) (line t) → JoinsAll js (t .tasks) → JoinsKeep js t
+unfolding joins enterAllInFlight
 joins-kept [] t f q h = record { queue = q; entering = tt; fit = f; room = λ w e. record { table = e; full = refl } }
 joins-kept (j ∷ js) t f q h =
     let l : length (line t) < 16 = room-to-enter j (t .tasks) (line t) (f .all) q (h .0) in
     let n : length (line t) ≡ t .ready = line-length t f in
     let m : t .ready < 16 = omega arith in
-    let r : Came js (join j t) = joins-kept js (join j t) (joined-fit j t f m) (join-kept j t q (h .0)) (rw (joined-tasks j t) (h .1)) in
+    let r : JoinsKeep js (join j t) = joins-kept js (join j t) (joined-fit j t f m) (join-kept j t q (h .0)) (rw (joined-tasks j t) (h .1)) in
     record {
       queue = r .queue;
       entering = (record { names = h .0 .names; absent = q .exact (j .who .0) ∙ h .0 .before }, r .entering);
       fit = r .fit;
       room = λ w e.
           let a = admit-room j w t e m in
-          let x = r .room (admit (j .who) (j .change (taskAt (w .table .tasks) (j .who .0))) w) (a .0) in
+          let x = r .room (enterInFlight (j .who) (j .change (taskAt (w .table .tasks) (j .who .0))) w) (a .0) in
           record { table = x .table; full = x .full ∙ a .1 };
     }
 
@@ -99,7 +99,7 @@ nobody-put : (ts : List Task) (e : Task) → Line ready ts [] → Line ready (pu
 unfolding putAt
 nobody-put ts e q = q
 
-out-kept : (o : Out) (t : Table) → Fit t → Line ready (t .tasks) (line t) → outReady o (taskAt (t .tasks) (headOf (line t) .0)) ≡ 0 → Fit (depart o t) × Line ready (depart o t .tasks) (line (depart o t))
+out-kept : (o : Out) (t : Table) → ArraysInOrder t → Line ready (t .tasks) (line t) → outReady o (taskAt (t .tasks) (headOf (line t) .0)) ≡ 0 → ArraysInOrder (depart o t) × Line ready (depart o t .tasks) (line (depart o t))
 unfolding depart
 out-kept stays t f q h = (f, q)
 out-kept (leaves g) t f q h = (departed-fit t f (g (taskAt (t .tasks) (headOf (line t) .0))), rw (leave-line g t, out-tasks (leaves g) t) (go (line t) q h))
@@ -113,19 +113,19 @@ unfolding items count
 once ts [] q = refl
 once ts (c ∷ r) q = head-is ready ts c r (omega arith) q .alone
 
-pub record Kept (p : Plan) (t : Table) : Type 0 where
-  pub formed : Formed (apply p t)
-  pub sound : Sound p t
-  pub table : carry p t .table ≡ apply p t
-  pub never-full : carry p t .full ≡ false
+pub record GoodOutcome (p : Plan) (t : Table) : Type 0 where
+  pub formed : WellFormedByPart (apply p t)
+  pub sound : MovesAreLegal p t
+  pub table : applyInFlight p t .table ≡ apply p t
+  pub never-full : applyInFlight p t .full ≡ false
 
-pub apply-kept : (p : Plan) (t : Table) → Formed t → Good p t → Kept p t
-unfolding apply carry
+pub apply-kept : (p : Plan) (t : Table) → WellFormedByPart t → Good p t → GoodOutcome p t
+unfolding apply applyInFlight
 apply-kept p t w g =
     let d : Table = depart (p .out) t in
     let e : d .tasks ≡ outTasks (p .out) (t .tasks) (headOf (line t) .0) = out-tasks (p .out) t in
-    let q : Fit d × Line ready (d .tasks) (line d) = out-kept (p .out) t (w .fit) (w .queue) (g .leaving) in
-    let k : Came (p .ins) d = joins-kept (p .ins) d (q .0) (q .1) (rw e (g .joining)) in
+    let q : ArraysInOrder d × Line ready (d .tasks) (line d) = out-kept (p .out) t (w .fit) (w .queue) (g .leaving) in
+    let k : JoinsKeep (p .ins) d = joins-kept (p .ins) d (q .0) (q .1) (rw e (g .joining)) in
     let f : joins (p .ins) d .tasks ≡ after-tasks p t = joins-tasks (p .ins) d ∙ ap (puts (p .ins)) e in
     record {
       formed = record {

@@ -69,7 +69,7 @@ abbrev pub Entering : List Join → Table → Type 0
 Entering [] t = Unit {0}
 Entering (j ∷ js) t = Enters j t × Entering js (join j t)
 
-pub record Sound (p : Plan) (t : Table) : Type 0 where
+pub record MovesAreLegal (p : Plan) (t : Table) : Type 0 where
   pub once : count (headOf (line t) .0) (items (t .tasks) (tail (line t))) ≡ 0
   pub entering : Entering (p .ins) (depart (p .out) t)
 
@@ -87,7 +87,7 @@ unfolding depart departed
 out-tasks stays t = refl
 out-tasks (leaves f) t = refl
 
-pub apply-view : (p : Plan) (t : Table) → Sound p t
+pub apply-view : (p : Plan) (t : Table) → MovesAreLegal p t
     → (view (apply p t) ≡ play (movesOf p t) (view t)) × Fresh (movesOf p t .ins) (left (movesOf p t .out) (view t))
 unfolding apply play movesOf
 apply-view p t s =

@@ -1,6 +1,6 @@
 -- The queue's rule is kept by every plan whose caller leaves to a state that is not ready, and whose joining tasks were not ready and are.
 use mathlib.Core.Path.{_≡_, refl, sym, _∙_}
-use mathlib.Core.Bool.{Bool, true, false}
+use mathlib.Core.Bool.{Bool, true, false, cond}
 use mathlib.Core.List.{List, _∷_}
 use Prim.Native.Nat.{ℕ, zero, suc, _+_, _≤_, _<_}
 use native.Mathlib.Omega.{arith}
@@ -11,13 +11,13 @@ use Rattle.records.specs.declared.TaskNo.{TaskNo}
 use Rattle.executive.specs.declared.State.{State}
 use Rattle.executive.specs.declared.Task.{Task}
 use Rattle.executive.specs.declared.Table.{Table}
-use Rattle.executive.specs.Lists.{pick, one}
+use Rattle.executive.specs.Lists.{one}
 use Rattle.executive.specs.Queue.{count}
 use Rattle.executive.specs.Places.{Names, noTask, taskAt, putAt}
 use Rattle.executive.specs.Table.{line, items, enterAt, Join, entered, join}
-use Rattle.executive.specs.States.{dormant, ready, awaitStart, awaitEnd, kindOf, is, isDormant}
+use Rattle.executive.specs.States.{dormant, ready, awaitStart, awaitEnd, stateKind, is, isDormant}
 use Rattle.executive.specs.WellFormed.{Line}
-use Rattle.executive.proofs.Lists.Tests.{Le, le-yes, le-no, leb-is, T-of, eqb-self}
+use Rattle.executive.proofs.Lists.Tests.{Le, le-yes, le-no, leb-is, So-of-true, eqb-self}
 use Rattle.executive.proofs.queue.Law.{insert-count, insert-desc}
 use Rattle.executive.proofs.Plans.Moves.{items-put, enter-items, join-line}
 use Rattle.executive.proofs.places.TaskAt.{put-at}
@@ -38,7 +38,7 @@ kinds : (x : ℕ) → counted x ≤ 1
 kinds x = go (eqb ready x) (eqb dormant x) (eqb awaitStart x) (eqb awaitEnd x) refl refl refl refl
   where
     eq : (n : ℕ) → eqb n x ≡ true → n ≡ x
-    eq n e = eqb→eq n x (T-of (eqb n x) e)
+    eq n e = eqb→eq n x (So-of-true (eqb n x) e)
 
     go : (a b c d : Bool) → eqb ready x ≡ a → eqb dormant x ≡ b → eqb awaitStart x ≡ c → eqb awaitEnd x ≡ d → one a + one b + one c + one d ≤ 1
     go false false false false p q r s = lit≤ tt
@@ -53,11 +53,11 @@ kinds x = go (eqb ready x) (eqb dormant x) (eqb awaitStart x) (eqb awaitEnd x) r
     go false true false true p q r s = absurd (omega (arith, eq dormant q, eq awaitEnd s))
     go false false true true p q r s = absurd (omega (arith, eq awaitStart r, eq awaitEnd s))
 
-pub not-both : (s : State) → counted (kindOf s) ≤ 1
-not-both s = kinds (kindOf s)
+pub not-both : (s : State) → counted (stateKind s) ≤ 1
+not-both s = kinds (stateKind s)
 
 pub is-le : (n : ℕ) (s : State) → is n s ≤ 1
-is-le n s = go (eqb n (kindOf s))
+is-le n s = go (eqb n (stateKind s))
   where
     go : (b : Bool) → one b ≤ 1
     go true = lit≤ tt
@@ -76,8 +76,8 @@ module _ (n : ℕ) (ts : List Task) (jn : TaskNo) (e : Task) where
         sorted = rw v (insert-desc (record { task = j; prio = e .priority }) (items ts r) (q .sorted));
       }
     where
-      go : (k : ℕ) (b : Bool) → eqb k j ≡ b → one b + count k (items ts r) ≡ pick b (is n (e .state)) (is n (taskAt ts k .state))
-      go k true f = rw (eqb→eq k j (T-of (eqb k j) f)) (omega (arith, q .exact j))
+      go : (k : ℕ) (b : Bool) → eqb k j ≡ b → one b + count k (items ts r) ≡ cond b (is n (e .state)) (is n (taskAt ts k .state))
+      go k true f = rw (eqb→eq k j (So-of-true (eqb k j) f)) (omega (arith, q .exact j))
       go k false f = omega (arith, q .exact k)
 
 -- the head of a line
@@ -92,12 +92,12 @@ head-is n ts c r z q =
     let e : one (eqb (c .0) (c .0)) + count (c .0) (items ts r) ≡ is n (taskAt ts (c .0) .state) = q .exact (c .0) in
     let e′ : 1 + count (c .0) (items ts r) ≡ is n (taskAt ts (c .0) .state) = rw (eqb-self (c .0)) at e in
     let a : is n (taskAt ts (c .0) .state) ≤ 1 = is-le n (taskAt ts (c .0) .state) in
-    record { is-of = omega arith; names = busy-names ts (c .0) (busy (eqb n (kindOf (taskAt ts (c .0) .state))) refl (isDormant (taskAt ts (c .0) .state)) refl (omega arith)); alone = omega arith }
+    record { is-of = omega arith; names = busy-names ts (c .0) (busy (eqb n (stateKind (taskAt ts (c .0) .state))) refl (isDormant (taskAt ts (c .0) .state)) refl (omega arith)); alone = omega arith }
   where
-    busy : (a : Bool) → eqb n (kindOf (taskAt ts (c .0) .state)) ≡ a → (b : Bool) → isDormant (taskAt ts (c .0) .state) ≡ b → 0 < one a → one b ≡ 0
+    busy : (a : Bool) → eqb n (stateKind (taskAt ts (c .0) .state)) ≡ a → (b : Bool) → isDormant (taskAt ts (c .0) .state) ≡ b → 0 < one a → one b ≡ 0
     busy a f false g h = refl
     busy false f true g h = absurd (omega arith)
-    busy true f true g h = absurd (z (eqb→eq n _ (T-of _ f) ∙ sym (eqb→eq dormant _ (T-of _ g))))
+    busy true f true g h = absurd (z (eqb→eq n _ (So-of-true _ f) ∙ sym (eqb→eq dormant _ (So-of-true _ g))))
 
 pub line-out : (n : ℕ) (ts : List Task) (c : TaskNo) (e : Task) (r : List TaskNo) → n ≢ 0 → Line n ts (c ∷ r) → is n (e .state) ≡ 0 → Line n (putAt ts (c .0) e) r
 unfolding items count
@@ -110,7 +110,7 @@ line-out n ts c e r nz q z =
     }
   where
     go : (k : ℕ) (b : Bool) → eqb k (c .0) ≡ b → one b + count k (items ts r) ≡ is n (taskAt ts k .state)
-        → count k (items ts r) ≡ pick b (is n (e .state)) (is n (taskAt ts k .state))
+        → count k (items ts r) ≡ cond b (is n (e .state)) (is n (taskAt ts k .state))
     go k true g x = omega (arith, is-le n (taskAt ts k .state))
     go k false g x = omega arith
 

@@ -1,6 +1,6 @@
 -- The plan of kind 01 is good.
 use mathlib.Core.Path.{_≡_, refl, _∙_}
-use mathlib.Core.Bool.{Bool, true, false}
+use mathlib.Core.Bool.{Bool, true, false, cond}
 use mathlib.Core.List.{List, [], _∷_, _++_}
 use Prim.Native.Nat.{ℕ, _+_, _≤_, _<_}
 use native.Mathlib.Omega.{arith}
@@ -14,22 +14,21 @@ use Rattle.executive.specs.declared.Request.{Request}
 use Rattle.executive.specs.declared.Table.{Table}
 use Rattle.executive.specs.Entries.{risen, dueAt}
 use Rattle.executive.specs.Plans.{endWaiter, waking, raising, restartBy, restartPlan}
-use Rattle.executive.specs.Lists.{pick}
 use Rattle.executive.specs.Pool.{requests}
 use Rattle.executive.specs.Places.{Names, taskAt, putAt}
 use Rattle.executive.specs.Table.{line, headOf, leaves}
 use Rattle.executive.specs.States.{ready}
 use Rattle.executive.specs.Clock.{aimAt}
-use Rattle.executive.proofs.Plans.WorkingForm.{AllOwn, Formed, busy-own}
-use Rattle.executive.proofs.Lists.Tests.{clash, eqb-no}
+use Rattle.executive.proofs.Plans.WorkingForm.{EntriesOk, WellFormedByPart, busy-own}
+use Rattle.executive.proofs.Lists.Tests.{false-not-true, eqb-no}
 use Rattle.executive.proofs.clock.Interval.{aim-most}
 use Rattle.executive.proofs.places.TaskAt.{at-same, put-length}
-use Rattle.executive.proofs.Plans.LinksKept.{put-all, ok-up, up-ok}
+use Rattle.executive.proofs.Plans.LinksKept.{put-all, links-up, up-links}
 use Rattle.executive.proofs.Plans.Links.{alike, release}
 use Rattle.executive.proofs.Plans.GoodIsKept.{puts, Good}
-use Rattle.executive.proofs.Plans.Shared.{OwnOf, ready-own, runs, Woken, ender-in, joins-append, puts-append, wake-other, wake-length, inside}
+use Rattle.executive.proofs.Plans.Shared.{EntryOkIn, ready-own, runs, Woken, ender-in, joins-append, puts-append, wake-other, wake-length, inside}
 
-module _ (t : Table) (w : Formed t) (h : 0 < t .ready) where
+module _ (t : Table) (w : WellFormedByPart t) (h : 0 < t .ready) where
   abbrev c : TaskNo
   c = headOf (line t)
 
@@ -45,7 +44,7 @@ module _ (t : Table) (w : Formed t) (h : 0 < t .ready) where
   -- ---- 01
   -- of every task but the caller
   abbrev Else : ℕ → Task → Type 0
-  Else k x = eqb k (c .0) ≡ false → OwnOf (t .rest) k x
+  Else k x = eqb k (c .0) ≡ false → EntryOkIn (t .rest) k x
 
   module _ (aim : Millis) where
     abbrev e₁ : Task
@@ -60,7 +59,7 @@ module _ (t : Table) (w : Formed t) (h : 0 < t .ready) where
 
     freed : Woken Else (waking (endWaiter t c)) ts₄ rs 0 0 0
     freed = ender-in Else (λ k e b f y. ready-own b (f y)) ts₄ rs (endWaiter t c) 0 0
-        (release (t .tasks) rs (c .0) e₁ (runs t w h .is-ready) refl refl (ok-up (w .links)))
+        (release (t .tasks) rs (c .0) e₁ (runs t w h .is-ready) refl refl (links-up (w .links)))
         (λ k. put-all Else (t .tasks) (c .0) e₁ (runs t w h .names) (λ y. absurd (eqb-no (c .0) (c .0) y refl)) k (λ _ _. w .own k))
 
     pub still : taskAt ts₅ (c .0) ≡ e₁
@@ -70,10 +69,10 @@ module _ (t : Table) (w : Formed t) (h : 0 < t .ready) where
     there = (runs t w h .names .0, omega (arith, runs t w h .names .1, wake-length ts₄ (endWaiter t c), put-length (t .tasks) (c .0) e₁))
 
     -- every task is in order, given the caller
-    and-caller : OwnOf (t .rest) (c .0) e₁ → AllOwn (t .rest) ts₅
+    and-caller : EntryOkIn (t .rest) (c .0) e₁ → EntriesOk (t .rest) ts₅
     and-caller o k = go (eqb k (c .0)) refl
       where
-        go : (b : Bool) → eqb k (c .0) ≡ b → OwnOf (t .rest) k (taskAt ts₅ k)
+        go : (b : Bool) → eqb k (c .0) ≡ b → EntryOkIn (t .rest) k (taskAt ts₅ k)
         go true y = rw (eqb-true k (c .0) y, still) o
         go false y = freed .own k y
 
@@ -84,8 +83,8 @@ module _ (t : Table) (w : Formed t) (h : 0 < t .ready) where
         record {
           leaving = refl;
           joining = joins-append (waking (endWaiter t c)) [] ts₄ (freed .joining) tt;
-          linked = rw u (up-ok (freed .linked));
-          own = rw u (and-caller (busy-own (λ _. (z, far), clash) (w .own (c .0) .started) (w .own (c .0) .level) (w .own (c .0) .home) refl (inside t w h)));
+          linked = rw u (up-links (freed .linked));
+          own = rw u (and-caller (busy-own (λ _. (z, far), false-not-true) (w .own (c .0) .started) (w .own (c .0) .level) (w .own (c .0) .home) refl (inside t w h)));
           rested = w .rested;
         }
 
@@ -95,12 +94,12 @@ module _ (t : Table) (w : Formed t) (h : 0 < t .ready) where
     now-good z =
         let u = puts-append (waking (endWaiter t c)) (raising c ∷ []) ts₄ in
         let v : Task = risen (taskAt ts₅ (c .0)) in
-        let o : OwnOf (t .rest) (c .0) (risen e₁) = busy-own (clash, clash) z (w .own (c .0) .level) (w .own (c .0) .home) refl (inside t w h) in
+        let o : EntryOkIn (t .rest) (c .0) (risen e₁) = busy-own (false-not-true, false-not-true) z (w .own (c .0) .level) (w .own (c .0) .home) refl (inside t w h) in
         record {
           leaving = refl;
           joining = joins-append (waking (endWaiter t c)) (raising c ∷ []) ts₄ (freed .joining) (record { names = there; before = rw still refl; after = refl }, tt);
-          linked = rw u (up-ok (alike ts₅ rs (c .0) v 0 0 0 there refl (rw still refl) (rw still refl) refl (rw still refl) (freed .linked)));
-          own = rw u (λ k. put-all (OwnOf (t .rest)) ts₅ (c .0) v there (rw still o) k (λ y. freed .own k y));
+          linked = rw u (up-links (alike ts₅ rs (c .0) v 0 0 0 there refl (rw still refl) (rw still refl) refl (rw still refl) (freed .linked)));
+          own = rw u (λ k. put-all (EntryOkIn (t .rest)) ts₅ (c .0) v there (rw still o) k (λ y. freed .own k y));
           rested = w .rested;
         }
 
@@ -111,6 +110,6 @@ module _ (t : Table) (w : Formed t) (h : 0 < t .ready) where
       go : (aim : Millis) → aim .0 ≤ now + longest → Good (restartBy t c aim) t
       go aim far = by (leb (aim .0) now) refl
         where
-          by : (b : Bool) → leb (aim .0) now ≡ b → Good (record { out = leaves (dueAt aim); ins = waking (endWaiter t c) ++ pick b (raising c ∷ []) []; rest = restartBy t c aim .rest }) t
+          by : (b : Bool) → leb (aim .0) now ≡ b → Good (record { out = leaves (dueAt aim); ins = waking (endWaiter t c) ++ cond b (raising c ∷ []) []; rest = restartBy t c aim .rest }) t
           by true z = now-good aim (leb-true (aim .0) now z)
           by false z = later-good aim far (leb-false (aim .0) now z)

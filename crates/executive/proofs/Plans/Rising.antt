@@ -1,6 +1,6 @@
 -- Those whose wait is over enter, in ascending number: the plan is good. For any test f of a state, so that kinds 80 and 09 share it.
 use mathlib.Core.Path.{_≡_, refl, ap, _∙_}
-use mathlib.Core.Bool.{Bool, true, false}
+use mathlib.Core.Bool.{Bool, true, false, cond}
 use mathlib.Core.List.{List, [], _∷_}
 use Prim.Native.Nat.{ℕ, suc, _+_, _-_, _≤_, _<_}
 use native.Mathlib.Omega.{arith}
@@ -12,15 +12,14 @@ use Rattle.executive.specs.declared.Task.{Task}
 use Rattle.executive.specs.declared.Request.{Request}
 use Rattle.executive.specs.Entries.{aimed, risen}
 use Rattle.executive.specs.Plans.{rises, risers}
-use Rattle.executive.specs.Lists.{pick}
 use Rattle.executive.specs.Places.{Names, noTask, taskAt}
 use Rattle.executive.specs.Table.{Join}
-use Rattle.executive.specs.States.{dormant, ready, awaitStart, awaitEnd, is, kindOf}
-use Rattle.executive.proofs.Plans.WorkingForm.{Calm, Own, blank-own, busy-within, busy-own}
-use Rattle.executive.proofs.Lists.Tests.{clash, T-of, Le, le-yes, le-no, leb-is, eqb-no}
+use Rattle.executive.specs.States.{dormant, ready, awaitStart, awaitEnd, is, stateKind}
+use Rattle.executive.proofs.Plans.WorkingForm.{StateOk, EntryOk, blank-own, busy-within, busy-own}
+use Rattle.executive.proofs.Lists.Tests.{false-not-true, So-of-true, Le, le-yes, le-no, leb-is, eqb-no}
 use Rattle.executive.proofs.places.TaskAt.{at-same, at-other}
 use Rattle.executive.proofs.Plans.QueueKept.{busy-names}
-use Rattle.executive.proofs.Plans.LinksKept.{Up}
+use Rattle.executive.proofs.Plans.LinksKept.{LinksUpTo}
 use Rattle.executive.proofs.Plans.Links.{alike}
 use Rattle.executive.proofs.Plans.GoodIsKept.{puts, JoinsAll}
 use Rattle.executive.proofs.Plans.Shared.{joins-append, puts-append}
@@ -29,48 +28,48 @@ use Rattle.executive.proofs.states.Laws.{counted}
 -- from the clock a and the flags fa to the clock c and the flags fs, the test f tells who waits no longer
 pub record Tells (f : State → Bool) (a fa c fs : ℕ) : Type 0 where
   pub onward : a ≤ c
-  pub waits : (s : State) → f s ≡ true → counted (kindOf s) ≡ 0
+  pub waits : (s : State) → f s ≡ true → counted (stateKind s) ≡ 0
   pub aims : (s : State) (at : Millis) → f s ≡ true → at .0 ≤ a → aimed s at .0 ≤ c
-  pub calms : (s : State) → f s ≡ false → Calm a fa s → Calm c fs s
+  pub calms : (s : State) → f s ≡ false → StateOk a fa s → StateOk c fs s
 
 -- what is known while the scan stands at number k: before it, all is as it will be; from k on as it was
 pub record Mid (ts : List Task) (p : List Request) (a fa c fs n k : ℕ) (es : List Task) : Type 0 where
   pub here : (i : ℕ) → taskAt ts (k + i) ≡ getD es i noTask
-  pub front : (j : ℕ) → j < k → Own c fs n j (taskAt ts j)
-  pub back : (j : ℕ) → k ≤ j → Own a fa n j (taskAt ts j)
-  pub linked : Up ts p 0 0 0
+  pub front : (j : ℕ) → j < k → EntryOk c fs n j (taskAt ts j)
+  pub back : (j : ℕ) → k ≤ j → EntryOk a fa n j (taskAt ts j)
+  pub linked : LinksUpTo ts p 0 0 0
 
 pub record Done (js : List Join) (ts : List Task) (p : List Request) (c fs n : ℕ) : Type 0 where
   pub joining : JoinsAll js ts
-  pub linked : Up (puts js ts) p 0 0 0
-  pub own : (k : ℕ) → Own c fs n k (taskAt (puts js ts) k)
+  pub linked : LinksUpTo (puts js ts) p 0 0 0
+  pub own : (k : ℕ) → EntryOk c fs n k (taskAt (puts js ts) k)
 
 -- one task: it stays, or it enters
 pub record One (js : List Join) (ts : List Task) (p : List Request) (c fs n k : ℕ) : Type 0 where
   pub joining : JoinsAll js ts
-  pub linked : Up (puts js ts) p 0 0 0
-  pub own : Own c fs n k (taskAt (puts js ts) k)
+  pub linked : LinksUpTo (puts js ts) p 0 0 0
+  pub own : EntryOk c fs n k (taskAt (puts js ts) k)
   pub rest : (j : ℕ) → eqb j k ≡ false → taskAt (puts js ts) j ≡ taskAt ts j
 
 pub differ : (m n : ℕ) → n < m → eqb m n ≡ false
 differ m n h = go (eqb m n) refl
   where
     go : (b : Bool) → eqb m n ≡ b → b ≡ false
-    go true f = absurd (omega (arith, eqb→eq m n (T-of (eqb m n) f)))
+    go true f = absurd (omega (arith, eqb→eq m n (So-of-true (eqb m n) f)))
     go false f = refl
 
 module _ (f : State → Bool) (p : List Request) (a fa c fs n : ℕ) (tells : Tells f a fa c fs) where
-  pub one-task : (ts : List Task) (k : ℕ) → Up ts p 0 0 0 → (e : Task) → taskAt ts k ≡ e → Own a fa n k e → One (rises f k e) ts p c fs n k
+  pub one-task : (ts : List Task) (k : ℕ) → LinksUpTo ts p 0 0 0 → (e : Task) → taskAt ts k ≡ e → EntryOk a fa n k e → One (rises f k e) ts p c fs n k
   unfolding puts rises
   one-task ts k l e x y = go (f (e .state)) refl
     where
-      go : (b : Bool) → f (e .state) ≡ b → One (pick b (record { who = record { 0 = k }; change = risen } ∷ []) []) ts p c fs n k
+      go : (b : Bool) → f (e .state) ≡ b → One (cond b (record { who = record { 0 = k }; change = risen } ∷ []) []) ts p c fs n k
       go true g =
           let z : is ready (e .state) + is dormant (e .state) + is awaitStart (e .state) + is awaitEnd (e .state) ≡ 0 = tells .waits (e .state) g in
           let z′ : is ready (taskAt ts k .state) + is dormant (taskAt ts k .state) + is awaitStart (taskAt ts k .state) + is awaitEnd (taskAt ts k .state) ≡ 0 = rw x z in
           let m : Names k ts = busy-names ts k (omega arith) in
           let v : Task = risen (taskAt ts k) in
-          let o : Own c fs n k (risen e) = busy-own (clash, clash) (tells .aims (e .state) (e .start) g (y .started)) (y .level) (y .home) refl (busy-within y (omega arith)) in
+          let o : EntryOk c fs n k (risen e) = busy-own (false-not-true, false-not-true) (tells .aims (e .state) (e .start) g (y .started)) (y .level) (y .home) refl (busy-within y (omega arith)) in
           record {
             joining = (record { names = m; before = omega arith; after = refl }, tt);
             linked = alike ts p k v 0 0 0 m refl (omega arith) (omega arith) refl (omega arith) l;
@@ -95,7 +94,7 @@ module _ (f : State → Bool) (p : List Request) (a fa c fs n : ℕ) (tells : Te
   unfolding risers puts
   scanned [] k ts m = record { joining = tt; linked = m .linked; own = λ j. go j (leb k j) (leb-is k j) }
     where
-      go : (j : ℕ) (b : Bool) → Le k j b → Own c fs n j (taskAt ts j)
+      go : (j : ℕ) (b : Bool) → Le k j b → EntryOk c fs n j (taskAt ts j)
       go j true (le-yes u) =
           let i : k + (j - k) ≡ j = omega arith in
           let x : taskAt ts (k + (j - k)) ≡ noTask = m .here (j - k) in
@@ -122,12 +121,12 @@ module _ (f : State → Bool) (p : List Request) (a fa c fs n : ℕ) (tells : Te
         linked = o .linked;
       }
         where
-          at : (j : ℕ) → j < suc k → (b : Bool) → eqb j k ≡ b → Own c fs n j (taskAt (puts (rises f k e) ts) j)
-          at j u true f = rw (eqb→eq j k (T-of (eqb j k) f)) (o .own)
+          at : (j : ℕ) → j < suc k → (b : Bool) → eqb j k ≡ b → EntryOk c fs n j (taskAt (puts (rises f k e) ts) j)
+          at j u true f = rw (eqb→eq j k (So-of-true (eqb j k) f)) (o .own)
           at j u false f = rw (o .rest j f) (m .front j (omega (arith, eqb-no j k f)))
 
   -- the whole scan, over all tasks from number 1
-  pub all-risen : (ts : List Task) → Up ts p 0 0 0 → ((k : ℕ) → Own a fa n k (taskAt ts k)) → Done (risers f 1 ts) ts p c fs n
+  pub all-risen : (ts : List Task) → LinksUpTo ts p 0 0 0 → ((k : ℕ) → EntryOk a fa n k (taskAt ts k)) → Done (risers f 1 ts) ts p c fs n
   unfolding taskAt
   all-risen ts l o = scanned ts 1 ts (record {
     here = λ i. let z : 1 + i ≡ suc i = omega arith in rw z;

@@ -1,6 +1,6 @@
 -- What the plans of the calls share: the caller, entries that stay in order, those named who enter.
 use mathlib.Core.Path.{_≡_, refl}
-use mathlib.Core.Bool.{Bool, true, false}
+use mathlib.Core.Bool.{Bool, true, false, cond}
 use mathlib.Core.List.{List, [], _∷_, _++_}
 use Prim.Native.Nat.{ℕ, _+_, _≤_, _<_}
 use native.Mathlib.Omega.{arith}
@@ -16,38 +16,37 @@ use Rattle.executive.specs.declared.Rest.{Rest}
 use Rattle.executive.specs.declared.Table.{Table}
 use Rattle.executive.specs.Entries.{withState}
 use Rattle.executive.specs.Plans.{waking, nothing}
-use Rattle.executive.specs.Lists.{pick}
-use Rattle.executive.specs.Pool.{withRequests, Neat, requests}
+use Rattle.executive.specs.Pool.{withRequests, PoolInOrder, requests}
 use Rattle.executive.specs.Places.{noRequest, Names, taskAt, putAt}
 use Rattle.executive.specs.Table.{line, headOf, leaves, Join, change-at}
-use Rattle.executive.specs.States.{dormant, ready, awaitStart, awaitEnd, is, kindOf}
-use Rattle.executive.specs.WellFormed.{steepOf, Line}
-use Rattle.executive.proofs.Plans.WorkingForm.{Calm, Own, AllOwn, Rested, Formed, busy-within, busy-own}
-use Rattle.executive.proofs.Lists.Tests.{clash}
+use Rattle.executive.specs.States.{dormant, ready, awaitStart, awaitEnd, is, stateKind}
+use Rattle.executive.specs.WellFormed.{overPriority, Line}
+use Rattle.executive.proofs.Plans.WorkingForm.{StateOk, EntryOk, EntriesOk, RestOk, WellFormedByPart, busy-within, busy-own}
+use Rattle.executive.proofs.Lists.Tests.{false-not-true}
 use Rattle.executive.proofs.Lists.Pad.{line-pad}
 use Rattle.executive.proofs.queue.ArraysAreLists.{line-length}
 use Rattle.executive.proofs.places.TaskAt.{at-other, put-length}
 use Rattle.executive.proofs.Plans.QueueKept.{not-both, busy-names, head-is}
-use Rattle.executive.proofs.Plans.LinksKept.{put-all, Up, ok-up, up-ok}
+use Rattle.executive.proofs.Plans.LinksKept.{put-all, LinksUpTo, links-up, up-links}
 use Rattle.executive.proofs.Plans.Links.{alike, wake-ender, wake-starter}
 use Rattle.executive.proofs.Plans.GoodIsKept.{puts, JoinsAll, Good}
 use Rattle.executive.proofs.states.Laws.{counted}
 
 -- the entry of task k is in order, beside the rest r
-abbrev pub OwnOf : Rest → ℕ → Task → Type 0
-OwnOf r k e = Own (r .clock .0) (r .flags) (r .count) k e
+abbrev pub EntryOkIn : Rest → ℕ → Task → Type 0
+EntryOkIn r k e = EntryOk (r .clock .0) (r .flags) (r .count) k e
 
-pub own-put : (r : Rest) (ts : List Task) (j : ℕ) (e : Task) → Names j ts → OwnOf r j e → AllOwn r ts → AllOwn r (putAt ts j e)
-own-put r ts j e n h a k = put-all (OwnOf r) ts j e n h k (λ _. a k)
+pub own-put : (r : Rest) (ts : List Task) (j : ℕ) (e : Task) → Names j ts → EntryOkIn r j e → EntriesOk r ts → EntriesOk r (putAt ts j e)
+own-put r ts j e n h a k = put-all (EntryOkIn r) ts j e n h k (λ _. a k)
 
 -- a busy task's entry in another state that is busy
-pub state-own : {c fs n k : ℕ} {e : Task} (s : State) → Calm c fs s → is dormant s ≡ 0 → is dormant (e .state) ≡ 0 → Own c fs n k e → Own c fs n k (withState s e)
+pub state-own : {c fs n k : ℕ} {e : Task} (s : State) → StateOk c fs s → is dormant s ≡ 0 → is dormant (e .state) ≡ 0 → EntryOk c fs n k e → EntryOk c fs n k (withState s e)
 state-own s m z b o = busy-own m (o .started) (o .level) (o .home) z (busy-within o b)
 
-pub ready-own : {c fs n k : ℕ} {e : Task} → is dormant (e .state) ≡ 0 → Own c fs n k e → Own c fs n k (withState Ready e)
-ready-own b o = state-own Ready (clash, clash) refl b o
+pub ready-own : {c fs n k : ℕ} {e : Task} → is dormant (e .state) ≡ 0 → EntryOk c fs n k e → EntryOk c fs n k (withState Ready e)
+ready-own b o = state-own Ready (false-not-true, false-not-true) refl b o
 
-pub nothing-good : (t : Table) → Formed t → Good (nothing t) t
+pub nothing-good : (t : Table) → WellFormedByPart t → Good (nothing t) t
 unfolding puts
 nothing-good t w = record { leaving = refl; joining = tt; linked = w .links; own = w .own; rested = w .rested }
 
@@ -63,14 +62,14 @@ caller-ready : (ts : List Task) (r : List TaskNo) → Line ready ts r → 0 < le
 caller-ready ts [] q h = absurd (omega arith)
 caller-ready ts (c ∷ r) q h = head-is ready ts c r (omega arith) q .is-of
 
-pub runs : (t : Table) → Formed t → 0 < t .ready → Runs (t .tasks) (headOf (line t) .0)
+pub runs : (t : Table) → WellFormedByPart t → 0 < t .ready → Runs (t .tasks) (headOf (line t) .0)
 runs t w h =
     let r : is ready (taskAt (t .tasks) (headOf (line t) .0) .state) ≡ 1 = caller-ready (t .tasks) (line t) (w .queue) (omega (arith, line-length t (w .fit))) in
     let x = not-both (taskAt (t .tasks) (headOf (line t) .0) .state) in
     record { is-ready = r; is-busy = omega arith; no-start = omega arith; no-end = omega arith; names = busy-names (t .tasks) (headOf (line t) .0) (omega arith) }
 
 -- the caller departs to wait for a time or for flags: no link names it
-pub waits-good : (t : Table) → Formed t → 0 < t .ready → (s : State) → Calm (t .rest .clock .0) (t .rest .flags) s → counted (kindOf s) ≡ 0
+pub waits-good : (t : Table) → WellFormedByPart t → 0 < t .ready → (s : State) → StateOk (t .rest .clock .0) (t .rest .flags) s → counted (stateKind s) ≡ 0
     → Good (record { out = leaves (withState s); ins = []; rest = t .rest }) t
 unfolding puts
 waits-good t w h s m z =
@@ -81,7 +80,7 @@ waits-good t w h s m z =
     record {
       leaving = omega arith;
       joining = tt;
-      linked = up-ok (alike (t .tasks) (requests (t .rest)) c e 0 0 0 (r .names) refl (omega (arith, r .no-start)) (omega (arith, r .no-end)) d (r .is-busy) (ok-up (w .links)));
+      linked = up-links (alike (t .tasks) (requests (t .rest)) c e 0 0 0 (r .names) refl (omega (arith, r .no-start)) (omega (arith, r .no-end)) d (r .is-busy) (links-up (w .links)));
       own = own-put (t .rest) (t .tasks) c e (r .names) (state-own s m d (r .is-busy) (w .own c)) (w .own);
       rested = w .rested;
     }
@@ -90,26 +89,26 @@ waits-good t w h s m z =
 -- those named enter, one after the other; P is what is to hold of each entry
 pub record Woken (P : ℕ → Task → Type 0) (js : List Join) (ts : List Task) (p : List Request) (w s d : ℕ) : Type 0 where
   pub joining : JoinsAll js ts
-  pub linked : Up (puts js ts) p w s d
+  pub linked : LinksUpTo (puts js ts) p w s d
   pub own : (k : ℕ) → P k (taskAt (puts js ts) k)
 
 module _ (P : ℕ → Task → Type 0) (readied : (k : ℕ) (e : Task) → is dormant (e .state) ≡ 0 → P k e → P k (withState Ready e)) where
-  pub ender-in : (ts : List Task) (p : List Request) (w : TaskNo) (s d : ℕ) → Up ts p (w .0) s d → ((k : ℕ) → P k (taskAt ts k)) → Woken P (waking w) ts p 0 s d
+  pub ender-in : (ts : List Task) (p : List Request) (w : TaskNo) (s d : ℕ) → LinksUpTo ts p (w .0) s d → ((k : ℕ) → P k (taskAt ts k)) → Woken P (waking w) ts p 0 s d
   unfolding puts waking
   ender-in ts p w s d l a = go (eqb (w .0) 0) refl
     where
-      go : (b : Bool) → eqb (w .0) 0 ≡ b → Woken P (pick b [] (record { who = w; change = withState Ready } ∷ [])) ts p 0 s d
+      go : (b : Bool) → eqb (w .0) 0 ≡ b → Woken P (cond b [] (record { who = w; change = withState Ready } ∷ [])) ts p 0 s d
       go true z = record { joining = tt; linked = rw (eqb-true (w .0) 0 z) at l; own = a }
       go false z =
           let e : Task = withState Ready (taskAt ts (w .0)) in
           let r = wake-ender ts p (w .0) e s d (omega (arith, eqb-false (w .0) 0 z)) refl refl l in
           record { joining = (record { names = r .0; before = omega (arith, r .1); after = refl }, tt); linked = r .2; own = λ k. put-all P ts (w .0) e (r .0) (readied (w .0) (taskAt ts (w .0)) (omega (arith, r .1)) (a (w .0))) k (λ _. a k) }
 
-  pub starter-in : (ts : List Task) (p : List Request) (w : ℕ) (s : TaskNo) (d : ℕ) → Up ts p w (s .0) d → ((k : ℕ) → P k (taskAt ts k)) → Woken P (waking s) ts p w 0 d
+  pub starter-in : (ts : List Task) (p : List Request) (w : ℕ) (s : TaskNo) (d : ℕ) → LinksUpTo ts p w (s .0) d → ((k : ℕ) → P k (taskAt ts k)) → Woken P (waking s) ts p w 0 d
   unfolding puts waking
   starter-in ts p w s d l a = go (eqb (s .0) 0) refl
     where
-      go : (b : Bool) → eqb (s .0) 0 ≡ b → Woken P (pick b [] (record { who = s; change = withState Ready } ∷ [])) ts p w 0 d
+      go : (b : Bool) → eqb (s .0) 0 ≡ b → Woken P (cond b [] (record { who = s; change = withState Ready } ∷ [])) ts p w 0 d
       go true z = record { joining = tt; linked = rw (eqb-true (s .0) 0 z) at l; own = a }
       go false z =
           let e : Task = withState Ready (taskAt ts (s .0)) in
@@ -130,7 +129,7 @@ pub wake-other : (ts : List Task) (w : TaskNo) (k : ℕ) → eqb k (w .0) ≡ fa
 unfolding puts waking
 wake-other ts w k h = go (eqb (w .0) 0)
   where
-    go : (b : Bool) → taskAt (puts (pick b [] (record { who = w; change = withState Ready } ∷ [])) ts) k ≡ taskAt ts k
+    go : (b : Bool) → taskAt (puts (cond b [] (record { who = w; change = withState Ready } ∷ [])) ts) k ≡ taskAt ts k
     go true = refl
     go false = at-other ts (w .0) k _ h
 
@@ -138,11 +137,11 @@ pub wake-length : (ts : List Task) (w : TaskNo) → length (puts (waking w) ts) 
 unfolding puts waking
 wake-length ts w = go (eqb (w .0) 0)
   where
-    go : (b : Bool) → length (puts (pick b [] (record { who = w; change = withState Ready } ∷ [])) ts) ≡ length ts
+    go : (b : Bool) → length (puts (cond b [] (record { who = w; change = withState Ready } ∷ [])) ts) ≡ length ts
     go true = refl
     go false = put-length ts (w .0) _
 
-module _ (t : Table) (w : Formed t) (h : 0 < t .ready) where
+module _ (t : Table) (w : WellFormedByPart t) (h : 0 < t .ready) where
   abbrev c : TaskNo
   c = headOf (line t)
 
@@ -159,17 +158,17 @@ module _ (t : Table) (w : Formed t) (h : 0 < t .ready) where
   inside = busy-within (w .own (c .0)) (runs t w h .is-busy)
 
   -- the rest with other requests
-  pub pooled : (p : List Request) → Neat (withRequests p (t .rest)) → steepOf p ≡ 0 → Rested (withRequests p (t .rest))
+  pub pooled : (p : List Request) → PoolInOrder (withRequests p (t .rest)) → overPriority p ≡ 0 → RestOk (withRequests p (t .rest))
   pooled p n z = record {
     count = w .rested .count;
     granule = w .rested .granule;
     clocked = w .rested .clocked;
     sized = w .rested .sized;
     alarms = w .rested .alarms;
-    levels = rw (line-pad noRequest 32 p) z;
+    priorities = rw (line-pad noRequest 32 p) z;
     neat = n;
   }
 
   -- the caller departs to wait: its entry, in order
-  pub waits-own : (s : State) → Calm now fs s → is dormant s ≡ 0 → AllOwn (t .rest) (putAt (t .tasks) (c .0) (withState s e))
+  pub waits-own : (s : State) → StateOk now fs s → is dormant s ≡ 0 → EntriesOk (t .rest) (putAt (t .tasks) (c .0) (withState s e))
   waits-own s m z = own-put (t .rest) (t .tasks) (c .0) (withState s e) (runs t w h .names) (state-own s m z (runs t w h .is-busy) (w .own (c .0))) (w .own)

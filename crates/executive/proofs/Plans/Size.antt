@@ -15,7 +15,7 @@ use Rattle.executive.specs.Places.{noTask, taskAt, putAt}
 use Rattle.executive.specs.Table.{items, Join}
 use Rattle.executive.specs.States.{ready, is}
 use Rattle.executive.specs.WellFormed.{Line}
-use Rattle.executive.proofs.Lists.Tests.{T-of}
+use Rattle.executive.proofs.Lists.Tests.{So-of-true}
 use Rattle.executive.proofs.places.TaskAt.{sum-put, put-length}
 use Rattle.executive.proofs.Plans.QueueKept.{is-le, Head, head-is, line-out, Joins}
 
@@ -33,7 +33,7 @@ not-dormant-kind : (n : ℕ) → n ≢ 0 → is n (noTask .state) ≡ 0
 not-dormant-kind n h = go (eqb n 0) refl
   where
     go : (b : Bool) → eqb n 0 ≡ b → one b ≡ 0
-    go true f = absurd (h (eqb→eq n 0 (T-of (eqb n 0) f)))
+    go true f = absurd (h (eqb→eq n 0 (So-of-true (eqb n 0) f)))
     go false f = refl
 
 -- take the head away and make it dormant: one fewer on both sides

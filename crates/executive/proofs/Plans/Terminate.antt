@@ -1,6 +1,6 @@
 -- The plan of kind 00 is good.
 use mathlib.Core.Path.{_≡_, refl, _∙_}
-use mathlib.Core.Bool.{Bool, true, false}
+use mathlib.Core.Bool.{Bool, true, false, cond}
 use mathlib.Core.List.{List, _∷_, _++_}
 use Prim.Native.Nat.{ℕ, _+_, _≤_, _<_, zero-le}
 use native.Mathlib.Omega.{arith}
@@ -11,27 +11,27 @@ use Rattle.records.specs.declared.TaskNo.{TaskNo}
 use Rattle.executive.specs.declared.Task.{Task}
 use Rattle.executive.specs.declared.Request.{Request}
 use Rattle.executive.specs.declared.Table.{Table}
-use Rattle.executive.specs.Entries.{sleeping, begun}
-use Rattle.executive.specs.Plans.{endWaiter, begins, waking, endPlan}
-use Rattle.executive.specs.Lists.{pick, one}
+use Rattle.executive.specs.Entries.{asDormant, begun}
+use Rattle.executive.specs.Plans.{endWaiter, begins, waking, terminatePlan}
+use Rattle.executive.specs.Lists.{one}
 use Rattle.executive.specs.Pool.{placeOf, removed, withRequests, requests}
 use Rattle.executive.specs.Places.{noRequest, Names, taskAt, putAt}
 use Rattle.executive.specs.Table.{line, headOf, leaves, Join}
 use Rattle.executive.specs.States.{ready}
-use Rattle.executive.specs.WellFormed.{steepOf}
-use Rattle.executive.proofs.Plans.WorkingForm.{AllOwn, Formed, busy-own}
-use Rattle.executive.proofs.Lists.Tests.{clash}
+use Rattle.executive.specs.WellFormed.{overPriority}
+use Rattle.executive.proofs.Plans.WorkingForm.{EntriesOk, WellFormedByPart, busy-own}
+use Rattle.executive.proofs.Lists.Tests.{false-not-true}
 use Rattle.executive.proofs.queue.Law.{one-zero}
 use Rattle.executive.proofs.Lists.Pad.{line-pad}
 use Rattle.executive.proofs.queue.ArraysAreLists.{requests-length, removed-neat}
 use Rattle.executive.proofs.places.TaskAt.{at-same, put-length}
-use Rattle.executive.proofs.Plans.LinksKept.{Up, ok-up, up-ok}
+use Rattle.executive.proofs.Plans.LinksKept.{LinksUpTo, links-up, up-links}
 use Rattle.executive.proofs.Plans.Links.{retire, begin, settle, take, removed-sum, place-target, none-asked}
 use Rattle.executive.proofs.Plans.GoodIsKept.{puts, Good}
-use Rattle.executive.proofs.Plans.Shared.{OwnOf, own-put, ready-own, Runs, runs, Woken, ender-in, starter-in, joins-append, puts-append, wake-other}
+use Rattle.executive.proofs.Plans.Shared.{EntryOkIn, own-put, ready-own, Runs, runs, Woken, ender-in, starter-in, joins-append, puts-append, wake-other}
 use Rattle.executive.proofs.Plans.Shared.{wake-length, inside, pooled}
 
-module _ (t : Table) (w : Formed t) (h : 0 < t .ready) where
+module _ (t : Table) (w : WellFormedByPart t) (h : 0 < t .ready) where
   abbrev c : TaskNo
   c = headOf (line t)
 
@@ -43,14 +43,14 @@ module _ (t : Table) (w : Formed t) (h : 0 < t .ready) where
 
   -- the tasks once the caller has left
   abbrev ts₁ : List Task
-  ts₁ = putAt (t .tasks) (c .0) (sleeping e)
+  ts₁ = putAt (t .tasks) (c .0) (asDormant e)
 
   abbrev Q : ℕ → Task → Type 0
-  Q = OwnOf (t .rest)
+  Q = EntryOkIn (t .rest)
 
-  asleep-own : AllOwn (t .rest) ts₁
-  asleep-own = own-put (t .rest) (t .tasks) (c .0) (sleeping e) (runs t w h .names) (record {
-    calm = (clash, clash);
+  asleep-own : EntriesOk (t .rest) ts₁
+  asleep-own = own-put (t .rest) (t .tasks) (c .0) (asDormant e) (runs t w h .names) (record {
+    calm = (false-not-true, false-not-true);
     started = zero-le;
     level = zero-le;
     home = w .own (c .0) .home;
@@ -58,18 +58,18 @@ module _ (t : Table) (w : Formed t) (h : 0 < t .ready) where
     beyond = λ g. absurd (omega (arith, (inside t w h)));
   }) (w .own)
 
-  retired : Up ts₁ rs (e .«end_waiter» .0) 0 (c .0)
-  retired = retire (t .tasks) rs (c .0) (sleeping e) (runs t w h .is-ready) refl refl (ok-up (w .links))
+  retired : LinksUpTo ts₁ rs (e .«end_waiter» .0) 0 (c .0)
+  retired = retire (t .tasks) rs (c .0) (asDormant e) (runs t w h .is-ready) refl refl (links-up (w .links))
 
-  stop-good : length rs ≤ placeOf (c .0) rs → Good (record { out = leaves sleeping; ins = waking (endWaiter t c); rest = t .rest }) t
+  stop-good : length rs ≤ placeOf (c .0) rs → Good (record { out = leaves asDormant; ins = waking (endWaiter t c); rest = t .rest }) t
   unfolding puts
   stop-good n =
       let x : Woken Q (waking (endWaiter t c)) ts₁ rs 0 0 0 =
       ender-in Q (λ k e. ready-own) ts₁ rs (endWaiter t c) 0 0 (settle ts₁ rs (endWaiter t c .0) 0 (c .0) (none-asked (c .0) rs n) retired) asleep-own in
-      record { leaving = refl; joining = x .joining; linked = up-ok (x .linked); own = x .own; rested = w .rested }
+      record { leaving = refl; joining = x .joining; linked = up-links (x .linked); own = x .own; rested = w .rested }
 
   run-good : (i : ℕ) → placeOf (c .0) rs ≡ i → i < length rs → (q : Request) → getD rs i noRequest ≡ q
-      → Good (record { out = leaves sleeping; ins = waking (endWaiter t c) ++ (begins c q (t .rest .clock) ∷ waking (q .«start_waiter»)); rest = withRequests (removed i rs) (t .rest) }) t
+      → Good (record { out = leaves asDormant; ins = waking (endWaiter t c) ++ (begins c q (t .rest .clock) ∷ waking (q .«start_waiter»)); rest = withRequests (removed i rs) (t .rest) }) t
   unfolding puts
   run-good i ei m q eq =
       let r : Runs (t .tasks) (c .0) = runs t w h in
@@ -81,35 +81,35 @@ module _ (t : Table) (w : Formed t) (h : 0 < t .ready) where
       let y = rw eq at (take ts₂ rs (c .0) (c .0) i m tg (x .linked)) in
       let e₃ : Task = begun q (t .rest .clock) (taskAt ts₂ (c .0)) in
       let ts₃ : List Task = putAt ts₂ (c .0) e₃ in
-      let n₂ : Names (c .0) ts₂ = (r .names .0, omega (arith, r .names .1, wake-length ts₁ (endWaiter t c), put-length (t .tasks) (c .0) (sleeping e))) in
-      let a₂ : taskAt ts₂ (c .0) ≡ sleeping e = wake-other ts₁ (endWaiter t c) (c .0) o ∙ at-same (t .tasks) (c .0) (sleeping e) (r .names) in
-      let b : Up ts₃ (removed i rs) 0 (q .«start_waiter» .0) 0 =
+      let n₂ : Names (c .0) ts₂ = (r .names .0, omega (arith, r .names .1, wake-length ts₁ (endWaiter t c), put-length (t .tasks) (c .0) (asDormant e))) in
+      let a₂ : taskAt ts₂ (c .0) ≡ asDormant e = wake-other ts₁ (endWaiter t c) (c .0) o ∙ at-same (t .tasks) (c .0) (asDormant e) (r .names) in
+      let b : LinksUpTo ts₃ (removed i rs) 0 (q .«start_waiter» .0) 0 =
       begin ts₂ (removed i rs) (c .0) e₃ (q .«end_waiter» .0) (q .«start_waiter» .0) n₂ (rw a₂ refl) refl refl (y .1) (c .0) (λ k h o. o) (y .0) in
-      let z : one (ltb 15 (q .priority)) + steepOf (removed i rs) ≡ steepOf rs = rw eq at (removed-sum i rs (λ (r : Request). one (ltb 15 (r .priority))) m) in
-      let lv : q .priority ≤ 15 = ltb-false 15 (q .priority) (one-zero (ltb 15 (q .priority)) (omega (arith, w .rested .levels))) in
+      let z : one (ltb 15 (q .priority)) + overPriority (removed i rs) ≡ overPriority rs = rw eq at (removed-sum i rs (λ (r : Request). one (ltb 15 (r .priority))) m) in
+      let lv : q .priority ≤ 15 = ltb-false 15 (q .priority) (one-zero (ltb 15 (q .priority)) (omega (arith, w .rested .priorities))) in
       let v : Woken Q (waking (q .«start_waiter»)) ts₃ (removed i rs) 0 0 0 =
-      starter-in Q (λ k e. ready-own) ts₃ (removed i rs) 0 (q .«start_waiter») 0 b (own-put (t .rest) ts₂ (c .0) e₃ n₂ (busy-own (clash, clash) (omega arith) lv (x .own (c .0) .home) refl (inside t w h)) (x .own)) in
+      starter-in Q (λ k e. ready-own) ts₃ (removed i rs) 0 (q .«start_waiter») 0 b (own-put (t .rest) ts₂ (c .0) e₃ n₂ (busy-own (false-not-true, false-not-true) (omega arith) lv (x .own (c .0) .home) refl (inside t w h)) (x .own)) in
       let js : List Join = begins c q (t .rest .clock) ∷ waking (q .«start_waiter») in
       let u = puts-append (waking (endWaiter t c)) js ts₁ in
       record {
         leaving = refl;
         joining = joins-append (waking (endWaiter t c)) js ts₁ (x .joining) (record { names = n₂; before = rw a₂ refl; after = refl }, v .joining);
-        linked = rw (u, l) (up-ok (v .linked));
+        linked = rw (u, l) (up-links (v .linked));
         own = rw u (v .own);
-        rested = (pooled t w h) (removed i rs) (removed-neat (t .rest) (w .fit .neat) i (omega (arith, requests-length (t .rest) (w .fit .neat)))) (omega (arith, w .rested .levels));
+        rested = (pooled t w h) (removed i rs) (removed-neat (t .rest) (w .fit .neat) i (omega (arith, requests-length (t .rest) (w .fit .neat)))) (omega (arith, w .rested .priorities));
       }
 
-  pub end-good : Good (endPlan t) t
-  unfolding endPlan
-  end-good = go (ltb (placeOf (c .0) rs) (length rs)) refl
+  pub terminate-good : Good (terminatePlan t) t
+  unfolding terminatePlan
+  terminate-good = go (ltb (placeOf (c .0) rs) (length rs)) refl
     where
       go : (b : Bool) → ltb (placeOf (c .0) rs) (length rs) ≡ b
-          → Good (pick b
+          → Good (cond b
           (record {
-            out = leaves sleeping;
+            out = leaves asDormant;
             ins = waking (endWaiter t c) ++ (begins c (getD rs (placeOf (c .0) rs) noRequest) (t .rest .clock) ∷ waking (getD rs (placeOf (c .0) rs) noRequest .«start_waiter»));
             rest = withRequests (removed (placeOf (c .0) rs) rs) (t .rest);
           })
-          (record { out = leaves sleeping; ins = waking (endWaiter t c); rest = t .rest })) t
+          (record { out = leaves asDormant; ins = waking (endWaiter t c); rest = t .rest })) t
       go true f = run-good (placeOf (c .0) rs) refl (ltb-true _ _ f) _ refl
       go false f = stop-good (ltb-false _ _ f)

@@ -1,6 +1,6 @@
 -- The tick's plan is good.
 use mathlib.Core.Path.{_≡_, refl, _∙_}
-use mathlib.Core.Bool.{Bool, true, false, _&&_}
+use mathlib.Core.Bool.{Bool, true, false, _&&_, cond}
 use mathlib.Core.List.{List, [], _∷_}
 use Prim.Native.Nat.{ℕ, zero, suc, _+_, _^_, _≤_, _<_, zero-le}
 use native.Mathlib.Omega.{arith}
@@ -16,16 +16,16 @@ use Rattle.executive.specs.Entries.{aimed}
 use Rattle.executive.specs.Plans.{over, risers, tickPlan}
 use Rattle.executive.specs.Flags.{met, withFlags, flagSet}
 use Rattle.executive.specs.Numbers.{flagCount, endOfTime, longest}
-use Rattle.executive.specs.Lists.{pick, each}
+use Rattle.executive.specs.Lists.{each}
 use Rattle.executive.specs.Rest.{remade}
 use Rattle.executive.specs.Clock.{withAlarm, withClock, isDue, rung, advanced}
 use Rattle.executive.specs.Places.{never}
 use Rattle.executive.specs.Pool.{requests}
-use Rattle.executive.specs.States.{due, kindOf, timeOf, maskOf, isOf, hasTime, hasMask, waitMode}
-use Rattle.executive.proofs.Plans.WorkingForm.{Calm, Rested, Formed}
-use Rattle.executive.proofs.Lists.Tests.{clash, Lt, lt-yes, lt-no, ltb-is}
+use Rattle.executive.specs.States.{due, stateKind, timeOf, maskOf, isOf, hasTime, hasMask, waitMode}
+use Rattle.executive.proofs.Plans.WorkingForm.{StateOk, RestOk, WellFormedByPart}
+use Rattle.executive.proofs.Lists.Tests.{false-not-true, Lt, lt-yes, lt-no, ltb-is}
 use Rattle.executive.proofs.Lists.Sums.{set-all}
-use Rattle.executive.proofs.Plans.LinksKept.{ok-up, up-ok}
+use Rattle.executive.proofs.Plans.LinksKept.{links-up, up-links}
 use Rattle.executive.proofs.Plans.GoodIsKept.{Good}
 use Rattle.executive.proofs.Plans.Rising.{Tells, Done, all-risen}
 use Rattle.executive.proofs.states.Laws.{counted, time-waits, mask-waits, mask-no-time, due-time}
@@ -37,7 +37,7 @@ module _ {B : Type 0} (g : Rest → B)
   unfolding rung
   rung-alone r i = go (isDue (r .clock .0) (getD (r .alarms) i never))
     where
-      go : (x : Bool) → g (pick x (withFlags (flagSet (r .flags) i) (withAlarm i never r)) r) ≡ g r
+      go : (x : Bool) → g (cond x (withFlags (flagSet (r .flags) i) (withAlarm i never r)) r) ≡ g r
       go true = alone r (bitOr (r .flags) (2 ^ i)) (set (r .alarms) i never)
       go false = refl
 
@@ -51,22 +51,22 @@ module _ {B : Type 0} (g : Rest → B)
   advanced-alone r = rings-alone 32 0 (withClock (record { 0 = r .clock .0 + r .granule }) r)
 
 module _ (a fa c fs : ℕ) where
-  waits : (s : State) → over c fs s ≡ true → counted (kindOf s) ≡ 0
+  waits : (s : State) → over c fs s ≡ true → counted (stateKind s) ≡ 0
   waits s = go (hasTime s) refl (hasMask s) refl
     where
-      go : (b : Bool) → hasTime s ≡ b → (d : Bool) → hasMask s ≡ d → pick b (leb (timeOf s .0) c) (d && met fs (waitMode s) (maskOf s)) ≡ true → counted (kindOf s) ≡ 0
+      go : (b : Bool) → hasTime s ≡ b → (d : Bool) → hasMask s ≡ d → cond b (leb (timeOf s .0) c) (d && met fs (waitMode s) (maskOf s)) ≡ true → counted (stateKind s) ≡ 0
       go true t d m e = time-waits s t
       go false t true m e = mask-waits s m
-      go false t false m e = clash e
+      go false t false m e = false-not-true e
 
   aims : a ≤ c → (s : State) (at : Millis) → over c fs s ≡ true → at .0 ≤ a → aimed s at .0 ≤ c
   aims h s at e l = go (isOf due s) refl
     where
-      go : (b : Bool) → isOf due s ≡ b → pick b (timeOf s) at .0 ≤ c
+      go : (b : Bool) → isOf due s ≡ b → cond b (timeOf s) at .0 ≤ c
       go true d = leb-true (timeOf s .0) c (rw (due-time s d) at e)
       go false d = omega arith
 
-  calms : a ≤ c → (s : State) → over c fs s ≡ false → Calm a fa s → Calm c fs s
+  calms : a ≤ c → (s : State) → over c fs s ≡ false → StateOk a fa s → StateOk c fs s
   calms h s e x = (λ t. (leb-false (timeOf s .0) c (rw t at e), omega (arith, x .0 t .1)), λ m. (x .1 m .0, rw (mask-no-time s m, m) at e))
 
   pub over-tells : a ≤ c → Tells (over c fs) a fa c fs
@@ -103,7 +103,7 @@ rung-kept r k h = go (isDue (r .clock .0) (getD (r .alarms) k never)) refl
     same at = record { sized = h .sized; passed = up (λ (i : ℕ). 0 < getD (r .alarms) i never .0 → r .clock .0 < getD (r .alarms) i never .0) (h .passed) at; near = h .near }
 
     go : (x : Bool) → isDue (r .clock .0) (getD (r .alarms) k never) ≡ x
-        → Rung (pick x (withFlags (flagSet (r .flags) k) (withAlarm k never r)) r) (k + 1)
+        → Rung (cond x (withFlags (flagSet (r .flags) k) (withAlarm k never r)) r) (k + 1)
     go true e = record {
       sized = length-set (r .alarms) k never ∙ h .sized;
       passed = up (λ (i : ℕ). 0 < getD (set (r .alarms) k never) i never .0 → r .clock .0 < getD (set (r .alarms) k never) i never .0)
@@ -118,7 +118,7 @@ unfolding each
 rings-kept zero k r h = let z : k + 0 ≡ k = omega arith in rw z h
 rings-kept (suc n) k r h = let z : k + suc n ≡ k + 1 + n = omega arith in rw z (rings-kept n (k + 1) (rung r k) (rung-kept r k h))
 
-pub advanced-rung : (r : Rest) → Rested r → Rung (advanced r) 32
+pub advanced-rung : (r : Rest) → RestOk r → Rung (advanced r) 32
 unfolding advanced
 advanced-rung r w = rings-kept 32 0 (withClock (record { 0 = r .clock .0 + r .granule }) r) (record {
   sized = w .sized;
@@ -130,7 +130,7 @@ advanced-rung r w = rings-kept 32 0 (withClock (record { 0 = r .clock .0 + r .gr
     far i zero e = zero-le
     far i (suc m) e = omega (arith, w .alarms i (rw e (omega arith)), e)
 
-pub tick-good : (t : Table) → Formed t → t .rest .clock .0 + t .rest .granule ≤ endOfTime → Good (tickPlan t) t
+pub tick-good : (t : Table) → WellFormedByPart t → t .rest .clock .0 + t .rest .granule ≤ endOfTime → Good (tickPlan t) t
 unfolding tickPlan
 tick-good t w m =
     let r : Rest = advanced (t .rest) in
@@ -144,11 +144,11 @@ tick-good t w m =
     let h : t .rest .clock .0 ≤ r .clock .0 = rw k (omega arith) in
     let d : Done (risers (over (r .clock .0) (r .flags)) 1 (t .tasks)) (t .tasks) (requests (t .rest)) (r .clock .0) (r .flags) (t .rest .count) =
     all-risen (over (r .clock .0) (r .flags)) (requests (t .rest)) (t .rest .clock .0) (t .rest .flags) (r .clock .0) (r .flags) (t .rest .count)
-    (over-tells (t .rest .clock .0) (t .rest .flags) (r .clock .0) (r .flags) h) (t .tasks) (ok-up (w .links)) (w .own) in
+    (over-tells (t .rest .clock .0) (t .rest .flags) (r .clock .0) (r .flags) h) (t .tasks) (links-up (w .links)) (w .own) in
     record {
       leaving = refl;
       joining = d .joining;
-      linked = rw q (up-ok (d .linked));
+      linked = rw q (up-links (d .linked));
       own = rw cn (d .own);
       rested = record {
         count = rw cn (w .rested .count);
@@ -156,7 +156,7 @@ tick-good t w m =
         clocked = rw k m;
         sized = al .sized;
         alarms = λ i g. (al .passed i (below i g) g, al .near i);
-        levels = rw q (w .rested .levels);
+        priorities = rw q (w .rested .priorities);
         neat = record { room = rw n (w .fit .neat .room); clear = rw (q, pl) (w .fit .neat .clear) };
       };
     }

@@ -13,22 +13,22 @@ use Rattle.executive.specs.declared.Rest.{Rest}
 use Rattle.executive.specs.declared.Table.{Table}
 use Rattle.executive.specs.Numbers.{mostTasks, flagCount, highest, mostGranule, endOfTime}
 use Rattle.executive.specs.Lists.{one, sumOf}
-use Rattle.executive.specs.Pool.{Neat, requests}
-use Rattle.executive.specs.Table.{Fit, line}
+use Rattle.executive.specs.Pool.{PoolInOrder, requests}
+use Rattle.executive.specs.Table.{ArraysInOrder, line}
 use Rattle.executive.specs.Places.{never, noTask, taskAt}
 use Rattle.executive.specs.States.{dormant, ready, awaitStart, awaitEnd, is, isDormant}
-use Rattle.executive.specs.WellFormed.{targetsOf, startsOf, endsOf, runsOf, steepOf, wildOf, selfsOf, twiceOf, idleOf, Line, Stored, Timely, Unmet, Zeros, WellFormed}
+use Rattle.executive.specs.WellFormed.{targetsOf, startsOf, endsOf, runsOf, overPriority, outOfRange, waitsForItself, twoWaiters, dormantTarget, Line, Stored, Timely, Unmet, Zeros, WellFormed}
 use Rattle.executive.proofs.states.Laws.{dormant-named, dormant-kind}
-use Rattle.executive.proofs.Lists.Tests.{T-of, eqb-self, not-zero, Lt, lt-yes, lt-no, ltb-is, clash}
+use Rattle.executive.proofs.Lists.Tests.{So-of-true, eqb-self, not-zero, Lt, lt-yes, lt-no, ltb-is, false-not-true}
 use Rattle.executive.proofs.queue.ArraysAreLists.{queue-length, pool-length}
 
 -- nothing in this state is due now, at the clock c with the flags fs
-abbrev pub Calm : ℕ → ℕ → State → Type 0
-Calm c fs s = Timely c s × Unmet fs s
+abbrev pub StateOk : ℕ → ℕ → State → Type 0
+StateOk c fs s = Timely c s × Unmet fs s
 
 -- the rules on the entry of task k alone, of n tasks
-pub record Own (c fs n k : ℕ) (e : Task) : Type 0 where
-  pub calm : Calm c fs (e .state)
+pub record EntryOk (c fs n k : ℕ) (e : Task) : Type 0 where
+  pub calm : StateOk c fs (e .state)
   pub started : e .start .0 ≤ c
   pub level : e .priority ≤ highest
   pub home : e .own ≤ highest
@@ -39,41 +39,41 @@ pub record Own (c fs n k : ℕ) (e : Task) : Type 0 where
 pub record LinksOk (ts : List Task) (p : List Request) : Type 0 where
   pub starts : (k : ℕ) → 0 < k → startsOf k p ≡ is awaitStart (taskAt ts k .state)
   pub ends : (k : ℕ) → 0 < k → endsOf k p + runsOf k ts ≡ is awaitEnd (taskAt ts k .state)
-  pub others : selfsOf p ≡ 0
+  pub others : waitsForItself p ≡ 0
   pub apart : (k : ℕ) → 0 < k → eqb k (taskAt ts k .«end_waiter» .0) ≡ false
-  pub single : twiceOf p ≡ 0
+  pub single : twoWaiters p ≡ 0
   pub named : targetsOf 0 p ≡ 0
   pub busy : (k : ℕ) → 0 < k → is dormant (taskAt ts k .state) ≡ 1 → targetsOf k p ≡ 0
   pub quiet : (k : ℕ) → is dormant (taskAt ts k .state) ≡ 1 → taskAt ts k .«end_waiter» .0 ≡ 0
 
 -- the rules on the rest alone
-pub record Rested (r : Rest) : Type 0 where
+pub record RestOk (r : Rest) : Type 0 where
   pub count : (1 ≤ r .count) × (r .count ≤ mostTasks)
   pub granule : (1 ≤ r .granule) × (r .granule ≤ mostGranule)
   pub clocked : r .clock .0 ≤ endOfTime
   pub sized : length (r .alarms) ≡ flagCount
   pub alarms : (i : ℕ) → 0 < getD (r .alarms) i never .0 → Stored (r .clock .0) (getD (r .alarms) i never .0)
-  pub levels : steepOf (requests r) ≡ 0
-  pub neat : Neat r
+  pub priorities : overPriority (requests r) ≡ 0
+  pub neat : PoolInOrder r
 
 -- the entries of all tasks, beside a rest
-abbrev pub AllOwn : Rest → List Task → Type 0
-AllOwn r ts = (k : ℕ) → Own (r .clock .0) (r .flags) (r .count) k (taskAt ts k)
+abbrev pub EntriesOk : Rest → List Task → Type 0
+EntriesOk r ts = (k : ℕ) → EntryOk (r .clock .0) (r .flags) (r .count) k (taskAt ts k)
 
-pub record Formed (t : Table) : Type 0 where
-  pub fit : Fit t
+pub record WellFormedByPart (t : Table) : Type 0 where
+  pub fit : ArraysInOrder t
   pub queue : Line ready (t .tasks) (line t)
   pub links : LinksOk (t .tasks) (requests (t .rest))
-  pub own : AllOwn (t .rest) (t .tasks)
-  pub rested : Rested (t .rest)
+  pub own : EntriesOk (t .rest) (t .tasks)
+  pub rested : RestOk (t .rest)
 
 -- ---- one entry
 -- the blank entry is in order at any number
-pub blank-own : {c fs n k : ℕ} → Own c fs n k noTask
-blank-own = record { calm = (clash, clash); started = zero-le; level = zero-le; home = zero-le; zeros = λ _. record { priority = refl; argument = refl; start = refl; waiter = refl }; beyond = λ _. refl }
+pub blank-own : {c fs n k : ℕ} → EntryOk c fs n k noTask
+blank-own = record { calm = (false-not-true, false-not-true); started = zero-le; level = zero-le; home = zero-le; zeros = λ _. record { priority = refl; argument = refl; start = refl; waiter = refl }; beyond = λ _. refl }
 
 -- a busy task's number is at most the count
-pub busy-within : {c fs n k : ℕ} {e : Task} → Own c fs n k e → is dormant (e .state) ≡ 0 → k ≤ n
+pub busy-within : {c fs n k : ℕ} {e : Task} → EntryOk c fs n k e → is dormant (e .state) ≡ 0 → k ≤ n
 busy-within {c} {fs} {n} {k} {e} o b = go (ltb n k) (ltb-is n k)
   where
     go : (x : Bool) → Lt n k x → k ≤ n
@@ -81,30 +81,30 @@ busy-within {c} {fs} {n} {k} {e} o b = go (ltb n k) (ltb-is n k)
     go false (lt-no h) = h
 
 -- a busy task's entry owes neither zeros nor blanks
-pub busy-own : {c fs n k : ℕ} {e : Task} → Calm c fs (e .state) → e .start .0 ≤ c → e .priority ≤ highest → e .own ≤ highest → is dormant (e .state) ≡ 0 → k ≤ n → Own c fs n k e
+pub busy-own : {c fs n k : ℕ} {e : Task} → StateOk c fs (e .state) → e .start .0 ≤ c → e .priority ≤ highest → e .own ≤ highest → is dormant (e .state) ≡ 0 → k ≤ n → EntryOk c fs n k e
 busy-own m s l h b i = record { calm = m; started = s; level = l; home = h; zeros = λ z. absurd (omega arith); beyond = λ z. absurd (omega arith) }
 
 -- ---- requests' targets: none is dormant, said of the sum and of each number
-idle-at : (ts : List Task) (p : List Request) → idleOf ts p ≡ 0 → (k : ℕ) → is dormant (taskAt ts k .state) ≡ 1 → targetsOf k p ≡ 0
+idle-at : (ts : List Task) (p : List Request) → dormantTarget ts p ≡ 0 → (k : ℕ) → is dormant (taskAt ts k .state) ≡ 1 → targetsOf k p ≡ 0
 unfolding sumOf
 idle-at ts [] z k d = refl
 idle-at ts (r ∷ p) z k d = go (eqb k (r .target .0)) refl (idle-at ts p (omega arith) k d)
   where
     go : (b : Bool) → eqb k (r .target .0) ≡ b → targetsOf k p ≡ 0 → one b + targetsOf k p ≡ 0
-    go true e ih = absurd (omega (arith, z, d, ap (λ (n : ℕ). is dormant (taskAt ts n .state)) (eqb→eq k (r .target .0) (T-of (eqb k (r .target .0)) e))))
+    go true e ih = absurd (omega (arith, z, d, ap (λ (n : ℕ). is dormant (taskAt ts n .state)) (eqb→eq k (r .target .0) (So-of-true (eqb k (r .target .0)) e))))
     go false e ih = omega arith
 
-idle-none : (ts : List Task) (p : List Request) → ((k : ℕ) → is dormant (taskAt ts k .state) ≡ 1 → targetsOf k p ≡ 0) → idleOf ts p ≡ 0
+idle-none : (ts : List Task) (p : List Request) → ((k : ℕ) → is dormant (taskAt ts k .state) ≡ 1 → targetsOf k p ≡ 0) → dormantTarget ts p ≡ 0
 unfolding sumOf
 idle-none ts [] h = refl
 idle-none ts (r ∷ p) h = go (isDormant (taskAt ts (r .target .0) .state)) refl (idle-none ts p (λ k d. omega (arith, h k d)))
   where
-    go : (b : Bool) → isDormant (taskAt ts (r .target .0) .state) ≡ b → idleOf ts p ≡ 0 → one b + idleOf ts p ≡ 0
+    go : (b : Bool) → isDormant (taskAt ts (r .target .0) .state) ≡ b → dormantTarget ts p ≡ 0 → one b + dormantTarget ts p ≡ 0
     go true e ih = absurd (omega (arith, h (r .target .0) (ap one e), ap one (eqb-self (r .target .0))))
     go false e ih = omega arith
 
 -- ---- names: none is over n, said of each number over n and of the sum
-wild-none : (n : ℕ) (p : List Request) → ((k : ℕ) → n < k → (targetsOf k p ≡ 0) × (startsOf k p ≡ 0) × (endsOf k p ≡ 0)) → wildOf n p ≡ 0
+wild-none : (n : ℕ) (p : List Request) → ((k : ℕ) → n < k → (targetsOf k p ≡ 0) × (startsOf k p ≡ 0) × (endsOf k p ≡ 0)) → outOfRange n p ≡ 0
 unfolding sumOf
 wild-none n [] h = refl
 wild-none n (r ∷ p) h =
@@ -136,7 +136,7 @@ runs-le w ts zero h = omega (arith, ap one (not-zero w h))
 runs-le w ts (suc i) h = term-le (λ (e : Task). one (eqb w (e .«end_waiter» .0))) noTask ts i (ap one (not-zero w h))
 
 -- ---- the two forms
-pub formed : {t : Table} → WellFormed t → Formed t
+pub formed : {t : Table} → WellFormed t → WellFormedByPart t
 unfolding taskAt
 formed {t} w =
     let n = w .numbers in
@@ -167,12 +167,12 @@ formed {t} w =
         clocked = n .clock;
         sized = n .sizes .alarms;
         alarms = w .times .alarms;
-        levels = n .levels;
+        priorities = n .priorities;
         neat = record { room = n .queued; clear = w .pool };
       };
     }
 
-module _ (t : Table) (w : Formed t) where
+module _ (t : Table) (w : WellFormedByPart t) where
   abbrev ts : List Task
   ts = t .tasks
 
@@ -215,7 +215,7 @@ module _ (t : Table) (w : Formed t) where
       priority = λ k. w .own k .level;
       waiter = waiter-le;
       beyond = λ k. w .own k .beyond;
-      levels = w .rested .levels;
+      priorities = w .rested .priorities;
       names = wild-none (t .rest .count) p (λ k h. (over-none k h .0, over-none k h .1, omega (arith, over-none k h .2)));
     };
     queue = record { exactly = w .queue; tidy = w .fit .tidy };

@@ -1,10 +1,10 @@
 -- A well-formed table has what the calls' methods ask of one.
 use Rattle.executive.specs.declared.Table.{Table}
-use Rattle.executive.specs.Table.{Fit, Standing}
+use Rattle.executive.specs.Table.{ArraysInOrder, TimesInOrder}
 use Rattle.executive.specs.WellFormed.{WellFormed}
 
 module _ (t : Table) (w : WellFormed t) where
-  pub fit-of : Fit t
+  pub fit-of : ArraysInOrder t
   fit-of = record {
     all = w .numbers .sizes .tasks;
     few = w .numbers .ready;
@@ -12,5 +12,5 @@ module _ (t : Table) (w : WellFormed t) where
     neat = record { room = w .numbers .queued; clear = w .pool };
   }
 
-  pub standing-of : Standing t
+  pub standing-of : TimesInOrder t
   standing-of = record { fit = fit-of; clocked = w .numbers .clock; started = w .started }

@@ -19,7 +19,7 @@ use Rattle.executive.specs.WellFormed.{Zeros}
 use Rattle.executive.specs.Check.{isZero, isBlank, isNobody, isFree}
 use Rattle.executive.proofs.states.Laws.{dormant-is}
 use Rattle.executive.proofs.Lists.Loops.{both, every-get, every-make}
-use Rattle.executive.proofs.Lists.Tests.{split, paired}
+use Rattle.executive.proofs.Lists.Tests.{and-true, true-and}
 
 -- a list is laid out with blanks behind its first n exactly if all behind these pass the test for a blank
 module _ {A : Type 0} (f : A → Bool) (d : A) where
@@ -55,20 +55,20 @@ nobody-is k e = let p = eqb-true (k .0) 0 e in λ i. record { 0 = p i }
 
 pub zero-is : (e : Task) → isZero e ≡ true → Zeros e
 zero-is e h =
-    let a = split (eqb (e .priority) 0) _ h in
-    let b = split (eqb (e .argument) 0) _ (a .1) in
-    let d = split (eqb (e .start .0) 0) _ (b .1) in
+    let a = and-true (eqb (e .priority) 0) _ h in
+    let b = and-true (eqb (e .argument) 0) _ (a .1) in
+    let d = and-true (eqb (e .start .0) 0) _ (b .1) in
     record { priority = eqb-true _ _ (a .0); argument = eqb-true _ _ (b .0); start = eqb-true _ _ (d .0); waiter = eqb-true _ _ (d .1) }
 
 pub is-zero : (e : Task) → Zeros e → isZero e ≡ true
 is-zero e z =
-    paired (eqb (e .priority) 0) _ (eq-eqb _ _ (z .priority))
-    (paired (eqb (e .argument) 0) _ (eq-eqb _ _ (z .argument)) (paired (eqb (e .start .0) 0) _ (eq-eqb _ _ (z .start)) (eq-eqb _ _ (z .waiter))))
+    true-and (eqb (e .priority) 0) _ (eq-eqb _ _ (z .priority))
+    (true-and (eqb (e .argument) 0) _ (eq-eqb _ _ (z .argument)) (true-and (eqb (e .start .0) 0) _ (eq-eqb _ _ (z .start)) (eq-eqb _ _ (z .waiter))))
 
 pub blank-is : (e : Task) → isBlank e ≡ true → e ≡ noTask
 blank-is e h =
-    let a = split (isDormant (e .state)) _ h in
-    let b = split (eqb (e .own) 0) _ (a .1) in
+    let a = and-true (isDormant (e .state)) _ h in
+    let b = and-true (eqb (e .own) 0) _ (a .1) in
     let o : e .own ≡ 0 = eqb-true _ _ (b .0) in
     let s : e .state ≡ Dormant = dormant-is (e .state) (a .0) in
     let z = zero-is e (b .1) in
@@ -76,10 +76,10 @@ blank-is e h =
 
 pub free-is : (r : Request) → isFree r ≡ true → r ≡ noRequest
 free-is r h =
-    let a = split (eqb (r .target .0) 0) _ h in
-    let b = split (eqb (r .priority) 0) _ (a .1) in
-    let d = split (eqb (r .argument) 0) _ (b .1) in
-    let e = split (eqb (r .«start_waiter» .0) 0) _ (d .1) in
+    let a = and-true (eqb (r .target .0) 0) _ h in
+    let b = and-true (eqb (r .priority) 0) _ (a .1) in
+    let d = and-true (eqb (r .argument) 0) _ (b .1) in
+    let e = and-true (eqb (r .«start_waiter» .0) 0) _ (d .1) in
     let t : r .target .0 ≡ 0 = eqb-true _ _ (a .0) in
     let p : r .priority ≡ 0 = eqb-true _ _ (b .0) in
     let g : r .argument ≡ 0 = eqb-true _ _ (d .0) in

@@ -7,21 +7,21 @@ use native.Mathlib.Omega.{arith}
 use Rattle.executive.specs.declared.Table.{Table}
 use Rattle.executive.specs.WellFormed.{WellFormed}
 use Rattle.executive.specs.Check.{numbersRight, queueRight, timesRight, startedRight, masksRight, busyRight, waitersRight, dormantRight, isWellFormed, Checked, Decided}
-use Rattle.executive.proofs.Lists.Tests.{split, paired}
+use Rattle.executive.proofs.Lists.Tests.{and-true, true-and}
 use Rattle.executive.proofs.check.RuleByRule.{Known, numbers-get, numbers-make, queue-get, queue-make, times-get, times-make, started-get, started-make, masks-get, masks-make, busy-get, busy-make, waiters-get, waiters-make, dormant-get, dormant-make, pool-get, pool-make}
 
 module _ (t : Table) where
   formed : isWellFormed t ≡ true → WellFormed t
   unfolding isWellFormed
   formed e =
-      let a = split (numbersRight t) _ e in
-      let b = split (queueRight t) _ (a .1) in
-      let c = split (timesRight t) _ (b .1) in
-      let d = split (startedRight t) _ (c .1) in
-      let f = split (masksRight t) _ (d .1) in
-      let g = split (busyRight t) _ (f .1) in
-      let h = split (waitersRight t) _ (g .1) in
-      let j = split (dormantRight t) _ (h .1) in
+      let a = and-true (numbersRight t) _ e in
+      let b = and-true (queueRight t) _ (a .1) in
+      let c = and-true (timesRight t) _ (b .1) in
+      let d = and-true (startedRight t) _ (c .1) in
+      let f = and-true (masksRight t) _ (d .1) in
+      let g = and-true (busyRight t) _ (f .1) in
+      let h = and-true (waitersRight t) _ (g .1) in
+      let j = and-true (dormantRight t) _ (h .1) in
       let w : Known t = numbers-get t (a .0) in
       record {
         numbers = w .range;
@@ -38,14 +38,14 @@ module _ (t : Table) where
   passes : WellFormed t → isWellFormed t ≡ true
   unfolding isWellFormed
   passes w =
-      paired (numbersRight t) _ (numbers-make t (w .numbers))
-      (paired (queueRight t) _ (queue-make t (w .numbers) (w .queue))
-      (paired (timesRight t) _ (times-make t (w .times))
-      (paired (startedRight t) _ (started-make t (w .started))
-      (paired (masksRight t) _ (masks-make t (w .masks))
-      (paired (busyRight t) _ (busy-make t (w .busy))
-      (paired (waitersRight t) _ (waiters-make t (w .waiters))
-      (paired (dormantRight t) _ (dormant-make t (w .dormant)) (pool-make t (w .numbers .sizes .pool) (w .pool)))))))))
+      true-and (numbersRight t) _ (numbers-make t (w .numbers))
+      (true-and (queueRight t) _ (queue-make t (w .numbers) (w .queue))
+      (true-and (timesRight t) _ (times-make t (w .times))
+      (true-and (startedRight t) _ (started-make t (w .started))
+      (true-and (masksRight t) _ (masks-make t (w .masks))
+      (true-and (busyRight t) _ (busy-make t (w .busy))
+      (true-and (waitersRight t) _ (waiters-make t (w .waiters))
+      (true-and (dormantRight t) _ (dormant-make t (w .dormant)) (pool-make t (w .numbers .sizes .pool) (w .pool)))))))))
 
   pub well-formed-iff : (isWellFormed t ≡ true) ↔ WellFormed t
   well-formed-iff = (formed, passes)

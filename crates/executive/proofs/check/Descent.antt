@@ -1,7 +1,7 @@
 -- The check of the queue's order: its loop, and that it passes exactly where all who stand there are tasks, in descending priority.
 use Prim.Native.Nat.{ℕ, zero, suc, _+_, _≤_, _<_}
 use mathlib.Core.Path.{_≡_, refl, sym, ap, _∙_}
-use mathlib.Core.Bool.{Bool, true, false}
+use mathlib.Core.Bool.{Bool, true, false, cond}
 use mathlib.Core.List.{List, [], _∷_}
 use native.Mathlib.Omega.{arith}
 use native.Mathlib.Numerals.{add-one}
@@ -12,7 +12,7 @@ use lib.Seq.{length-take-le, getD-take, drop-cons}
 use Rattle.records.specs.declared.TaskNo.{TaskNo}
 use Rattle.executive.specs.declared.Task.{Task}
 use Rattle.executive.specs.Queue.{Item, count, AllLe, Desc}
-use Rattle.executive.specs.Lists.{pick, one, _and_, allOf}
+use Rattle.executive.specs.Lists.{one, _and_, allOf}
 use Rattle.executive.specs.Places.{nobody, noTask, taskAt, entryPlace}
 use Rattle.executive.specs.Table.{items}
 use Rattle.executive.specs.Check.{isTask, falls}
@@ -28,7 +28,7 @@ task-place n k h = go (k .0)
     go zero = sym (le-ltb 16 n h)
     go (suc i) = rw (lt-ltb 0 (suc i) (omega arith)) (near (ltb i 16) refl)
       where
-        near : (b : Bool) → ltb i 16 ≡ b → ltb i n ≡ ltb (pick b i 16) n
+        near : (b : Bool) → ltb i 16 ≡ b → ltb i n ≡ ltb (cond b i 16) n
         near true l = refl
         near false l = let g = ltb-false i 16 l in le-ltb i n (omega arith) ∙ sym (le-ltb 16 n h)
 

@@ -17,10 +17,10 @@ use Rattle.executive.specs.Places.{noTask, taskAt, entryPlace}
 use Rattle.executive.specs.Pool.{requests}
 use Rattle.executive.specs.States.{ready, awaitStart, awaitEnd, isOf, is, isDormant}
 use Rattle.executive.specs.WellFormed.{startsOf, endsOf, runsOf}
-use Rattle.executive.specs.Check.{entryInRange, requestInRange, isBlank, sizesRight, inBounds, numbersRight, standsIn, exactAt, queueRight, alarmRight, taskTimely, timesRight, isStarted, startedRight, taskUnmet, masksRight, targetBusy, busyRight, waitersAt, namesOthers, waitersRight, sleepsRight, dormantRight, poolRight, isWellFormed, entryRight, requestFits, requestRight, isQuiet, isLone, lineRight, inPasses, Tallies}
+use Rattle.executive.specs.Check.{entryInRange, requestInRange, isBlank, sizesRight, inBounds, numbersRight, standsIn, exactAt, queueRight, alarmRight, taskTimely, timesRight, isStarted, startedRight, taskUnmet, masksRight, targetBusy, busyRight, waitersAt, namesOthers, waitersRight, dormantEntryRight, dormantRight, poolRight, isWellFormed, entryRight, requestFits, requestRight, isQuiet, isLone, lineRight, inPasses, Tallies}
 use Rattle.executive.proofs.places.TaskAt.{at-place, at-no-place}
 use Rattle.executive.proofs.Lists.Loops.{both, all-make}
-use Rattle.executive.proofs.Lists.Tests.{split, paired, beyond, none-one, of-not, sum-none}
+use Rattle.executive.proofs.Lists.Tests.{and-true, true-and, and-false-right, none-one, of-not, sum-none}
 use Rattle.executive.proofs.check.Blanks.{tasks-get}
 
 -- two tests are one if each passes where the other does
@@ -36,7 +36,7 @@ module _ {A : Type 0} (f g : A → Bool) where
   all-split [] e = (refl, refl)
   all-split (x ∷ xs) e =
       let p = both (f x and g x) (allOf (λ (x : A). f x and g x) xs) e in
-      let q = split (f x) (g x) (p .0) in
+      let q = and-true (f x) (g x) (p .0) in
       let r = all-split xs (p .1) in
       (rw (q .0) (r .0), rw (q .1) (r .1))
 
@@ -88,11 +88,11 @@ module _ (ts : List Task) (n : ℕ) (r : Request) where
   module _ (l : length ts ≡ 16) (k : ℕ) (e : k ≡ entryPlace (r .target .0)) where
     pub fits-busy : (b : Bool) → requestFits n r ≡ true → isDormant (getD ts k noTask .state) ≡ b → requestRight ts n r ≡ not b
     fits-busy b f h =
-        let a = split (requestInRange n r) _ f in
+        let a = and-true (requestInRange n r) _ f in
         rw (a .0, a .1, at-place ts l (r .target .0), ← e, h) refl
 
     pub fits-nobody : 15 < k → requestRight ts n r ≡ false
-    fits-nobody h = sym (beyond (requestInRange n r) _ (beyond (namesOthers r) _ (sym (rw (at-no-place ts l (r .target .0) k e h) refl))))
+    fits-nobody h = sym (and-false-right (requestInRange n r) _ (and-false-right (namesOthers r) _ (sym (rw (at-no-place ts l (r .target .0) k e h) refl))))
 
 -- ---- where nobody waits and nobody is named there is nothing to count
 module _ (ts : List Task) (p : List Request) (q : allOf isQuiet ts ≡ true) (l : allOf isLone p ≡ true) where
@@ -103,15 +103,15 @@ module _ (ts : List Task) (p : List Request) (q : allOf isQuiet ts ≡ true) (l 
   unfolding waitersAt
   quiet-at k h =
       let a = tasks-get isQuiet ts refl q k in
-      let b = split (not (isOf awaitStart (taskAt ts k .state))) _ a in
-      let d = split (not (isOf awaitEnd (taskAt ts k .state))) _ (b .1) in
+      let b = and-true (not (isOf awaitStart (taskAt ts k .state))) _ a in
+      let d = and-true (not (isOf awaitEnd (taskAt ts k .state))) _ (b .1) in
       let x : is awaitStart (taskAt ts k .state) ≡ 0 = none-one (isOf awaitStart (taskAt ts k .state)) (b .0) in
       let y : is awaitEnd (taskAt ts k .state) ≡ 0 = none-one (isOf awaitEnd (taskAt ts k .state)) (d .0) in
-      let s : startsOf k p ≡ 0 = sum-none isLone (λ (r : Request). one (eqb k (r .«start_waiter» .0))) (λ r e. none-named k (r .«start_waiter» .0) h (split (eqb (r .«start_waiter» .0) 0) _ e .0)) p l in
-      let f : endsOf k p ≡ 0 = sum-none isLone (λ (r : Request). one (eqb k (r .«end_waiter» .0))) (λ r e. none-named k (r .«end_waiter» .0) h (split (eqb (r .«start_waiter» .0) 0) _ e .1)) p l in
-      let g : runsOf k ts ≡ 0 = sum-none isQuiet (λ (e : Task). one (eqb k (e .«end_waiter» .0))) (λ e z. none-named k (e .«end_waiter» .0) h (split (not (isOf awaitEnd (e .state))) _ (split (not (isOf awaitStart (e .state))) _ z .1) .1)) ts q in
-      paired (eqb (startsOf k p) (is awaitStart (taskAt ts k .state))) _ (eq-eqb _ _ (s ∙ sym x))
-      (paired (eqb (endsOf k p + runsOf k ts) (is awaitEnd (taskAt ts k .state))) _ (eq-eqb (endsOf k p + runsOf k ts) (is awaitEnd (taskAt ts k .state)) (omega arith))
+      let s : startsOf k p ≡ 0 = sum-none isLone (λ (r : Request). one (eqb k (r .«start_waiter» .0))) (λ r e. none-named k (r .«start_waiter» .0) h (and-true (eqb (r .«start_waiter» .0) 0) _ e .0)) p l in
+      let f : endsOf k p ≡ 0 = sum-none isLone (λ (r : Request). one (eqb k (r .«end_waiter» .0))) (λ r e. none-named k (r .«end_waiter» .0) h (and-true (eqb (r .«start_waiter» .0) 0) _ e .1)) p l in
+      let g : runsOf k ts ≡ 0 = sum-none isQuiet (λ (e : Task). one (eqb k (e .«end_waiter» .0))) (λ e z. none-named k (e .«end_waiter» .0) h (and-true (not (isOf awaitEnd (e .state))) _ (and-true (not (isOf awaitStart (e .state))) _ z .1) .1)) ts q in
+      true-and (eqb (startsOf k p) (is awaitStart (taskAt ts k .state))) _ (eq-eqb _ _ (s ∙ sym x))
+      (true-and (eqb (endsOf k p + runsOf k ts) (is awaitEnd (taskAt ts k .state))) _ (eq-eqb (endsOf k p + runsOf k ts) (is awaitEnd (taskAt ts k .state)) (omega arith))
       (of-not (eqb k (taskAt ts k .«end_waiter» .0)) (ne-eqb k (taskAt ts k .«end_waiter» .0) (λ z. omega (arith, eqb-true (taskAt ts k .«end_waiter» .0) 0 (d .1))))))
 
   pub quiet-right : (n : ℕ) → upTo (waitersAt ts p) n ≡ true
@@ -137,53 +137,53 @@ module _ (t : Table) where
   there : sizesRight t ≡ true → inPasses t ≡ true → isWellFormed t ≡ true
   unfolding inPasses isWellFormed numbersRight queueRight timesRight startedRight masksRight busyRight waitersRight dormantRight poolRight
   there z e =
-      let b = split (inBounds n (t .rest .granule) (t .rest .clock) (t .ready) (t .rest .queued)) _ e in
-      let a = split (allOf (entryRight n c fs) ts) _ (b .1) in
-      let d = split (allOf isBlank (drop n ts)) _ (a .1) in
-      let f = split (allOf (alarmRight c) (t .rest .alarms)) _ (d .1) in
-      let l = split (lineRight ts n (t .ready) (t .queue)) _ (f .1) in
-      let r = split (allOf (requestRight ts n) ps) _ (l .1) in
-      let w = split (upTo (waitersAt ts ps) n) _ (r .1) in
+      let b = and-true (inBounds n (t .rest .granule) (t .rest .clock) (t .ready) (t .rest .queued)) _ e in
+      let a = and-true (allOf (entryRight n c fs) ts) _ (b .1) in
+      let d = and-true (allOf isBlank (drop n ts)) _ (a .1) in
+      let f = and-true (allOf (alarmRight c) (t .rest .alarms)) _ (d .1) in
+      let l = and-true (lineRight ts n (t .ready) (t .queue)) _ (f .1) in
+      let r = and-true (allOf (requestRight ts n) ps) _ (l .1) in
+      let w = and-true (upTo (waitersAt ts ps) n) _ (r .1) in
       let e1 = all-split (entryInRange n) _ ts (a .0) in
       let e2 = all-split (taskTimely c) _ ts (e1 .1) in
       let e3 = all-split (isStarted c) _ ts (e2 .1) in
-      let e4 = all-split (taskUnmet fs) sleepsRight ts (e3 .1) in
+      let e4 = all-split (taskUnmet fs) dormantEntryRight ts (e3 .1) in
       let q1 = all-split (requestInRange n) _ ps (r .0) in
       let q2 = all-split namesOthers (targetBusy ts) ps (q1 .1) in
-      paired (numbersRight t) _
-      (paired (sizesRight t) _ z (paired (inBounds n (t .rest .granule) (t .rest .clock) (t .ready) (t .rest .queued)) _ (b .0) (paired (allOf (entryInRange n) ts) _ (e1 .0) (paired (allOf isBlank (drop n ts)) _ (d .0) (q1 .0)))))
-      (paired (queueRight t) _ (l .0)
-      (paired (timesRight t) _ (paired (allOf (taskTimely c) ts) _ (e2 .0) (f .0))
-      (paired (startedRight t) _ (e3 .0)
-      (paired (masksRight t) _ (e4 .0)
-      (paired (busyRight t) _ (q2 .1)
-      (paired (waitersRight t) _ (paired (upTo (waitersAt ts ps) n) _ (w .0) (q2 .0))
-      (paired (dormantRight t) _ (e4 .1) (w .1))))))))
+      true-and (numbersRight t) _
+      (true-and (sizesRight t) _ z (true-and (inBounds n (t .rest .granule) (t .rest .clock) (t .ready) (t .rest .queued)) _ (b .0) (true-and (allOf (entryInRange n) ts) _ (e1 .0) (true-and (allOf isBlank (drop n ts)) _ (d .0) (q1 .0)))))
+      (true-and (queueRight t) _ (l .0)
+      (true-and (timesRight t) _ (true-and (allOf (taskTimely c) ts) _ (e2 .0) (f .0))
+      (true-and (startedRight t) _ (e3 .0)
+      (true-and (masksRight t) _ (e4 .0)
+      (true-and (busyRight t) _ (q2 .1)
+      (true-and (waitersRight t) _ (true-and (upTo (waitersAt ts ps) n) _ (w .0) (q2 .0))
+      (true-and (dormantRight t) _ (e4 .1) (w .1))))))))
 
   back : isWellFormed t ≡ true → inPasses t ≡ true
   unfolding inPasses isWellFormed numbersRight queueRight timesRight startedRight masksRight busyRight waitersRight dormantRight poolRight
   back e =
-      let a = split (numbersRight t) _ e in
-      let b = split (queueRight t) _ (a .1) in
-      let d = split (timesRight t) _ (b .1) in
-      let f = split (startedRight t) _ (d .1) in
-      let g = split (masksRight t) _ (f .1) in
-      let h = split (busyRight t) _ (g .1) in
-      let j = split (waitersRight t) _ (h .1) in
-      let k = split (dormantRight t) _ (j .1) in
-      let n1 = split (sizesRight t) _ (a .0) in
-      let n2 = split (inBounds n (t .rest .granule) (t .rest .clock) (t .ready) (t .rest .queued)) _ (n1 .1) in
-      let n3 = split (allOf (entryInRange n) ts) _ (n2 .1) in
-      let n4 = split (allOf isBlank (drop n ts)) _ (n3 .1) in
-      let d1 = split (allOf (taskTimely c) ts) _ (d .0) in
-      let j1 = split (upTo (waitersAt ts ps) n) _ (j .0) in
-      paired (inBounds n (t .rest .granule) (t .rest .clock) (t .ready) (t .rest .queued)) _ (n2 .0)
-      (paired (allOf (entryRight n c fs) ts) _ (all-join (entryInRange n) _ ts (n3 .0) (all-join (taskTimely c) _ ts (d1 .0) (all-join (isStarted c) _ ts (f .0) (all-join (taskUnmet fs) sleepsRight ts (g .0) (k .0)))))
-      (paired (allOf isBlank (drop n ts)) _ (n4 .0)
-      (paired (allOf (alarmRight c) (t .rest .alarms)) _ (d1 .1)
-      (paired (lineRight ts n (t .ready) (t .queue)) _ (b .0)
-      (paired (allOf (requestRight ts n) ps) _ (all-join (requestInRange n) _ ps (n4 .1) (all-join namesOthers (targetBusy ts) ps (j1 .1) (h .0)))
-      (paired (upTo (waitersAt ts ps) n) _ (j1 .0) (k .1)))))))
+      let a = and-true (numbersRight t) _ e in
+      let b = and-true (queueRight t) _ (a .1) in
+      let d = and-true (timesRight t) _ (b .1) in
+      let f = and-true (startedRight t) _ (d .1) in
+      let g = and-true (masksRight t) _ (f .1) in
+      let h = and-true (busyRight t) _ (g .1) in
+      let j = and-true (waitersRight t) _ (h .1) in
+      let k = and-true (dormantRight t) _ (j .1) in
+      let n1 = and-true (sizesRight t) _ (a .0) in
+      let n2 = and-true (inBounds n (t .rest .granule) (t .rest .clock) (t .ready) (t .rest .queued)) _ (n1 .1) in
+      let n3 = and-true (allOf (entryInRange n) ts) _ (n2 .1) in
+      let n4 = and-true (allOf isBlank (drop n ts)) _ (n3 .1) in
+      let d1 = and-true (allOf (taskTimely c) ts) _ (d .0) in
+      let j1 = and-true (upTo (waitersAt ts ps) n) _ (j .0) in
+      true-and (inBounds n (t .rest .granule) (t .rest .clock) (t .ready) (t .rest .queued)) _ (n2 .0)
+      (true-and (allOf (entryRight n c fs) ts) _ (all-join (entryInRange n) _ ts (n3 .0) (all-join (taskTimely c) _ ts (d1 .0) (all-join (isStarted c) _ ts (f .0) (all-join (taskUnmet fs) dormantEntryRight ts (g .0) (k .0)))))
+      (true-and (allOf isBlank (drop n ts)) _ (n4 .0)
+      (true-and (allOf (alarmRight c) (t .rest .alarms)) _ (d1 .1)
+      (true-and (lineRight ts n (t .ready) (t .queue)) _ (b .0)
+      (true-and (allOf (requestRight ts n) ps) _ (all-join (requestInRange n) _ ps (n4 .1) (all-join namesOthers (targetBusy ts) ps (j1 .1) (h .0)))
+      (true-and (upTo (waitersAt ts ps) n) _ (j1 .0) (k .1)))))))
 
   pub in-passes : sizesRight t ≡ true → inPasses t ≡ isWellFormed t
   in-passes z = same (inPasses t) (isWellFormed t) (there z) back

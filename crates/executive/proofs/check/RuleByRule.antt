@@ -1,7 +1,7 @@
 -- Each rule of a well-formed table against its test, both ways, in 01's order.
 use Prim.Native.Nat.{ℕ, zero, suc, _+_, _-_, _≤_, _<_}
 use mathlib.Core.Path.{_≡_, refl, ap, sym, _∙_}
-use mathlib.Core.Bool.{Bool, true, false, not}
+use mathlib.Core.Bool.{Bool, true, false, not, cond}
 use mathlib.Core.List.{List, [], _∷_}
 use native.Mathlib.Omega.{arith}
 use borrow.Author.Tests.{eqb-true, eq-eqb, ne-eqb, leb-true, le-leb, leb-false, ltb-true, lt-ltb, eqb-false}
@@ -15,19 +15,19 @@ use Rattle.executive.specs.declared.Task.{Task}
 use Rattle.executive.specs.declared.Request.{Request}
 use Rattle.executive.specs.declared.Table.{Table}
 use Rattle.executive.specs.Numbers.{mostTasks, mostQueued, highest, mostGranule, endOfTime, longest}
-use Rattle.executive.specs.Lists.{pick, one, pad, sumOf, _and_, upTo, allOf}
+use Rattle.executive.specs.Lists.{one, pad, sumOf, _and_, upTo, allOf}
 use Rattle.executive.specs.Queue.{count}
 use Rattle.executive.specs.Places.{nobody, never, noTask, noRequest, taskAt}
 use Rattle.executive.specs.Table.{line, items}
 use Rattle.executive.specs.Pool.{requests}
 use Rattle.executive.specs.States.{dormant, ready, awaitStart, awaitEnd, is, isDormant, timeOf, maskOf, hasTime, hasMask, waitMode}
 use Rattle.executive.specs.Flags.{met}
-use Rattle.executive.specs.WellFormed.{InRange, Queue, Stored, Timely, Times, Unmet, Waiters, Zeros, startsOf, endsOf, runsOf, idleOf}
-use Rattle.executive.specs.Check.{entryInRange, requestInRange, isBlank, sizesRight, inBounds, numbersRight, isTask, isNobody, falls, standsIn, exactAt, queueRight, isStored, isTimely, alarmRight, taskTimely, timesRight, isStarted, startedRight, isUnmet, taskUnmet, masksRight, targetBusy, busyRight, waitersAt, namesOthers, waitersRight, isZero, sleepsRight, dormantRight, isFree, poolRight}
+use Rattle.executive.specs.WellFormed.{InRange, Queue, Stored, Timely, Times, Unmet, Waiters, Zeros, startsOf, endsOf, runsOf, dormantTarget}
+use Rattle.executive.specs.Check.{entryInRange, requestInRange, isBlank, sizesRight, inBounds, numbersRight, isTask, isNobody, falls, standsIn, exactAt, queueRight, isStored, isTimely, alarmRight, taskTimely, timesRight, isStarted, startedRight, isUnmet, taskUnmet, masksRight, targetBusy, busyRight, waitersAt, namesOthers, waitersRight, isZero, dormantEntryRight, dormantRight, isFree, poolRight}
 use Rattle.executive.proofs.states.Laws.{dormant-named, dormant-kind}
 use Rattle.executive.proofs.places.TaskAt.{at-none}
 use Rattle.executive.proofs.Lists.Loops.{all-get, all-make, every-get, every-make}
-use Rattle.executive.proofs.Lists.Tests.{split, paired, one-none, none-one, not-of, of-not, leb-none, in-reach, sum-none, none-all}
+use Rattle.executive.proofs.Lists.Tests.{and-true, true-and, one-none, none-one, not-of, of-not, leb-none, in-reach, sum-none, none-all}
 use Rattle.executive.proofs.check.Blanks.{blank-pad, pad-blank, nobody-is, free-is, zero-is, is-zero, tasks-get, tasks-make, past-get, past-make}
 use Rattle.executive.proofs.check.Descent.{falls-tasks, falls-desc, desc-falls, low, all-tasks}
 
@@ -42,12 +42,12 @@ module _ (n g : ℕ) (c : Millis) (r q : ℕ) where
 
   pub bounds-get : inBounds n g c r q ≡ true → Bounds
   bounds-get e =
-      let a1 = split (leb 1 n) _ e in
-      let a2 = split (leb n mostTasks) _ (a1 .1) in
-      let a3 = split (leb 1 g) _ (a2 .1) in
-      let a4 = split (leb g mostGranule) _ (a3 .1) in
-      let a5 = split (leb (c .0) endOfTime) _ (a4 .1) in
-      let a6 = split (leb r mostTasks) _ (a5 .1) in
+      let a1 = and-true (leb 1 n) _ e in
+      let a2 = and-true (leb n mostTasks) _ (a1 .1) in
+      let a3 = and-true (leb 1 g) _ (a2 .1) in
+      let a4 = and-true (leb g mostGranule) _ (a3 .1) in
+      let a5 = and-true (leb (c .0) endOfTime) _ (a4 .1) in
+      let a6 = and-true (leb r mostTasks) _ (a5 .1) in
       record {
         count = (leb-true _ _ (a1 .0), leb-true _ _ (a2 .0));
         granule = (leb-true _ _ (a3 .0), leb-true _ _ (a4 .0));
@@ -67,16 +67,16 @@ module _ (n : ℕ) where
   blank-in-range = le-leb 0 n (omega arith)
 
   waiter-of : (e : Task) → entryInRange n e ≡ true → e .«end_waiter» .0 ≤ n
-  waiter-of e h = leb-true _ _ (split (leb (e .priority) highest) _ (split (leb (e .own) highest) _ h .1) .1)
+  waiter-of e h = leb-true _ _ (and-true (leb (e .priority) highest) _ (and-true (leb (e .own) highest) _ h .1) .1)
 
   steep-none : (r : Request) → requestInRange n r ≡ true → one (ltb highest (r .priority)) ≡ 0
-  steep-none r e = leb-none (r .priority) highest (split (leb (r .priority) highest) _ e .0)
+  steep-none r e = leb-none (r .priority) highest (and-true (leb (r .priority) highest) _ e .0)
 
   names-of : (r : Request) → requestInRange n r ≡ true → (r .target .0 ≤ n) × (r .«start_waiter» .0 ≤ n) × (r .«end_waiter» .0 ≤ n)
   names-of r e =
-      let a = split (leb (r .priority) highest) _ e in
-      let b = split (leb (r .target .0) n) _ (a .1) in
-      let d = split (leb (r .«start_waiter» .0) n) _ (b .1) in
+      let a = and-true (leb (r .priority) highest) _ e in
+      let b = and-true (leb (r .target .0) n) _ (a .1) in
+      let d = and-true (leb (r .«start_waiter» .0) n) _ (b .1) in
       (leb-true _ _ (b .0), leb-true _ _ (d .0), leb-true _ _ (d .1))
 
   wild-none : (r : Request) → requestInRange n r ≡ true
@@ -88,9 +88,9 @@ module _ (n : ℕ) where
   ranged : (r : Request) → one (ltb highest (r .priority)) ≡ 0
       → one (ltb n (r .target .0)) + one (ltb n (r .«start_waiter» .0)) + one (ltb n (r .«end_waiter» .0)) ≡ 0 → requestInRange n r ≡ true
   ranged r a b =
-      paired (leb (r .priority) highest) _ (in-reach (r .priority) highest a)
-      (paired (leb (r .target .0) n) _ (in-reach (r .target .0) n (omega arith))
-      (paired (leb (r .«start_waiter» .0) n) _ (in-reach (r .«start_waiter» .0) n (omega arith)) (in-reach (r .«end_waiter» .0) n (omega arith))))
+      true-and (leb (r .priority) highest) _ (in-reach (r .priority) highest a)
+      (true-and (leb (r .target .0) n) _ (in-reach (r .target .0) n (omega arith))
+      (true-and (leb (r .«start_waiter» .0) n) _ (in-reach (r .«start_waiter» .0) n (omega arith)) (in-reach (r .«end_waiter» .0) n (omega arith))))
 
   -- names over n are named by nobody
   far : (k m : ℕ) → n < k → m ≤ n → one (eqb k m) ≡ 0
@@ -107,13 +107,13 @@ module _ (t : Table) where
   unfolding numbersRight
   numbers-get e =
       let n = t .rest .count in
-      let s = split (sizesRight t) _ e in
-      let s1 = split (eqb (length (t .tasks)) 16) _ (s .0) in
-      let s2 = split (eqb (length (t .queue)) 16) _ (s1 .1) in
-      let s3 = split (eqb (length (t .rest .alarms)) 32) _ (s2 .1) in
-      let b = split (inBounds n (t .rest .granule) (t .rest .clock) (t .ready) (t .rest .queued)) _ (s .1) in
-      let m = split (allOf (entryInRange n) (t .tasks)) _ (b .1) in
-      let p = split (allOf isBlank (drop n (t .tasks))) _ (m .1) in
+      let s = and-true (sizesRight t) _ e in
+      let s1 = and-true (eqb (length (t .tasks)) 16) _ (s .0) in
+      let s2 = and-true (eqb (length (t .queue)) 16) _ (s1 .1) in
+      let s3 = and-true (eqb (length (t .rest .alarms)) 32) _ (s2 .1) in
+      let b = and-true (inBounds n (t .rest .granule) (t .rest .clock) (t .ready) (t .rest .queued)) _ (s .1) in
+      let m = and-true (allOf (entryInRange n) (t .tasks)) _ (b .1) in
+      let p = and-true (allOf isBlank (drop n (t .tasks))) _ (m .1) in
       let w = bounds-get n (t .rest .granule) (t .rest .clock) (t .ready) (t .rest .queued) (b .0) in
       let h : (k : ℕ) → entryInRange n (taskAt (t .tasks) k) ≡ true = tasks-get (entryInRange n) (t .tasks) (blank-in-range n) (m .0) in
       record {
@@ -124,11 +124,11 @@ module _ (t : Table) where
           clock = w .clock;
           ready = w .ready;
           queued = w .queued;
-          own = λ k. leb-true _ _ (split (leb (taskAt (t .tasks) k .own) highest) _ (h k) .0);
-          priority = λ k. leb-true _ _ (split (leb (taskAt (t .tasks) k .priority) highest) _ (split (leb (taskAt (t .tasks) k .own) highest) _ (h k) .1) .0);
+          own = λ k. leb-true _ _ (and-true (leb (taskAt (t .tasks) k .own) highest) _ (h k) .0);
+          priority = λ k. leb-true _ _ (and-true (leb (taskAt (t .tasks) k .priority) highest) _ (and-true (leb (taskAt (t .tasks) k .own) highest) _ (h k) .1) .0);
           waiter = λ k. waiter-of n (taskAt (t .tasks) k) (h k);
           beyond = past-get (t .tasks) n (p .0);
-          levels = sum-none (requestInRange n) (λ (r : Request). one (ltb highest (r .priority))) (steep-none n) (requests (t .rest)) (p .1);
+          priorities = sum-none (requestInRange n) (λ (r : Request). one (ltb highest (r .priority))) (steep-none n) (requests (t .rest)) (p .1);
           names = sum-none (requestInRange n) (λ (r : Request). one (ltb n (r .target .0)) + one (ltb n (r .«start_waiter» .0)) + one (ltb n (r .«end_waiter» .0))) (wild-none n) (requests (t .rest)) (p .1);
         };
         entries = m .0;
@@ -139,16 +139,16 @@ module _ (t : Table) where
   unfolding numbersRight
   numbers-make w =
       let n = t .rest .count in
-      paired (sizesRight t) _
+      true-and (sizesRight t) _
       (rw (eq-eqb (length (t .tasks)) 16 (w .sizes .tasks), eq-eqb (length (t .queue)) 16 (w .sizes .queue), eq-eqb (length (t .rest .alarms)) 32 (w .sizes .alarms), eq-eqb (length (t .rest .pool)) 32 (w .sizes .pool)) refl)
-      (paired (inBounds n (t .rest .granule) (t .rest .clock) (t .ready) (t .rest .queued)) _
+      (true-and (inBounds n (t .rest .granule) (t .rest .clock) (t .ready) (t .rest .queued)) _
       (bounds-make n (t .rest .granule) (t .rest .clock) (t .ready) (t .rest .queued) (record { count = w .count; granule = w .granule; clock = w .clock; ready = w .ready; queued = w .queued }))
-      (paired (allOf (entryInRange n) (t .tasks)) _
+      (true-and (allOf (entryInRange n) (t .tasks)) _
       (tasks-make (entryInRange n) (t .tasks) (λ k.
-      paired (leb (taskAt (t .tasks) k .own) highest) _ (le-leb _ _ (w .own k))
-      (paired (leb (taskAt (t .tasks) k .priority) highest) _ (le-leb _ _ (w .priority k)) (le-leb _ _ (w .waiter k)))))
-      (paired (allOf isBlank (drop n (t .tasks))) _ (past-make (t .tasks) n (w .beyond))
-      (none-all (requestInRange n) (λ (r : Request). one (ltb highest (r .priority))) (λ (r : Request). one (ltb n (r .target .0)) + one (ltb n (r .«start_waiter» .0)) + one (ltb n (r .«end_waiter» .0))) (ranged n) (requests (t .rest)) (w .levels) (w .names)))))
+      true-and (leb (taskAt (t .tasks) k .own) highest) _ (le-leb _ _ (w .own k))
+      (true-and (leb (taskAt (t .tasks) k .priority) highest) _ (le-leb _ _ (w .priority k)) (le-leb _ _ (w .waiter k)))))
+      (true-and (allOf isBlank (drop n (t .tasks))) _ (past-make (t .tasks) n (w .beyond))
+      (none-all (requestInRange n) (λ (r : Request). one (ltb highest (r .priority))) (λ (r : Request). one (ltb n (r .target .0)) + one (ltb n (r .«start_waiter» .0)) + one (ltb n (r .«end_waiter» .0))) (ranged n) (requests (t .rest)) (w .priorities) (w .names)))))
 
 -- ---- the ready queue
 module _ (ts : List Task) where
@@ -160,7 +160,7 @@ module _ (ts : List Task) where
   -- a number that is no task's stands nowhere
   out-of : (n k : ℕ) (x : TaskNo) → (0 < k → n < k) → isTask n x ≡ true → one (eqb k (x .0)) ≡ 0
   out-of n k x h e =
-      let a = split (ltb 0 (x .0)) _ e in
+      let a = and-true (ltb 0 (x .0)) _ e in
       let l : 0 < x .0 = ltb-true _ _ (a .0) in
       let m : x .0 ≤ n = leb-true _ _ (a .1) in
       ap one (ne-eqb k (x .0) (λ q. omega (arith, h (omega arith))))
@@ -186,18 +186,18 @@ module _ (t : Table) (w : InRange t) where
     where
       go : Place (t .rest .count) (x .0) → isTask (t .rest .count) x ≡ true
       go (nought e) = absurd (let y : is ready (taskAt (t .tasks) (x .0) .state) ≡ 0 = rw (at-none (t .tasks) (x .0) e) refl in omega arith)
-      go (among a b) = paired (ltb 0 (x .0)) _ (lt-ltb 0 (x .0) a) (le-leb _ _ b)
+      go (among a b) = true-and (ltb 0 (x .0)) _ (lt-ltb 0 (x .0) a) (le-leb _ _ b)
       go (past l) = absurd (let y : is ready (taskAt (t .tasks) (x .0) .state) ≡ 0 = rw (w .beyond (x .0) l) refl in omega arith)
 
   pub queue-make : Queue t → queueRight t ≡ true
   unfolding queueRight exactAt
   queue-make q =
-      paired (falls (t .tasks) (t .rest .count) 15 (line t)) _
+      true-and (falls (t .tasks) (t .rest .count) 15 (line t)) _
       (desc-falls (t .tasks) (t .rest .count) 15 (line t)
       (all-tasks (t .tasks) (t .rest .count) (line t) (λ x h. ready-no x (rw (q .exactly .exact (x .0)) at h)))
       (low (t .tasks) (t .rest .count) 15 (line t) (w .priority))
       (q .exactly .sorted))
-      (paired (upTo (exactAt (t .tasks) (line t)) (t .rest .count)) _
+      (true-and (upTo (exactAt (t .tasks) (line t)) (t .rest .count)) _
       (all-make (exactAt (t .tasks) (line t)) (t .rest .count) (λ k g h. eq-eqb _ _ (stands-count (t .tasks) k (line t) ∙ q .exactly .exact k)))
       (pad-blank isNobody nobody refl 16 (t .ready) (t .queue) (w .sizes .queue) (q .tidy)))
 
@@ -218,8 +218,8 @@ module _ (t : Table) (w : InRange t) where
   pub queue-get : queueRight t ≡ true → Queue t
   unfolding queueRight
   queue-get e =
-      let a = split (falls (t .tasks) (t .rest .count) 15 (line t)) _ e in
-      let b = split (upTo (exactAt (t .tasks) (line t)) (t .rest .count)) _ (a .1) in
+      let a = and-true (falls (t .tasks) (t .rest .count) 15 (line t)) _ e in
+      let b = and-true (upTo (exactAt (t .tasks) (line t)) (t .rest .count)) _ (a .1) in
       record {
         exactly = record {
           exact = exact-get (falls-tasks (t .tasks) (t .rest .count) 15 (line t) (a .0)) (b .0);
@@ -231,13 +231,13 @@ module _ (t : Table) (w : InRange t) where
 -- ---- stored times
 stored-get : (c at : ℕ) → isStored c at ≡ true → Stored c at
 stored-get c at e =
-    let a = split (ltb c at) _ e in
+    let a = and-true (ltb c at) _ e in
     let l : c < at = ltb-true _ _ (a .0) in
     let m : at - c ≤ longest = leb-true _ _ (a .1) in
     (l, omega arith)
 
 stored-make : (c at : ℕ) → Stored c at → isStored c at ≡ true
-stored-make c at s = paired (ltb c at) _ (lt-ltb _ _ (s .0)) (le-leb (at - c) longest (omega arith))
+stored-make c at s = true-and (ltb c at) _ (lt-ltb _ _ (s .0)) (le-leb (at - c) longest (omega arith))
 
 timely-get : (c : ℕ) (s : State) → isTimely c s ≡ true → Timely c s
 timely-get c s e h = stored-get c (timeOf s .0) (rw h at e)
@@ -245,7 +245,7 @@ timely-get c s e h = stored-get c (timeOf s .0) (rw h at e)
 timely-make : (c : ℕ) (s : State) → Timely c s → isTimely c s ≡ true
 timely-make c s h = go (hasTime s) h
   where
-    go : (b : Bool) → (b ≡ true → Stored c (timeOf s .0)) → pick b (isStored c (timeOf s .0)) true ≡ true
+    go : (b : Bool) → (b ≡ true → Stored c (timeOf s .0)) → cond b (isStored c (timeOf s .0)) true ≡ true
     go true g = stored-make c (timeOf s .0) (g refl)
     go false g = refl
 
@@ -255,7 +255,7 @@ alarm-get c a e h = stored-get c (a .0) (rw (ne-eqb (a .0) 0 (λ z. omega arith)
 alarm-make : (c : ℕ) (a : Millis) → (0 < a .0 → Stored c (a .0)) → alarmRight c a ≡ true
 alarm-make c a h = go (eqb (a .0) 0) refl
   where
-    go : (b : Bool) → eqb (a .0) 0 ≡ b → pick b true (isStored c (a .0)) ≡ true
+    go : (b : Bool) → eqb (a .0) 0 ≡ b → cond b true (isStored c (a .0)) ≡ true
     go true e = refl
     go false e = stored-make c (a .0) (h (omega (arith, eqb-false (a .0) 0 e)))
 
@@ -264,7 +264,7 @@ module _ (t : Table) where
   unfolding timesRight
   times-get e =
       let c = t .rest .clock .0 in
-      let a = split (allOf (taskTimely c) (t .tasks)) _ e in
+      let a = and-true (allOf (taskTimely c) (t .tasks)) _ e in
       record {
         tasks = λ k. timely-get c (taskAt (t .tasks) k .state) (tasks-get (taskTimely c) (t .tasks) refl (a .0) k);
         alarms = λ i. alarm-get c (getD (t .rest .alarms) i never) (every-get (alarmRight c) never (t .rest .alarms) refl (a .1) i);
@@ -274,7 +274,7 @@ module _ (t : Table) where
   unfolding timesRight
   times-make w =
       let c = t .rest .clock .0 in
-      paired (allOf (taskTimely c) (t .tasks)) _
+      true-and (allOf (taskTimely c) (t .tasks)) _
       (tasks-make (taskTimely c) (t .tasks) (λ k. timely-make c (taskAt (t .tasks) k .state) (w .tasks k)))
       (every-make (alarmRight c) never (t .rest .alarms) (λ i. alarm-make c (getD (t .rest .alarms) i never) (w .alarms i)))
 
@@ -290,14 +290,14 @@ module _ (t : Table) where
 -- ---- wait masks
 unmet-get : (fs : ℕ) (s : State) → isUnmet fs s ≡ true → Unmet fs s
 unmet-get fs s e h =
-    let a = split (ltb 0 (maskOf s)) (not (met fs (waitMode s) (maskOf s))) (rw h at e) in
+    let a = and-true (ltb 0 (maskOf s)) (not (met fs (waitMode s) (maskOf s))) (rw h at e) in
     (ltb-true _ _ (a .0), not-of (met fs (waitMode s) (maskOf s)) (a .1))
 
 unmet-make : (fs : ℕ) (s : State) → Unmet fs s → isUnmet fs s ≡ true
 unmet-make fs s h = go (hasMask s) h
   where
-    go : (b : Bool) → (b ≡ true → (0 < maskOf s) × (met fs (waitMode s) (maskOf s) ≡ false)) → pick b (ltb 0 (maskOf s) and not (met fs (waitMode s) (maskOf s))) true ≡ true
-    go true g = let u = g refl in paired (ltb 0 (maskOf s)) _ (lt-ltb 0 (maskOf s) (u .0)) (of-not (met fs (waitMode s) (maskOf s)) (u .1))
+    go : (b : Bool) → (b ≡ true → (0 < maskOf s) × (met fs (waitMode s) (maskOf s) ≡ false)) → cond b (ltb 0 (maskOf s) and not (met fs (waitMode s) (maskOf s))) true ≡ true
+    go true g = let u = g refl in true-and (ltb 0 (maskOf s)) _ (lt-ltb 0 (maskOf s) (u .0)) (of-not (met fs (waitMode s) (maskOf s)) (u .1))
     go false g = refl
 
 module _ (t : Table) where
@@ -313,21 +313,21 @@ module _ (t : Table) where
   idle : Request → ℕ
   idle r = is dormant (taskAt (t .tasks) (r .target .0) .state)
 
-  pub busy-get : busyRight t ≡ true → idleOf (t .tasks) (requests (t .rest)) ≡ 0
+  pub busy-get : busyRight t ≡ true → dormantTarget (t .tasks) (requests (t .rest)) ≡ 0
   unfolding busyRight idle
   busy-get e = sum-none (targetBusy (t .tasks)) idle (λ r. none-one (isDormant (taskAt (t .tasks) (r .target .0) .state))) (requests (t .rest)) e
 
-  pub busy-make : idleOf (t .tasks) (requests (t .rest)) ≡ 0 → busyRight t ≡ true
+  pub busy-make : dormantTarget (t .tasks) (requests (t .rest)) ≡ 0 → busyRight t ≡ true
   unfolding busyRight idle
   busy-make w = none-all (targetBusy (t .tasks)) idle idle (λ r a b. one-none (isDormant (taskAt (t .tasks) (r .target .0) .state)) a) (requests (t .rest)) w w
 
 -- ---- waiters
-twice-none : (a b : Bool) → pick a true b ≡ true → pick a 0 (one (not b)) ≡ 0
+twice-none : (a b : Bool) → cond a true b ≡ true → cond a 0 (one (not b)) ≡ 0
 twice-none true b e = refl
 twice-none false true e = refl
 twice-none false false e = absurd (let z : _≡_ {A = ℕ} 0 1 = cc in omega arith)
 
-none-twice : (a b : Bool) → pick a 0 (one (not b)) ≡ 0 → pick a true b ≡ true
+none-twice : (a b : Bool) → cond a 0 (one (not b)) ≡ 0 → cond a true b ≡ true
 none-twice true b e = refl
 none-twice false true e = refl
 none-twice false false e = absurd (omega arith)
@@ -336,20 +336,20 @@ selfs : Request → ℕ
 selfs r = one (eqb (r .target .0) (r .«start_waiter» .0)) + one (eqb (r .target .0) (r .«end_waiter» .0))
 
 twice : Request → ℕ
-twice r = pick (eqb (r .«start_waiter» .0) 0) 0 (one (not (eqb (r .«end_waiter» .0) 0)))
+twice r = cond (eqb (r .«start_waiter» .0) 0) 0 (one (not (eqb (r .«end_waiter» .0) 0)))
 
 others-none : (r : Request) → namesOthers r ≡ true → (selfs r ≡ 0) × (twice r ≡ 0)
 unfolding selfs twice
 others-none r e =
-    let a = split (not (eqb (r .target .0) (r .«start_waiter» .0))) _ e in
-    let b = split (not (eqb (r .target .0) (r .«end_waiter» .0))) _ (a .1) in
+    let a = and-true (not (eqb (r .target .0) (r .«start_waiter» .0))) _ e in
+    let b = and-true (not (eqb (r .target .0) (r .«end_waiter» .0))) _ (a .1) in
     (omega (arith, none-one (eqb (r .target .0) (r .«start_waiter» .0)) (a .0), none-one (eqb (r .target .0) (r .«end_waiter» .0)) (b .0)), twice-none (eqb (r .«start_waiter» .0) 0) (eqb (r .«end_waiter» .0) 0) (b .1))
 
 none-others : (r : Request) → selfs r ≡ 0 → twice r ≡ 0 → namesOthers r ≡ true
 unfolding selfs twice
 none-others r a b =
-    paired (not (eqb (r .target .0) (r .«start_waiter» .0))) _ (one-none (eqb (r .target .0) (r .«start_waiter» .0)) (omega arith))
-    (paired (not (eqb (r .target .0) (r .«end_waiter» .0))) _ (one-none (eqb (r .target .0) (r .«end_waiter» .0)) (omega arith))
+    true-and (not (eqb (r .target .0) (r .«start_waiter» .0))) _ (one-none (eqb (r .target .0) (r .«start_waiter» .0)) (omega arith))
+    (true-and (not (eqb (r .target .0) (r .«end_waiter» .0))) _ (one-none (eqb (r .target .0) (r .«end_waiter» .0)) (omega arith))
     (none-twice (eqb (r .«start_waiter» .0) 0) (eqb (r .«end_waiter» .0) 0) b))
 
 module _ (t : Table) where
@@ -358,10 +358,10 @@ module _ (t : Table) where
   waiters-make w =
       let ts = t .tasks in
       let ps = requests (t .rest) in
-      paired (upTo (waitersAt ts ps) (t .rest .count)) _
+      true-and (upTo (waitersAt ts ps) (t .rest .count)) _
       (all-make (waitersAt ts ps) (t .rest .count) (λ k g h.
-      paired (eqb (startsOf k ps) (is awaitStart (taskAt ts k .state))) _ (eq-eqb _ _ (w .starts k g))
-      (paired (eqb (endsOf k ps + runsOf k ts) (is awaitEnd (taskAt ts k .state))) _ (eq-eqb _ _ (w .ends k g)) (of-not _ (w .apart k g)))))
+      true-and (eqb (startsOf k ps) (is awaitStart (taskAt ts k .state))) _ (eq-eqb _ _ (w .starts k g))
+      (true-and (eqb (endsOf k ps + runsOf k ts) (is awaitEnd (taskAt ts k .state))) _ (eq-eqb _ _ (w .ends k g)) (of-not _ (w .apart k g)))))
       (none-all namesOthers selfs twice none-others ps (w .others) (w .single))
 
   module _ (w : Known t) where
@@ -377,8 +377,8 @@ module _ (t : Table) where
     told-at k e =
         let ts = t .tasks in
         let ps = requests (t .rest) in
-        let a = split (eqb (startsOf k ps) (is awaitStart (taskAt ts k .state))) _ e in
-        let b = split (eqb (endsOf k ps + runsOf k ts) (is awaitEnd (taskAt ts k .state))) _ (a .1) in
+        let a = and-true (eqb (startsOf k ps) (is awaitStart (taskAt ts k .state))) _ e in
+        let b = and-true (eqb (endsOf k ps + runsOf k ts) (is awaitEnd (taskAt ts k .state))) _ (a .1) in
         (eqb-true _ _ (a .0), eqb-true _ _ (b .0), not-of _ (b .1))
 
     told-past : (k : ℕ) → t .rest .count < k → Told k
@@ -401,7 +401,7 @@ module _ (t : Table) where
     pub waiters-get : waitersRight t ≡ true → Waiters (t .tasks) (requests (t .rest))
     unfolding waitersRight selfs twice Told
     waiters-get e =
-        let a = split (upTo (waitersAt (t .tasks) (requests (t .rest))) (t .rest .count)) _ e in
+        let a = and-true (upTo (waitersAt (t .tasks) (requests (t .rest))) (t .rest .count)) _ e in
         record {
           starts = λ k h. told (a .0) k h .0;
           ends = λ k h. told (a .0) k h .1;
@@ -411,29 +411,29 @@ module _ (t : Table) where
         }
 
 -- ---- a dormant task's entry
-sleeps-get : (e : Task) → sleepsRight e ≡ true → is dormant (e .state) ≡ 1 → Zeros e
+sleeps-get : (e : Task) → dormantEntryRight e ≡ true → is dormant (e .state) ≡ 1 → Zeros e
 sleeps-get e h s = go (isDormant (e .state)) h s
   where
-    go : (b : Bool) → pick b (isZero e) true ≡ true → one b ≡ 1 → Zeros e
+    go : (b : Bool) → cond b (isZero e) true ≡ true → one b ≡ 1 → Zeros e
     go true f z = zero-is e f
     go false f z = absurd (omega arith)
 
-sleeps-make : (e : Task) → (is dormant (e .state) ≡ 1 → Zeros e) → sleepsRight e ≡ true
+sleeps-make : (e : Task) → (is dormant (e .state) ≡ 1 → Zeros e) → dormantEntryRight e ≡ true
 sleeps-make e h = go (isDormant (e .state)) h
   where
-    go : (b : Bool) → (one b ≡ 1 → Zeros e) → pick b (isZero e) true ≡ true
+    go : (b : Bool) → (one b ≡ 1 → Zeros e) → cond b (isZero e) true ≡ true
     go true f = is-zero e (f refl)
     go false f = refl
 
 module _ (t : Table) where
   pub dormant-get : dormantRight t ≡ true → (k : ℕ) → taskAt (t .tasks) k .state ≡ Dormant → Zeros (taskAt (t .tasks) k)
   unfolding dormantRight
-  dormant-get e k z = sleeps-get (taskAt (t .tasks) k) (tasks-get sleepsRight (t .tasks) refl e k) (dormant-kind _ z)
+  dormant-get e k z = sleeps-get (taskAt (t .tasks) k) (tasks-get dormantEntryRight (t .tasks) refl e k) (dormant-kind _ z)
 
   pub dormant-make : ((k : ℕ) → taskAt (t .tasks) k .state ≡ Dormant → Zeros (taskAt (t .tasks) k))
       → dormantRight t ≡ true
   unfolding dormantRight
-  dormant-make w = tasks-make sleepsRight (t .tasks) (λ k. sleeps-make (taskAt (t .tasks) k) (λ z. w k (dormant-named _ z)))
+  dormant-make w = tasks-make dormantEntryRight (t .tasks) (λ k. sleeps-make (taskAt (t .tasks) k) (λ z. w k (dormant-named _ z)))
 
   -- ---- the pool's free places
   module _ (l : length (t .rest .pool) ≡ 32) where

@@ -6,10 +6,9 @@ use native.Mathlib.Omega.{arith}
 use lib.ListN.{getD}
 use lib.Dec.{lit≤, eqb, ltb}
 use borrow.Author.Tests.{ltb-true, ltb-false}
-use mathlib.Core.Bool.{Bool, true, false}
+use mathlib.Core.Bool.{Bool, true, false, cond}
 use Rattle.executive.specs.Numbers.{lastUnit, longest}
 use Rattle.executive.specs.declared.Millis.{Millis}
-use Rattle.executive.specs.Lists.{pick}
 use Rattle.executive.specs.Clock.{units, interval, missed, nextOnGrid, skipsMissed, aimAt}
 
 -- the largest count of any unit is at most the longest interval
@@ -64,7 +63,7 @@ next-ahead start now every h p =
 pub skips-some : (p n : ℕ) → skipsMissed p n ≡ true → 0 < n
 skips-some p n = go (eqb (p / 64 % 4) 1)
   where
-    go : (b : Bool) → pick b (ltb 0 n) false ≡ true → 0 < n
+    go : (b : Bool) → cond b (ltb 0 n) false ≡ true → 0 < n
     go true e = ltb-true 0 n e
     go false e = absurd (let z : _≡_ {A = ℕ} 0 1 = cc in omega arith)
 
@@ -81,7 +80,7 @@ aim-most start now p n h hn = go (ltb lastUnit (p % 8)) refl (skipsMissed p n) r
     every = interval (p % 8) n
 
     go : (a : Bool) → ltb lastUnit (p % 8) ≡ a → (s : Bool) → skipsMissed p n ≡ s → (b : Bool)
-        → pick {A = Millis} a now (pick s (nextOnGrid start now every) (record { 0 = pick b (start .0) (now .0) + every .0 })) .0 ≤ now .0 + longest
+        → cond {A = Millis} a now (cond s (nextOnGrid start now every) (record { 0 = cond b (start .0) (now .0) + every .0 })) .0 ≤ now .0 + longest
     go true e s f b = omega arith
     go false e true f b =
         let some = every-some p n (omega (arith, ltb-false lastUnit (p % 8) e)) hn f in

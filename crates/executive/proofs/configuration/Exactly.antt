@@ -1,7 +1,7 @@
 -- The test of a configuration's bytes passes exactly where they are one 40, 1 to 16 of 41, and 42.
 use Prim.Native.Nat.{ℕ, zero, suc, _+_, _-_, _*_, _≤_, _<_}
 use mathlib.Core.Path.{_≡_, refl, sym, ap, _∙_}
-use mathlib.Core.Bool.{Bool, true, false}
+use mathlib.Core.Bool.{Bool, true, false, cond}
 use mathlib.Core.List.{List, [], _∷_}
 use native.Mathlib.Omega.{arith}
 use native.Mathlib.Nat.{le-of-suc-le-suc}
@@ -9,7 +9,6 @@ use borrow.Author.Tests.{le-leb, eq-eqb, eqb-true}
 use lib.Dec.{eqb}
 use lib.ListN.{length, getD, drop, drop-of-length-le}
 use lib.Seq.{drop-cons, getD-drop, drop-drop}
-use Rattle.executive.specs.Lists.{pick}
 use Rattle.executive.specs.Configuration.{granuleIn, placeIn, ownIn, markIn, tasksFrom, tasksIn, configurationIn, taskRight, isConfiguration}
 use Rattle.executive.specs.Promises.FreshLaw.{Entry, recordsOf, AllRight, Configuration}
 use Rattle.executive.proofs.Lists.Loops.{all-make}
@@ -32,7 +31,7 @@ module _ (s : List ℕ) where
   counted zero k i h = absurd (omega arith)
   counted (suc n) k i h = go (eqb (getD s (placeIn k) 0) 0x41) refl i h (counted n (suc k))
     where
-      go : (b : Bool) → eqb (getD s (placeIn k) 0) 0x41 ≡ b → (i : ℕ) → i < pick b (suc (tasksFrom s n (suc k))) 0
+      go : (b : Bool) → eqb (getD s (placeIn k) 0) 0x41 ≡ b → (i : ℕ) → i < cond b (suc (tasksFrom s n (suc k))) 0
           → ((j : ℕ) → j < tasksFrom s n (suc k) → getD s (placeIn (suc k + j)) 0 ≡ 0x41) → getD s (placeIn (k + i)) 0 ≡ 0x41
       go true e zero l ih = let z : k + 0 ≡ k = omega arith in rw z (eqb-true (getD s (placeIn k) 0) 0x41 e)
       go true e (suc j) l ih = let z : k + suc j ≡ suc k + j = omega arith in rw z (ih j (le-of-suc-le-suc l))

@@ -9,8 +9,8 @@ use Rattle.executive.specs.declared.Task.{Task}
 use Rattle.executive.specs.declared.Work.{Work}
 use Rattle.executive.specs.Places.{noTask}
 use Rattle.executive.specs.Lists.{pad}
-use Rattle.executive.specs.Table.{Fit, Join, admits}
-use Rattle.executive.specs.Configuration.{placeIn, ownIn, tasksFrom, withTasks, blankRest, dormantAt, sleepers, starter, starters}
+use Rattle.executive.specs.Table.{ArraysInOrder, Join, enterAllInFlight}
+use Rattle.executive.specs.Configuration.{placeIn, ownIn, tasksFrom, withTasks, blankRest, dormantAt, sleepers, markedStart, starters}
 use Rattle.executive.proofs.Lists.Pad.{pad-more, length-pad}
 use Rattle.executive.proofs.queue.InFlight.{admits-append}
 
@@ -64,23 +64,23 @@ module _ (s : List ℕ) where
       ∙ ap (λ (m : ℕ). pad 16 noTask (sleepers s n 1 ++ (dormantAt (ownIn s m) ∷ []))) y
       ∙ ap (λ (l : List Task). pad 16 noTask l) (sym (sleepers-more n 1) ∙ ap (λ (m : ℕ). sleepers s m 1) (sym z))
 
-  starters-more : (n k : ℕ) → starters s (suc n) k ≡ starters s n k ++ starter s (k + n)
+  starters-more : (n k : ℕ) → starters s (suc n) k ≡ starters s n k ++ markedStart s (k + n)
   unfolding starters
-  starters-more zero k = let z : k + 0 ≡ k = omega arith in rw z (append-nil (starter s k))
+  starters-more zero k = let z : k + 0 ≡ k = omega arith in rw z (append-nil (markedStart s k))
   starters-more (suc n) k =
       let z : k + suc n ≡ suc k + n = omega arith in
-      rw z (ap (λ (l : List Join). starter s k ++ l) (starters-more n (suc k)) ∙ sym (append-assoc (starter s k) (starters s n (suc k)) (starter s (suc k + n))))
+      rw z (ap (λ (l : List Join). markedStart s k ++ l) (starters-more n (suc k)) ∙ sym (append-assoc (markedStart s k) (starters s n (suc k)) (markedStart s (suc k + n))))
 
-  pub start-more : (n : ℕ) (w : Work) → admits (starter s (n + 1)) (admits (starters s n 1) w) ≡ admits (starters s (n + 1) 1) w
+  pub start-more : (n : ℕ) (w : Work) → enterAllInFlight (markedStart s (n + 1)) (enterAllInFlight (starters s n 1) w) ≡ enterAllInFlight (starters s (n + 1) 1) w
   start-more n w =
       let y : n + 1 ≡ 1 + n = omega arith in
       let z : n + 1 ≡ suc n = omega arith in
-      ap (λ (m : ℕ). admits (starter s m) (admits (starters s n 1) w)) y
-      ∙ sym (admits-append (starters s n 1) (starter s (1 + n)) w)
-      ∙ ap (λ (l : List Join). admits l w) (sym (starters-more n 1) ∙ ap (λ (m : ℕ). starters s m 1) (sym z))
+      ap (λ (m : ℕ). enterAllInFlight (markedStart s m) (enterAllInFlight (starters s n 1) w)) y
+      ∙ sym (admits-append (starters s n 1) (markedStart s (1 + n)) w)
+      ∙ ap (λ (l : List Join). enterAllInFlight l w) (sym (starters-more n 1) ∙ ap (λ (m : ℕ). starters s m 1) (sym z))
 
 -- ---- the table before the starts
-pub dormant-fit : (s : List ℕ) (n g : ℕ) → n ≤ 16 → Fit (withTasks (pad 16 noTask (sleepers s n 1)) (blankRest n g))
+pub dormant-fit : (s : List ℕ) (n g : ℕ) → n ≤ 16 → ArraysInOrder (withTasks (pad 16 noTask (sleepers s n 1)) (blankRest n g))
 unfolding pad
 dormant-fit s n g h = record {
   all = let l : length (sleepers s n 1) ≡ n = length-sleepers s n 1 in length-pad noTask 16 (sleepers s n 1) (omega arith);

@@ -1,23 +1,23 @@
 -- The fresh table said out: its entries, its queue and the rest of it, read off the configuration's tasks.
 use Prim.Native.Nat.{ℕ, zero, suc, _+_, _≤_}
 use mathlib.Core.Path.{_≡_, refl, sym, ap, _∙_}
-use mathlib.Core.Bool.{Bool, true, false}
+use mathlib.Core.Bool.{Bool, true, false, cond}
 use mathlib.Core.List.{List, [], _∷_, _++_, append-assoc, map}
 use native.Mathlib.Omega.{arith}
 use lib.Dec.{eqb}
 use lib.ListN.{length, length-append}
 use lib.Seq.{set-append-seam, getD-append-seam}
 use Rattle.records.specs.Numbers.{Bytes}
-use Rattle.executive.specs.declared.Wait.the-variants.{Goes}
+use Rattle.executive.specs.declared.AwaitedMoment.the-variants.{ForNothing}
 use Rattle.executive.specs.declared.Task.{Task}
 use Rattle.executive.specs.declared.Rest.{Rest}
 use Rattle.executive.specs.declared.Table.{Table}
 use Rattle.executive.specs.Queue.{Item, inserts, left, play}
-use Rattle.executive.specs.Lists.{pick, pad}
+use Rattle.executive.specs.Lists.{pad}
 use Rattle.executive.specs.Places.{nobody, never, noTask, taskAt, putAt}
 use Rattle.executive.specs.Table.{items, view, Join, apply, begin, change-at, entries, movesOf}
 use Rattle.executive.specs.Plans.{asks, begins}
-use Rattle.executive.specs.Configuration.{granuleIn, ownIn, markIn, tasksIn, blankRest, dormantAt, sleepers, dormantTable, starter, starters, freshTable}
+use Rattle.executive.specs.Configuration.{granuleIn, ownIn, markIn, tasksIn, blankRest, dormantAt, sleepers, dormantTable, markedStart, starters, freshTable}
 use Rattle.executive.specs.Promises.FreshLaw.{Entry, Configuration, startedAt, entryOf, marked, SaidOut}
 use Rattle.executive.proofs.queue.InFlight.{admits-rest}
 use Rattle.executive.proofs.Plans.Moves.{apply-view}
@@ -35,11 +35,11 @@ stored pre rest d k f e = rw (e, getD-append-seam pre d rest noTask) (set-append
 
 module _ (s : List ℕ) where
   abbrev starting : ℕ → Join
-  starting k = begins (record { 0 = k }) (asks nobody Goes (record { 0 = k }) (ownIn s k) 0) never
+  starting k = begins (record { 0 = k }) (asks nobody ForNothing (record { 0 = k }) (ownIn s k) 0) never
 
   -- ---- the queue: those that start enter as the marked ones
   starters-enter : (n k : ℕ) (ts : List Task) → entries (starters s n k) ts ≡ marked k (entriesIn s n k)
-  unfolding starters starter entries marked entriesIn
+  unfolding starters markedStart entries marked entriesIn
   starters-enter zero k ts = refl
   starters-enter (suc n) k ts = go (eqb (markIn s k) 1) (starters-enter n (suc k))
     where
@@ -47,8 +47,8 @@ module _ (s : List ℕ) where
       ms = marked (suc k) (entriesIn s n (suc k))
 
       go : (b : Bool) → ((us : List Task) → entries (starters s n (suc k)) us ≡ ms)
-          → entries (pick b (starting k ∷ []) [] ++ starters s n (suc k)) ts
-          ≡ pick b (record { task = k; prio = ownIn s k } ∷ ms) ms
+          → entries (cond b (starting k ∷ []) [] ++ starters s n (suc k)) ts
+          ≡ cond b (record { task = k; prio = ownIn s k } ∷ ms) ms
       go true ih = ap (λ (l : List Item). record { task = k; prio = ownIn s k } ∷ l) (ih (change-at ts k (starting k .change)))
       go false ih = ih ts
 
@@ -56,7 +56,7 @@ module _ (s : List ℕ) where
   starters-stored : (n k m : ℕ) (pre : List Task) → k ≡ suc (length pre) → n ≤ m
       → puts (starters s n k) (pre ++ pad m noTask (sleepers s n k))
       ≡ pre ++ pad m noTask (map entryOf (entriesIn s n k))
-  unfolding starters starter puts sleepers entriesIn pad
+  unfolding starters markedStart puts sleepers entriesIn pad
   starters-stored zero k m pre e l = refl
   starters-stored (suc n) k zero pre e l = absurd (omega arith)
   starters-stored (suc n) k (suc m) pre e l =
@@ -74,8 +74,8 @@ module _ (s : List ℕ) where
       done = pad m noTask (map entryOf (entriesIn s n (suc k)))
 
       go : (b : Bool) → ((x : Task) → puts (starters s n (suc k)) (pre ++ (x ∷ still)) ≡ pre ++ (x ∷ done))
-          → puts (pick b (starting k ∷ []) [] ++ starters s n (suc k)) (pre ++ (dormantAt (ownIn s k) ∷ still))
-          ≡ pre ++ (pick b (startedAt (ownIn s k)) (dormantAt (ownIn s k)) ∷ done)
+          → puts (cond b (starting k ∷ []) [] ++ starters s n (suc k)) (pre ++ (dormantAt (ownIn s k) ∷ still))
+          ≡ pre ++ (cond b (startedAt (ownIn s k)) (dormantAt (ownIn s k)) ∷ done)
       go true ih = ap (puts (starters s n (suc k))) (stored pre still (dormantAt (ownIn s k)) k (starting k .change) e)
           ∙ ih (startedAt (ownIn s k))
       go false ih = ih (dormantAt (ownIn s k))

@@ -1,13 +1,13 @@
 -- The shape of a configuration's bytes: what its test says, and that it is found again at the head of longer bytes.
 use Prim.Native.Nat.{ℕ, zero, suc, _+_, _-_, _*_, _≤_, _<_}
 use mathlib.Core.Path.{_≡_, refl, ap, sym}
-use mathlib.Core.Bool.{Bool, true, false}
+use mathlib.Core.Bool.{Bool, true, false, cond}
 use mathlib.Core.List.{List, [], _∷_, _++_}
 use native.Mathlib.Omega.{arith}
 use borrow.Author.Tests.{ltb-true, ltb-false, leb-true, eqb-true}
 use lib.Dec.{eqb, leb, ltb}
 use lib.ListN.{length, getD, List·getD-append, List·getD-eq-default}
-use Rattle.executive.specs.Lists.{pick, _and_}
+use Rattle.executive.specs.Lists.{_and_}
 use Rattle.executive.proofs.Lists.Loops.{all-get}
 use Rattle.executive.specs.Configuration.{granuleIn, placeIn, ownIn, markIn, tasksFrom, tasksIn, configurationIn, taskRight, isConfiguration}
 
@@ -21,7 +21,7 @@ unfolding tasksFrom
 most s zero k = omega arith
 most s (suc n) k = go (eqb (getD s (placeIn k) 0) 0x41) (most s n (suc k))
   where
-    go : (b : Bool) → tasksFrom s n (suc k) ≤ n → pick b (suc (tasksFrom s n (suc k))) 0 ≤ suc n
+    go : (b : Bool) → tasksFrom s n (suc k) ≤ n → cond b (suc (tasksFrom s n (suc k))) 0 ≤ suc n
     go true l = omega arith
     go false l = omega arith
 
@@ -48,7 +48,7 @@ found : (s : List ℕ) → 1 ≤ tasksIn s → length s ≡ configurationIn s �
 unfolding configurationIn
 found s h e = go (eqb (getD s 0 0) 0x40) (eqb (getD s (placeIn (tasksIn s + 1)) 0) 0x42) refl refl e
   where
-    go : (a b : Bool) → eqb (getD s 0 0) 0x40 ≡ a → eqb (getD s (placeIn (tasksIn s + 1)) 0) 0x42 ≡ b → length s ≡ pick (a and b) (3 * tasksIn s + 3) 0 → Found s
+    go : (a b : Bool) → eqb (getD s 0 0) 0x40 ≡ a → eqb (getD s (placeIn (tasksIn s + 1)) 0) 0x42 ≡ b → length s ≡ cond (a and b) (3 * tasksIn s + 3) 0 → Found s
     go true true x y z = record { whole = z; first = eqb-true (getD s 0 0) 0x40 x; last = eqb-true (getD s (placeIn (tasksIn s + 1)) 0) 0x42 y }
     go true false x y z = absurd (none s z h)
     go false b x y z = absurd (none s z h)
@@ -77,9 +77,9 @@ module _ (s r : List ℕ) where
       let e : getD (s ++ r) (placeIn k) 0 ≡ getD s (placeIn k) 0 = List·getD-append s r 0 (placeIn k) (omega (arith, l)) in
       rw e (go (eqb (getD s (placeIn k) 0) 0x41) l (same-tasks n (suc k) (omega arith)))
     where
-      go : (b : Bool) → placeIn (k + pick b (suc (tasksFrom s n (suc k))) 0) < length s
+      go : (b : Bool) → placeIn (k + cond b (suc (tasksFrom s n (suc k))) 0) < length s
           → (placeIn (suc k + tasksFrom s n (suc k)) < length s → tasksFrom (s ++ r) n (suc k) ≡ tasksFrom s n (suc k))
-          → pick b (suc (tasksFrom (s ++ r) n (suc k))) 0 ≡ pick b (suc (tasksFrom s n (suc k))) 0
+          → cond b (suc (tasksFrom (s ++ r) n (suc k))) 0 ≡ cond b (suc (tasksFrom s n (suc k))) 0
       go true l ih = ap suc (ih (omega arith))
       go false l ih = refl
 
@@ -107,7 +107,7 @@ pub configuration-within : (s : List ℕ) → configurationIn s ≤ length s
 unfolding configurationIn
 configuration-within s = go (eqb (getD s 0 0) 0x40) (eqb (getD s (placeIn (tasksIn s + 1)) 0) 0x42) refl
   where
-    go : (a b : Bool) → eqb (getD s (placeIn (tasksIn s + 1)) 0) 0x42 ≡ b → pick (a and b) (3 * tasksIn s + 3) 0 ≤ length s
+    go : (a b : Bool) → eqb (getD s (placeIn (tasksIn s + 1)) 0) 0x42 ≡ b → cond (a and b) (3 * tasksIn s + 3) 0 ≤ length s
     go true true y = omega (arith, inside s (placeIn (tasksIn s + 1)) 0x42 (omega arith) (eqb-true (getD s (placeIn (tasksIn s + 1)) 0) 0x42 y))
     go true false y = omega arith
     go false b y = omega arith

@@ -1,35 +1,35 @@
 -- Every fresh table is well formed: the dormant one is, and the starts are a good plan on it.
 use Prim.Native.Nat.{ℕ, zero, suc, _+_, _-_, _≤_, _<_, zero-le}
 use mathlib.Core.Path.{_≡_, refl, ap, sym, _∙_}
-use mathlib.Core.Bool.{Bool, true, false}
+use mathlib.Core.Bool.{Bool, true, false, cond}
 use mathlib.Core.List.{List, [], _∷_, _++_}
 use native.Mathlib.Omega.{arith}
 use lib.Dec.{eqb}
 use lib.ListN.{length, getD}
 use Rattle.records.specs.Numbers.{Bytes}
-use Rattle.executive.specs.declared.Wait.the-variants.{Goes}
+use Rattle.executive.specs.declared.AwaitedMoment.the-variants.{ForNothing}
 use Rattle.executive.specs.declared.Task.{Task}
 use Rattle.executive.specs.declared.Work.{Work}
-use Rattle.executive.specs.Lists.{pick, one, pad, sumOf}
+use Rattle.executive.specs.Lists.{one, pad, sumOf}
 use Rattle.executive.specs.Queue.{count}
 use Rattle.executive.specs.Places.{nobody, never, noTask, Names, taskAt, putAt}
-use Rattle.executive.specs.Table.{items, stays, Join, Plan, depart, apply, begin, admits, carry}
+use Rattle.executive.specs.Table.{items, stays, Join, Plan, depart, apply, begin, enterAllInFlight, applyInFlight}
 use Rattle.executive.specs.States.{dormant, ready, awaitStart, awaitEnd, is}
 use Rattle.executive.specs.Plans.{asks, begins}
 use Rattle.executive.specs.WellFormed.{WellFormed, runsOf, Line}
-use Rattle.executive.specs.Configuration.{granuleIn, ownIn, markIn, tasksIn, isConfiguration, blankRest, dormantAt, sleepers, dormantTable, starter, starters, freshTable, freshOf, zeroTable, madeBy}
+use Rattle.executive.specs.Configuration.{granuleIn, ownIn, markIn, tasksIn, isConfiguration, blankRest, dormantAt, sleepers, dormantTable, markedStart, starters, freshTable, freshOf, zeroTable, madeBy}
 use Rattle.executive.specs.Promises.FreshLaw.{noConfiguration}
 use Rattle.executive.specs.Promises.Demands.{Dispatched}
 use Rattle.executive.proofs.step.Dispatched.{dispatches}
-use Rattle.executive.proofs.Lists.Tests.{clash, not-zero}
+use Rattle.executive.proofs.Lists.Tests.{false-not-true, not-zero}
 use Rattle.executive.proofs.queue.InFlight.{admits-rest, carry-still}
 use Rattle.executive.proofs.places.TaskAt.{at-other, put-length}
 use Rattle.executive.proofs.Plans.Size.{sum-zeros}
 use Rattle.executive.proofs.Plans.QueueKept.{not-both}
-use Rattle.executive.proofs.Plans.LinksKept.{put-all, Up, ok-up, up-ok}
+use Rattle.executive.proofs.Plans.LinksKept.{put-all, LinksUpTo, links-up, up-links}
 use Rattle.executive.proofs.Plans.Links as links
-use Rattle.executive.proofs.Plans.WorkingForm.{Own, blank-own, busy-own, LinksOk, Rested, Formed, formed, well-formed}
-use Rattle.executive.proofs.Plans.GoodIsKept.{puts, Good, Kept, apply-kept}
+use Rattle.executive.proofs.Plans.WorkingForm.{EntryOk, blank-own, busy-own, LinksOk, RestOk, WellFormedByPart, formed, well-formed}
+use Rattle.executive.proofs.Plans.GoodIsKept.{puts, Good, GoodOutcome, apply-kept}
 use Rattle.executive.proofs.Plans.Rising.{Done, differ}
 use Rattle.executive.proofs.configuration.Loops.{dormant-fit}
 use Rattle.executive.proofs.configuration.Shape.{Configured, configured}
@@ -85,9 +85,9 @@ module _ (s : List ℕ) (n : ℕ) where
   unfolding items count
   asleep-line = record { exact = any-asleep (λ e. 0 ≡ is ready (e .state)) (λ _. refl); sorted = tt }
 
-  asleep-own : ((k : ℕ) → 0 < k → k ≤ n → ownIn s k ≤ 15) → (k : ℕ) → Own 0 0 n k (taskAt asleep k)
-  asleep-own h = each-asleep (Own 0 0 n) (λ k g l. record {
-    calm = (clash, clash);
+  asleep-own : ((k : ℕ) → 0 < k → k ≤ n → ownIn s k ≤ 15) → (k : ℕ) → EntryOk 0 0 n k (taskAt asleep k)
+  asleep-own h = each-asleep (EntryOk 0 0 n) (λ k g l. record {
+    calm = (false-not-true, false-not-true);
     started = zero-le;
     level = zero-le;
     home = h k g l;
@@ -95,7 +95,7 @@ module _ (s : List ℕ) (n : ℕ) where
     beyond = λ m. absurd (omega arith);
   }) (λ k. blank-own)
 
-blank-rested : (n g : ℕ) → 1 ≤ n → n ≤ 16 → 1 ≤ g → g < 256 → Rested (blankRest n g)
+blank-rested : (n g : ℕ) → 1 ≤ n → n ≤ 16 → 1 ≤ g → g < 256 → RestOk (blankRest n g)
 unfolding sumOf pad
 blank-rested n g h l m u = record {
   count = (h, l);
@@ -103,11 +103,11 @@ blank-rested n g h l m u = record {
   clocked = zero-le;
   sized = refl;
   alarms = λ i p. absurd (omega (arith, rw (pad-at never 32 [] i) at p));
-  levels = refl;
+  priorities = refl;
   neat = record { room = zero-le; clear = refl };
 }
 
-pub dormant-formed : (s : List ℕ) → Bytes s → Configured s → Formed (dormantTable s)
+pub dormant-formed : (s : List ℕ) → Bytes s → Configured s → WellFormedByPart (dormantTable s)
 unfolding dormantTable
 dormant-formed s b c = record {
   fit = dormant-fit s (tasksIn s) (granuleIn s) (c .few);
@@ -120,18 +120,18 @@ dormant-formed s b c = record {
 -- ---- the starts: from number k on, the tasks are still dormant
 record Still (ts : List Task) (n k : ℕ) : Type 0 where
   pub size : length ts ≡ 16
-  pub linked : Up ts [] 0 0 0
-  pub own : (j : ℕ) → Own 0 0 n j (taskAt ts j)
+  pub linked : LinksUpTo ts [] 0 0 0
+  pub own : (j : ℕ) → EntryOk 0 0 n j (taskAt ts j)
   pub dormant : (j : ℕ) → k ≤ j → is dormant (taskAt ts j .state) ≡ 1
 
 module _ (s : List ℕ) (n : ℕ) (few : n ≤ 16) (right : (k : ℕ) → 0 < k → k ≤ n → ownIn s k ≤ 15) where
   started : (m k : ℕ) (ts : List Task) → 0 < k → k + m ≡ n + 1 → Still ts n k → Done (starters s m k) ts [] 0 0 n
-  unfolding starters starter puts
+  unfolding starters markedStart puts
   started zero k ts h e d = record { joining = tt; linked = d .linked; own = d .own }
   started (suc m) k ts h e d = go (eqb (markIn s k) 1) (λ us. started m (suc k) us (omega arith) (omega arith))
     where
       j : Join
-      j = begins (record { 0 = k }) (asks nobody Goes (record { 0 = k }) (ownIn s k) 0) never
+      j = begins (record { 0 = k }) (asks nobody ForNothing (record { 0 = k }) (ownIn s k) 0) never
 
       v : Task
       v = j .change (taskAt ts k)
@@ -143,11 +143,11 @@ module _ (s : List ℕ) (n : ℕ) (few : n ≤ 16) (right : (k : ℕ) → 0 < k 
       ready = record {
         size = put-length ts k v ∙ d .size;
         linked = links.begin ts [] k v 0 0 names (d .dormant k (omega arith)) refl refl (not-zero k h) 0 (λ i g _. not-zero i g) (d .linked);
-        own = λ i. put-all (Own 0 0 n) ts k v names (busy-own (clash, clash) zero-le (right k h (omega arith)) (d .own k .home) refl (omega arith)) i (λ _. d .own i);
+        own = λ i. put-all (EntryOk 0 0 n) ts k v names (busy-own (false-not-true, false-not-true) zero-le (right k h (omega arith)) (d .own k .home) refl (omega arith)) i (λ _. d .own i);
         dormant = λ i l. rw (at-other ts k i v (differ i k l)) (d .dormant i (omega arith));
       }
 
-      go : (b : Bool) → ((us : List Task) → Still us n (suc k) → Done (starters s m (suc k)) us [] 0 0 n) → Done (pick b (j ∷ []) [] ++ starters s m (suc k)) ts [] 0 0 n
+      go : (b : Bool) → ((us : List Task) → Still us n (suc k) → Done (starters s m (suc k)) us [] 0 0 n) → Done (cond b (j ∷ []) [] ++ starters s m (suc k)) ts [] 0 0 n
       go true ih =
           let r = ih (putAt ts k v) ready in
           record {
@@ -164,24 +164,24 @@ startsPlan s = record { out = stays; ins = starters s (tasksIn s) 1; rest = dorm
 starts-good : (s : List ℕ) → Bytes s → Configured s → Good (startsPlan s) (dormantTable s)
 unfolding dormantTable
 starts-good s b c =
-    let f : Formed (dormantTable s) = dormant-formed s b c in
+    let f : WellFormedByPart (dormantTable s) = dormant-formed s b c in
     let d : Done (starters s (tasksIn s) 1) (dormantTable s .tasks) [] 0 0 (tasksIn s) = started s (tasksIn s) (c .few) (c .own) (tasksIn s) 1 (dormantTable s .tasks) (omega arith) (omega arith) (record {
       size = f .fit .all;
-      linked = ok-up (f .links);
+      linked = links-up (f .links);
       own = f .own;
       dormant = λ j _. any-asleep s (tasksIn s) (λ e. is dormant (e .state) ≡ 1) (λ _. refl) j;
     }) in
-    record { leaving = refl; joining = d .joining; linked = up-ok (d .linked); own = d .own; rested = f .rested }
+    record { leaving = refl; joining = d .joining; linked = up-links (d .linked); own = d .own; rested = f .rested }
 
-pub starts-kept : (s : List ℕ) → Bytes s → isConfiguration s ≡ true → Kept (startsPlan s) (dormantTable s)
+pub starts-kept : (s : List ℕ) → Bytes s → isConfiguration s ≡ true → GoodOutcome (startsPlan s) (dormantTable s)
 starts-kept s b e = let c = configured s e in apply-kept (startsPlan s) (dormantTable s) (dormant-formed s b c) (starts-good s b c)
 
 -- in flight it is the fresh table
-starts-are : (s : List ℕ) → carry (startsPlan s) (dormantTable s) ≡ admits (starters s (tasksIn s) 1) (begin (dormantTable s))
+starts-are : (s : List ℕ) → applyInFlight (startsPlan s) (dormantTable s) ≡ enterAllInFlight (starters s (tasksIn s) 1) (begin (dormantTable s))
 unfolding depart
 starts-are s = carry-still (startsPlan s) (dormantTable s) refl
 
-pub fresh-is : (s : List ℕ) → freshTable s ≡ carry (startsPlan s) (dormantTable s) .table
+pub fresh-is : (s : List ℕ) → freshTable s ≡ applyInFlight (startsPlan s) (dormantTable s) .table
 unfolding freshTable
 fresh-is s = ap (λ (w : Work). w .table) (sym (starts-are s))
 
@@ -190,7 +190,7 @@ fresh-formed s b e =
     let k = starts-kept s b e in
     rw (fresh-is s ∙ k .table) (well-formed (apply (startsPlan s) (dormantTable s)) (k .formed))
 
-pub fresh-room : (s : List ℕ) → Bytes s → isConfiguration s ≡ true → admits (starters s (tasksIn s) 1) (begin (dormantTable s)) .full ≡ false
+pub fresh-room : (s : List ℕ) → Bytes s → isConfiguration s ≡ true → enterAllInFlight (starters s (tasksIn s) 1) (begin (dormantTable s)) .full ≡ false
 fresh-room s b e = rw (← starts-are s) (starts-kept s b e .never-full)
 
 pub fresh-clock : (s : List ℕ) → freshTable s .rest .clock .0 ≡ 0

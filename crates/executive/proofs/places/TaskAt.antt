@@ -1,7 +1,7 @@
 -- What `taskAt` and `putAt` are at a number that is none or a task's, at its place, and after a store.
 use Prim.Native.Nat.{ℕ, zero, suc, _-_, _≤_, _<_, _+_}
 use mathlib.Core.Path.{_≡_, refl, sym, _∙_}
-use mathlib.Core.Bool.{Bool, true, false}
+use mathlib.Core.Bool.{Bool, true, false, cond}
 use mathlib.Core.List.{List}
 use native.Mathlib.Omega.{arith}
 use borrow.Author.Tests.{lt-ltb, le-ltb, ltb-true, ltb-false}
@@ -9,9 +9,9 @@ use lib.Dec.{ltb, eqb, eqb→eq}
 use lib.ListN.{length, getD, set, length-set, List·getD-eq-default}
 use lib.Seq.{set-out, getD-set-same, getD-set-other}
 use Rattle.executive.specs.declared.Task.{Task}
-use Rattle.executive.specs.Places.{levelAt, noTask, taskAt, putAt, entryPlace, Names}
-use Rattle.executive.specs.Lists.{pick, sumOf}
-use Rattle.executive.proofs.Lists.Tests.{T-of, eqb-no}
+use Rattle.executive.specs.Places.{priorityAt, noTask, taskAt, putAt, entryPlace, Names}
+use Rattle.executive.specs.Lists.{sumOf}
+use Rattle.executive.proofs.Lists.Tests.{So-of-true, eqb-no}
 use Rattle.executive.proofs.Lists.Sums.{sum-set}
 
 -- the place of a number, as it is worked out
@@ -34,23 +34,23 @@ unfolding entryPlace
 place-low zero = omega arith
 place-low (suc i) = go (ltb i 16) refl
   where
-    go : (b : Bool) → ltb i 16 ≡ b → pick b i 16 ≤ 16
+    go : (b : Bool) → ltb i 16 ≡ b → cond b i 16 ≤ 16
     go true h = omega (arith, ltb-true i 16 h)
     go false h = omega arith
 
 -- what lies at a number's place of sixteen, and what is put there
 module _ {A : Type 0} (xs : List A) (l : length xs ≡ 16) (i : ℕ) where
-  read-place : (d : A) → getD xs i d ≡ getD xs (pick (ltb i 16) i 16) d
+  read-place : (d : A) → getD xs i d ≡ getD xs (cond (ltb i 16) i 16) d
   read-place d = go (ltb i 16) refl
     where
-      go : (b : Bool) → ltb i 16 ≡ b → getD xs i d ≡ getD xs (pick b i 16) d
+      go : (b : Bool) → ltb i 16 ≡ b → getD xs i d ≡ getD xs (cond b i 16) d
       go true h = refl
       go false h = List·getD-eq-default xs d {n = i} (omega (arith, ltb-false i 16 h)) ∙ sym (List·getD-eq-default xs d {n = 16} (omega arith))
 
-  set-place : (x : A) → set xs i x ≡ set xs (pick (ltb i 16) i 16) x
+  set-place : (x : A) → set xs i x ≡ set xs (cond (ltb i 16) i 16) x
   set-place x = go (ltb i 16) refl
     where
-      go : (b : Bool) → ltb i 16 ≡ b → set xs i x ≡ set xs (pick b i 16) x
+      go : (b : Bool) → ltb i 16 ≡ b → set xs i x ≡ set xs (cond b i 16) x
       go true h = refl
       go false h = set-out xs i x (omega (arith, ltb-false i 16 h)) ∙ sym (set-out xs 16 x (omega arith))
 
@@ -82,12 +82,12 @@ module _ (ts : List Task) where
     put-no-place e n k z h = put-place e n ∙ rw (← z) (set-out ts k e (omega arith))
 
 -- the priority that an entry has once it is put in place
-pub level-put : (ts : List Task) (e : Task) → length ts ≡ 16 → (n : ℕ) → levelAt n (e .priority) ≡ taskAt (putAt ts n e) n .priority
-unfolding levelAt entryPlace taskAt putAt
-level-put ts e l zero = refl
-level-put ts e l (suc i) = go (ltb i 16) refl
+pub priority-put : (ts : List Task) (e : Task) → length ts ≡ 16 → (n : ℕ) → priorityAt n (e .priority) ≡ taskAt (putAt ts n e) n .priority
+unfolding priorityAt entryPlace taskAt putAt
+priority-put ts e l zero = refl
+priority-put ts e l (suc i) = go (ltb i 16) refl
   where
-    go : (b : Bool) → ltb i 16 ≡ b → pick (ltb (pick b i 16) 16) (e .priority) 0 ≡ getD (set ts i e) i noTask .priority
+    go : (b : Bool) → ltb i 16 ≡ b → cond (ltb (cond b i 16) 16) (e .priority) 0 ≡ getD (set ts i e) i noTask .priority
     go true h = rw (h, getD-set-same ts i e noTask (omega (arith, ltb-true i 16 h))) refl
     go false h = rw (List·getD-eq-default (set ts i e) noTask {n = i} (omega (arith, ltb-false i 16 h, length-set ts i e))) refl
 
@@ -114,9 +114,9 @@ put-length ts zero e = refl
 put-length ts (suc i) e = length-set ts i e
 
 -- what any reading of a task says after a store
-pub put-at : {B : Type 0} (f : Task → B) (ts : List Task) (j k : ℕ) (e : Task) → Names j ts → f (taskAt (putAt ts j e) k) ≡ pick (eqb k j) (f e) (f (taskAt ts k))
+pub put-at : {B : Type 0} (f : Task → B) (ts : List Task) (j k : ℕ) (e : Task) → Names j ts → f (taskAt (putAt ts j e) k) ≡ cond (eqb k j) (f e) (f (taskAt ts k))
 put-at f ts j k e n = go (eqb k j) refl
   where
-    go : (b : Bool) → eqb k j ≡ b → f (taskAt (putAt ts j e) k) ≡ pick b (f e) (f (taskAt ts k))
-    go true h = rw (eqb→eq k j (T-of (eqb k j) h), at-same ts j e n)
+    go : (b : Bool) → eqb k j ≡ b → f (taskAt (putAt ts j e) k) ≡ cond b (f e) (f (taskAt ts k))
+    go true h = rw (eqb→eq k j (So-of-true (eqb k j) h), at-same ts j e n)
     go false h = rw (at-other ts j k e h)

@@ -6,16 +6,16 @@ use Rattle.records.specs.Reading.{readAs, readOf}
 use Rattle.executive.specs.Queue.{behind}
 use Rattle.executive.specs.Lists.{pad, each, sumOf, upTo, allOf}
 use Rattle.executive.specs.Places.{taskAt, putAt}
-use Rattle.executive.specs.Table.{enterAt, departed, entered, depart, admit, admits, carry}
+use Rattle.executive.specs.Table.{enterAt, departed, entered, depart, enterInFlight, enterAllInFlight, applyInFlight}
 use Rattle.executive.specs.Clock.{interval, aimAt, rung, advanced}
 use Rattle.executive.specs.Pool.{placeOf}
 use Rattle.executive.specs.Flags.{isSet}
-use Rattle.executive.specs.Plans.{waking, endPlan, restartPlan, pausePlan, cancelPlan, levelOf, waitOf, argumentOf, startPlan, queuePlan, startOnlyPlan, requestOf, askPlan, rises, risers, setPlan, resetPlan, flagPlan, waitPlan, alarmPlan, tickPlan}
+use Rattle.executive.specs.Plans.{waking, terminatePlan, restartPlan, pausePlan, cancelPausePlan, priorityOf, waitOf, argumentOf, startNowPlan, queueRequestPlan, startIfDormantPlan, requestOf, startOrQueuePlan, rises, risers, setPlan, resetPlan, flagPlan, waitPlan, alarmPlan, tickPlan}
 use Rattle.executive.specs.Plans.{planOf}
 use Rattle.executive.specs.Refusals.{nobodyActive, badBody, namesCaller, alarmRunning, poolFull, endsTime, overfills, refusals, firstOf}
 use Rattle.executive.specs.Step.{marksOf, accepted, refused, stepOf}
 use Rattle.executive.specs.Check.{numbersRight, falls, exactAt, queueRight, timesRight, startedRight, masksRight, busyRight, waitersAt, waitersRight, dormantRight, poolRight, isWellFormed}
-use Rattle.executive.specs.Configuration.{tasksFrom, tasksIn, configurationIn, taskRight, isConfiguration, sleepers, dormantTable, starter, starters, freshTable, freshOf}
+use Rattle.executive.specs.Configuration.{tasksFrom, tasksIn, configurationIn, taskRight, isConfiguration, sleepers, dormantTable, markedStart, starters, freshTable, freshOf}
 use Rattle.executive.specs.Promises.Demands.{after}
 use Rattle.executive.specs.Promises.Worked.{along}
 use Rattle.executive.specs.Promises.Cards.{one, two, idle, atTime, again, full, Cards}
@@ -27,7 +27,7 @@ use Rattle.executive.proofs.configuration.SaidOut.{said-out}
 use Rattle.executive.proofs.configuration.WellFormed.{fresh-formed, fresh-room, fresh-clock, fresh-flags, fresh-made, fresh-refused, fresh-dispatched}
 
 pub cards : Cards
-unfolding behind pad taskAt putAt enterAt departed entered depart admit admits carry interval aimAt placeOf isSet each rung advanced waking endPlan restartPlan pausePlan cancelPlan levelOf waitOf argumentOf startPlan queuePlan startOnlyPlan requestOf askPlan rises risers setPlan resetPlan flagPlan waitPlan alarmPlan tickPlan upTo allOf sumOf numbersRight falls exactAt queueRight timesRight startedRight masksRight busyRight waitersAt waitersRight dormantRight poolRight isWellFormed kindOf readAs readOf planOf nobodyActive badBody namesCaller alarmRunning poolFull endsTime overfills refusals firstOf marksOf accepted refused stepOf tasksFrom tasksIn configurationIn taskRight isConfiguration sleepers dormantTable starter starters freshTable freshOf after along
+unfolding behind pad taskAt putAt enterAt departed entered depart enterInFlight enterAllInFlight applyInFlight interval aimAt placeOf isSet each rung advanced waking terminatePlan restartPlan pausePlan cancelPausePlan priorityOf waitOf argumentOf startNowPlan queueRequestPlan startIfDormantPlan requestOf startOrQueuePlan rises risers setPlan resetPlan flagPlan waitPlan alarmPlan tickPlan upTo allOf sumOf numbersRight falls exactAt queueRight timesRight startedRight masksRight busyRight waitersAt waitersRight dormantRight poolRight isWellFormed kindOf readAs readOf planOf nobodyActive badBody namesCaller alarmRunning poolFull endsTime overfills refusals firstOf marksOf accepted refused stepOf tasksFrom tasksIn configurationIn taskRight isConfiguration sleepers dormantTable markedStart starters freshTable freshOf after along
 cards = record {
   formed = (
     well-formed-iff (one 1) .0 refl,
@@ -56,7 +56,7 @@ cards = record {
 }
 
 pub fresh-law : FreshLaw
-unfolding behind pad taskAt putAt enterAt entered admit admits upTo tasksFrom tasksIn configurationIn taskRight isConfiguration sleepers dormantTable starter starters freshTable freshOf
+unfolding behind pad taskAt putAt enterAt entered enterInFlight enterAllInFlight upTo tasksFrom tasksIn configurationIn taskRight isConfiguration sleepers dormantTable markedStart starters freshTable freshOf
 fresh-law = record {
   exactly = λ s. (spelled s, tested s);
   formed = fresh-formed;

@@ -1,7 +1,7 @@
 -- The founder's demands, shown: demand 3 over any records, and the record of all of them.
 use mathlib.Core.Path.{_≡_, refl, sym, ap, _∙_}
 use mathlib.Core.Logic.{_≢_}
-use mathlib.Core.Bool.{Bool, true, false}
+use mathlib.Core.Bool.{Bool, true, false, cond}
 use mathlib.Core.List.{List, [], _∷_, _++_}
 use Prim.Native.Nat.{ℕ, zero, suc, _+_, _≤_, _<_}
 use native.Mathlib.Omega.{arith}
@@ -17,25 +17,25 @@ use Rattle.executive.specs.declared.Task.{Task}
 use Rattle.executive.specs.declared.Request.{Request}
 use Rattle.executive.specs.declared.Table.{Table}
 use Rattle.executive.specs.Queue.{Item, Moves, count, ahead, prioIn, activeOf, left, play, plays, Fresh, Legal, Waiting, departures, entriesAbove}
-use Rattle.executive.specs.Lists.{pick, one}
+use Rattle.executive.specs.Lists.{one}
 use Rattle.executive.specs.Places.{nobody, noRequest, taskAt}
 use Rattle.executive.specs.Table.{line, view, Join, entries, apply, movesOf}
 use Rattle.executive.specs.Pool.{requests, placeOf}
 use Rattle.executive.specs.States.{ready}
 use Rattle.executive.specs.Entries.{withState, begun, risen}
 use Rattle.executive.specs.Clock.{aimAt}
-use Rattle.executive.specs.Plans.{caller, endWaiter, waking, endPlan, restartPlan, planOf}
+use Rattle.executive.specs.Plans.{caller, endWaiter, waking, terminatePlan, restartPlan, planOf}
 use Rattle.executive.specs.WellFormed.{WellFormed}
-use Rattle.executive.specs.Refusals.{callIn, refusals, firstOf, earlyOf}
+use Rattle.executive.specs.Refusals.{callIn, refusals, firstOf, refusalBefore11}
 use Rattle.executive.specs.Step.{stepOf}
-use Rattle.executive.specs.Promises.Demands.{planIn, after, history, AllBytes, IsReady, Dispatched, NotYet, Overtaking, departedOf, enteredOf, Restarts, RestartsBy, Demands}
+use Rattle.executive.specs.Promises.Demands.{planOfRecord, after, history, AllBytes, IsReady, Dispatched, NotYet, Overtaking, departedOf, enteredOf, Restarts, RestartsBy, Demands}
 use Rattle.executive.proofs.Lists.Tests.{eqb-self, not-zero}
 use Rattle.executive.proofs.queue.Law.{first, first-only}
 use Rattle.executive.proofs.queue.Overtaking.{Still, played, overtaken, play-count}
 use Rattle.executive.proofs.Plans.Moves.{apply-view}
 use Rattle.executive.proofs.Plans.WorkingForm.{formed}
 use Rattle.executive.proofs.Plans.QueueKept.{is-le}
-use Rattle.executive.proofs.Plans.LinksKept.{ok-up}
+use Rattle.executive.proofs.Plans.LinksKept.{links-up}
 use Rattle.executive.proofs.Plans.Links.{take, place-target}
 use Rattle.executive.proofs.Plans.Shared.{runs}
 use Rattle.executive.proofs.refusals.NothingRefuses.{early, end-owed, restart-owed}
@@ -53,7 +53,7 @@ unfolding after
 kept t [] w b = w
 kept t (s ∷ ss) w b = kept (stepOf t s .table) ss (step-kept t s w (b .0)) (b .1)
 
-pub executed : (t : Table) (s : List ℕ) → WellFormed t → Bytes s → stepOf t s .table ≡ apply (planIn t s) t
+pub executed : (t : Table) (s : List ℕ) → WellFormed t → Bytes s → stepOf t s .table ≡ apply (planOfRecord t s) t
 executed t s w b = step-is t s w b .table
 
 -- ---- demand 2
@@ -66,8 +66,8 @@ dispatched t ss s w bs b =
 -- ---- demand 3
 -- what a step does to the queue is what its plan says
 pub step-moves : (t : Table) (s : List ℕ) → WellFormed t → Bytes s
-    → (view (stepOf t s .table) ≡ play (movesOf (planIn t s) t) (view t)) × Fresh (movesOf (planIn t s) t .ins) (left (movesOf (planIn t s) t .out) (view t))
-step-moves t s w b = let x = step-is t s w b in rw (x .table) (apply-view (planIn t s) t (x .kept .sound))
+    → (view (stepOf t s .table) ≡ play (movesOf (planOfRecord t s) t) (view t)) × Fresh (movesOf (planOfRecord t s) t .ins) (left (movesOf (planOfRecord t s) t .out) (view t))
+step-moves t s w b = let x = step-is t s w b in rw (x .table) (apply-view (planOfRecord t s) t (x .kept .sound))
 
 -- the moves of a history make the queue of its table, are legal, and k waits through them
 pub record Told (t : Table) (k : ℕ) (ss : List (List ℕ)) : Type 0 where
@@ -87,7 +87,7 @@ told : (t : Table) (k : ℕ) (ss : List (List ℕ)) → WellFormed t → AllByte
 unfolding after history plays
 told t k [] w b h n = record { queue = refl; legal = tt; waits = tt }
 told t k (s ∷ ss) w b h n =
-    let m : Moves = movesOf (planIn t s) t in
+    let m : Moves = movesOf (planOfRecord t s) t in
     let x = step-moves t s w (b .0) in
     let a : 0 < ahead k (view t) = waiting (view t) k h (n .0) in
     let p = played k m (view t) (formed w .queue .sorted) h a (x .1) in
@@ -121,7 +121,7 @@ pub accounted : (t : Table) (k : ℕ) (ss : List (List ℕ)) → WellFormed t �
 unfolding after history departedOf enteredOf
 accounted t k [] w b h = refl
 accounted t k (s ∷ ss) w b h =
-    let m : Moves = movesOf (planIn t s) t in
+    let m : Moves = movesOf (planOfRecord t s) t in
     let e : view (stepOf t s .table) ≡ play m (view t) = step-moves t s w (b .0) .0 in
     omega (
       arith,
@@ -159,7 +159,7 @@ unfolding waking entries count
 again c e s f ts a b = go (eqb (e .0) 0) (eqb (s .0) 0)
   where
     woken : Bool → TaskNo → List Join
-    woken x k = pick x [] (record { who = k; change = withState Ready } ∷ [])
+    woken x k = cond x [] (record { who = k; change = withState Ready } ∷ [])
 
     go : (x y : Bool) → count (c .0) (entries (woken x e ++ (record { who = c; change = f } ∷ woken y s)) ts) ≡ 1
     go true true = omega (arith, ap one (eqb-self (c .0)))
@@ -181,21 +181,21 @@ module _ (t : Table) (w : WellFormed t) (h : 0 < t .ready) where
     enters = rw (le-leb (aimAt (taskAt (t .tasks) (c .0) .start) (t .rest .clock) p n .0) (t .rest .clock .0) l) (again c (endWaiter t c) nobody risen _ waiter-other (not-zero (c .0) (runs t (formed w) h .names .0)));
   }
 
-  pub begins-again : placeOf (c .0) (requests (t .rest)) < length (requests (t .rest)) → Restarts (endPlan t) t
-  unfolding endPlan movesOf
+  pub begins-again : placeOf (c .0) (requests (t .rest)) < length (requests (t .rest)) → Restarts (terminatePlan t) t
+  unfolding terminatePlan movesOf
   begins-again l =
       let rs : List Request = requests (t .rest) in
       let i : ℕ = placeOf (c .0) rs in
-      let o = take (t .tasks) rs (c .0) 0 i l (place-target (c .0) rs l) (ok-up (formed w .links)) in
+      let o = take (t .tasks) rs (c .0) 0 i l (place-target (c .0) rs l) (links-up (formed w .links)) in
       rw (lt-ltb i (length rs) l) (record { departs = refl; enters = again c (endWaiter t c) (getD rs i noRequest .«start_waiter») (begun (getD rs i noRequest) (t .rest .clock)) _ waiter-other (o .2) })
 
 -- ---- the same in the history of an accepted record: its plan is its call's
 module _ (t : Table) (s : List ℕ) (e : stepOf t s .answer .number ≡ 0) where
-  nothing-early : earlyOf t (callIn s) ≡ 0
+  nothing-early : refusalBefore11 t (callIn s) ≡ 0
   nothing-early = early t (callIn s) (call-allowed t s (allowed t s e))
 
-  planned-so : planIn t s ≡ planOf t (callIn s)
-  unfolding planIn
+  planned-so : planOfRecord t s ≡ planOf t (callIn s)
+  unfolding planOfRecord
   planned-so = rw (eq-eqb (firstOf (refusals t s)) 0 (allowed t s e)) refl
 
   restarted : Restarts (planOf t (callIn s)) t → RestartsBy s t
@@ -241,7 +241,7 @@ demands = record {
   restarts-by = restarts-by;
   begins-again-by = begins-again-by;
   step-determined = λ t s x y p q. p ∙ sym q;
-  take-determined = λ t c x y p q. p ∙ sym q;
+  step-call-determined = λ t c x y p q. p ∙ sym q;
   check-determined = checked-once;
   fresh-determined = λ s x y p q. p ∙ sym q;
   no-table-determined = λ x y p q. p ∙ sym q;

@@ -1,7 +1,7 @@
 -- A restart that skips is due at the next time on its grid, and no other step passes over anything.
 use Prim.Native.Nat.{ℕ, zero, suc, _+_, _-_, _*_, _/_, _%_, _≤_, _<_}
 use mathlib.Core.Path.{_≡_, refl, sym, ap, _∙_}
-use mathlib.Core.Bool.{Bool, true, false}
+use mathlib.Core.Bool.{Bool, true, false, cond}
 use mathlib.Core.Logic.{_↔_, _≢_}
 use mathlib.Core.List.{List, [], _∷_, _++_}
 use native.Mathlib.Nat.{div-add-mod', mod-lt, add-mul, mul-le-mul-right, le-div-iff-mul-le}
@@ -18,19 +18,19 @@ use Rattle.executive.specs.declared.Outcome.{Outcome}
 use Rattle.executive.specs.declared.Task.{Task}
 use Rattle.executive.specs.declared.Table.{Table}
 use Rattle.executive.specs.Numbers.{lastUnit}
-use Rattle.executive.specs.Lists.{pick, pad, sumOf, upTo, allOf, each}
+use Rattle.executive.specs.Lists.{pad, sumOf, upTo, allOf, each}
 use Rattle.executive.specs.Queue.{behind}
 use Rattle.executive.specs.Places.{taskAt, putAt}
-use Rattle.executive.specs.Table.{carry, apply, depart, Plan, Out, enterAt, departed, entered, admit, admits}
+use Rattle.executive.specs.Table.{applyInFlight, apply, depart, Plan, Out, enterAt, departed, entered, enterInFlight, enterAllInFlight}
 use Rattle.executive.specs.Entries.{dueAt}
 use Rattle.executive.specs.Clock.{interval, missed, nextOnGrid, skipsMissed, aimAt, skippedOf, rung, advanced}
-use Rattle.executive.specs.Plans.{caller, endWaiter, waking, restartPlan, endPlan, pausePlan, cancelPlan, levelOf, waitOf, argumentOf, startPlan, queuePlan, startOnlyPlan, requestOf, askPlan, rises, risers, setPlan, resetPlan, flagPlan, waitPlan, alarmPlan, tickPlan}
+use Rattle.executive.specs.Plans.{caller, endWaiter, waking, restartPlan, terminatePlan, pausePlan, cancelPausePlan, priorityOf, waitOf, argumentOf, startNowPlan, queueRequestPlan, startIfDormantPlan, requestOf, startOrQueuePlan, rises, risers, setPlan, resetPlan, flagPlan, waitPlan, alarmPlan, tickPlan}
 use Rattle.executive.specs.WellFormed.{WellFormed}
 use Rattle.executive.specs.Check.{isWellFormed, numbersRight, falls, exactAt, queueRight, timesRight, startedRight, masksRight, busyRight, waitersAt, waitersRight, dormantRight, poolRight}
 use Rattle.executive.specs.Plans.{planOf}
 use Rattle.executive.specs.Refusals.{nobodyActive, badBody, namesCaller, alarmRunning, poolFull, endsTime, overfills, refusals, firstOf, callIn}
 use Rattle.executive.specs.Step.{marksOf, accepted, refused, outcomeOf, stepOf, noTable, marks, answerOf, hasV}
-use Rattle.executive.specs.Promises.Demands.{planIn, after}
+use Rattle.executive.specs.Promises.Demands.{planOfRecord, after}
 use Rattle.executive.specs.Promises.Skipping.{NextOnGrid, Skip, DueNext, Skips, Skipping}
 use Rattle.executive.proofs.clock.Interval.{every-some, next-ahead}
 use Rattle.executive.proofs.check.Decides.{well-formed-iff}
@@ -42,7 +42,7 @@ use Rattle.executive.proofs.Plans.Restart.{still}
 use Rattle.executive.proofs.refusals.NothingRefuses.{Clear}
 use Rattle.executive.proofs.step.StepIsPlan.{never-full, step-is}
 use Rattle.executive.proofs.step.FirstThatHolds.{number-is}
-use Rattle.executive.specs.Configuration.{tasksFrom, tasksIn, configurationIn, taskRight, isConfiguration, sleepers, dormantTable, starter, starters, freshTable, freshOf}
+use Rattle.executive.specs.Configuration.{tasksFrom, tasksIn, configurationIn, taskRight, isConfiguration, sleepers, dormantTable, markedStart, starters, freshTable, freshOf}
 use Rattle.executive.specs.Pool.{placeOf}
 use Rattle.executive.specs.Flags.{isSet}
 use Rattle.records.specs.declared.Call.the-variants as call
@@ -138,9 +138,9 @@ module _ (t : Table) (p n : ℕ) (w : WellFormed t) (h : 0 < t .ready) (hp : p <
   unfolding refusals firstOf readOf readAs kindOf nobodyActive badBody namesCaller alarmRunning poolFull endsTime
   allowed = rw (well-formed-iff t .1 w, clear .active, clear .body, never-full t (call.Restart p n) w (hp, (hn, tt)) clear) refl
 
-  planned : planIn t bytes ≡ restartPlan t p n
-  unfolding planIn planOf readOf readAs kindOf
-  planned = rw (eq-eqb (firstOf (refusals t bytes)) 0 allowed) refl
+  planOfCall : planOfRecord t bytes ≡ restartPlan t p n
+  unfolding planOfRecord planOf readOf readAs kindOf
+  planOfCall = rw (eq-eqb (firstOf (refusals t bytes)) 0 allowed) refl
 
   ahead : (t .rest .clock .0 < aim .0)
   ahead = rw (aims-next start (t .rest .clock) p n s) (next-ahead start (t .rest .clock) every (w .started (caller t .0)) (every-some p n (s .unit) hn (skips-so p n s) .0) .0)
@@ -153,7 +153,7 @@ module _ (t : Table) (p n : ℕ) (w : WellFormed t) (h : 0 < t .ready) (hp : p <
       ∙ ap (puts (waking (endWaiter t (caller t)))) (out-tasks (Out.leaves (dueAt aim)) t))
 
   table-after : stepOf t bytes .table ≡ apply (restartPlan t p n) t
-  table-after = step-is t bytes w all-bytes .table ∙ ap (λ (q : Plan). apply q t) planned
+  table-after = step-is t bytes w all-bytes .table ∙ ap (λ (q : Plan). apply q t) planOfCall
 
   becomes-due : taskAt (stepOf t bytes .table .tasks) (caller t .0) .state ≡ Due aim
   becomes-due = rw (table-after, tasks-after, still t (formed w) h aim) refl
@@ -181,7 +181,7 @@ unfolding accepted refused
 outcome-skipped t n c = go (eqb n 0) refl (eqb n 1)
   where
     go : (a : Bool) → eqb n 0 ≡ a → (b : Bool)
-        → pick a (accepted t c) (pick {A = Outcome} b
+        → cond a (accepted t c) (cond {A = Outcome} b
         (record { answer = noTable; table = t })
         (record { answer = answerOf n (marks false (hasV n) false) t; table = t })) .answer .skipped ≢ 0 → (n ≡ 0) × (marksOf t c .skipped ≢ 0)
     go true e b z = (eqb-true n 0 e, z)
@@ -193,7 +193,7 @@ unfolding skippedOf
 skip-of start now p n = go (ltb lastUnit (p % 8)) refl (eqb (p / 64 % 4) 1) refl (ltb 0 n) refl
   where
     go : (a : Bool) → ltb lastUnit (p % 8) ≡ a → (b : Bool) → eqb (p / 64 % 4) 1 ≡ b → (c : Bool) → ltb 0 n ≡ c
-        → pick a 0 (pick (pick b c false) (missed start now (interval (p % 8) n)) 0) ≢ 0 → Skip p n
+        → cond a 0 (cond (cond b c false) (missed start now (interval (p % 8) n)) 0) ≢ 0 → Skip p n
     go true e b f c g z = absurd (z refl)
     go false e false f c g z = absurd (z refl)
     go false e true f false g z = absurd (z refl)
@@ -206,8 +206,8 @@ module _ (t : Table) (s : List ℕ) (a : stepOf t s .answer .number ≡ 0) where
   marks-skip (call.Restart p n) e z = record { accepted = a; parameter = p; count = n; restart = e; skip = skip-of (taskAt (t .tasks) (caller t .0) .start) (t .rest .clock) p n z }
   marks-skip (call.Pause u n) e z = absurd (z refl)
   marks-skip (call.CancelPause k) e z = absurd (z refl)
-  marks-skip (call.Start o k) e z = absurd (z refl)
-  marks-skip (call.Queue o k x) e z = absurd (z refl)
+  marks-skip (call.StartIfDormant o k) e z = absurd (z refl)
+  marks-skip (call.StartOrQueue o k x) e z = absurd (z refl)
   marks-skip (call.Flag o f) e z = absurd (z refl)
   marks-skip (call.Wait m x) e z = absurd (z refl)
   marks-skip (call.Alarm u n f) e z = absurd (z refl)
@@ -223,7 +223,7 @@ elsewhere t s z =
     marks-skip t s (number-is t (firstOf (refusals t s)) (callIn s) ∙ o .0) (callIn s) refl (o .1)
 
 pub skipping : Skipping
-unfolding tasksFrom tasksIn configurationIn kindOf readAs readOf behind pad taskAt putAt enterAt departed entered depart admit admits carry interval aimAt placeOf isSet each rung advanced waking endPlan restartPlan pausePlan cancelPlan levelOf waitOf argumentOf startPlan queuePlan startOnlyPlan requestOf askPlan rises risers setPlan resetPlan flagPlan waitPlan alarmPlan tickPlan upTo allOf sumOf numbersRight falls exactAt queueRight timesRight startedRight masksRight busyRight waitersAt waitersRight dormantRight poolRight isWellFormed planOf nobodyActive badBody namesCaller alarmRunning poolFull endsTime overfills refusals firstOf marksOf accepted refused stepOf taskRight isConfiguration sleepers dormantTable starter starters freshTable freshOf after missed nextOnGrid skippedOf
+unfolding tasksFrom tasksIn configurationIn kindOf readAs readOf behind pad taskAt putAt enterAt departed entered depart enterInFlight enterAllInFlight applyInFlight interval aimAt placeOf isSet each rung advanced waking terminatePlan restartPlan pausePlan cancelPausePlan priorityOf waitOf argumentOf startNowPlan queueRequestPlan startIfDormantPlan requestOf startOrQueuePlan rises risers setPlan resetPlan flagPlan waitPlan alarmPlan tickPlan upTo allOf sumOf numbersRight falls exactAt queueRight timesRight startedRight masksRight busyRight waitersAt waitersRight dormantRight poolRight isWellFormed planOf nobodyActive badBody namesCaller alarmRunning poolFull endsTime overfills refusals firstOf marksOf accepted refused stepOf taskRight isConfiguration sleepers dormantTable markedStart starters freshTable freshOf after missed nextOnGrid skippedOf
 skipping = record {
   next = next;
   only = only;

@@ -5,21 +5,21 @@ use Rattle.records.specs.Reading.{readAs, readOf}
 use Rattle.executive.specs.Queue.{behind, insert, count, ahead, prioIn, activeOf, departures, above, entriesAbove}
 use Rattle.executive.specs.Lists.{pad, each, sumOf, upTo, allOf}
 use Rattle.executive.specs.Places.{taskAt, putAt}
-use Rattle.executive.specs.Table.{items, enterAt, departed, entered, depart, join, joins, apply, admit, admits, carry, entries, movesOf}
+use Rattle.executive.specs.Table.{items, enterAt, departed, entered, depart, join, joins, apply, enterInFlight, enterAllInFlight, applyInFlight, entries, movesOf}
 use Rattle.executive.specs.Clock.{interval, aimAt, rung, advanced}
 use Rattle.executive.specs.Pool.{placeOf}
 use Rattle.executive.specs.Flags.{isSet}
-use Rattle.executive.specs.Plans.{waking, endPlan, restartPlan, pausePlan, cancelPlan, levelOf, waitOf, argumentOf, startPlan, queuePlan, startOnlyPlan, requestOf, askPlan, rises, risers, setPlan, resetPlan, flagPlan, waitPlan, alarmPlan, tickPlan}
+use Rattle.executive.specs.Plans.{waking, terminatePlan, restartPlan, pausePlan, cancelPausePlan, priorityOf, waitOf, argumentOf, startNowPlan, queueRequestPlan, startIfDormantPlan, requestOf, startOrQueuePlan, rises, risers, setPlan, resetPlan, flagPlan, waitPlan, alarmPlan, tickPlan}
 use Rattle.executive.specs.Check.{numbersRight, falls, exactAt, queueRight, timesRight, startedRight, masksRight, busyRight, waitersAt, waitersRight, dormantRight, poolRight, isWellFormed}
 use Rattle.executive.specs.Plans.{planOf}
 use Rattle.executive.specs.Refusals.{nobodyActive, badBody, namesCaller, alarmRunning, poolFull, endsTime, overfills, refusals, firstOf}
 use Rattle.executive.specs.Step.{marksOf, accepted, refused, stepOf}
-use Rattle.executive.specs.Configuration.{tasksFrom, tasksIn, configurationIn, taskRight, isConfiguration, sleepers, dormantTable, starter, starters, freshTable, freshOf}
-use Rattle.executive.specs.Promises.Demands.{planIn, history}
+use Rattle.executive.specs.Configuration.{tasksFrom, tasksIn, configurationIn, taskRight, isConfiguration, sleepers, dormantTable, markedStart, starters, freshTable, freshOf}
+use Rattle.executive.specs.Promises.Demands.{planOfRecord, history}
 use Rattle.executive.specs.Promises.Worked.{along, Worked}
 
 pub worked : Worked
-unfolding tasksFrom tasksIn configurationIn kindOf readAs readOf behind insert count ahead prioIn activeOf departures above entriesAbove pad taskAt putAt items enterAt departed entered depart join joins apply admit admits carry entries movesOf interval aimAt placeOf isSet each rung advanced waking endPlan restartPlan pausePlan cancelPlan levelOf waitOf argumentOf startPlan queuePlan startOnlyPlan requestOf askPlan rises risers setPlan resetPlan flagPlan waitPlan alarmPlan tickPlan upTo allOf sumOf numbersRight falls exactAt queueRight timesRight startedRight masksRight busyRight waitersAt waitersRight dormantRight poolRight isWellFormed planOf nobodyActive badBody namesCaller alarmRunning poolFull endsTime overfills refusals firstOf marksOf accepted refused stepOf taskRight isConfiguration sleepers dormantTable starter starters freshTable freshOf planIn history along
+unfolding tasksFrom tasksIn configurationIn kindOf readAs readOf behind insert count ahead prioIn activeOf departures above entriesAbove pad taskAt putAt items enterAt departed entered depart join joins apply enterInFlight enterAllInFlight applyInFlight entries movesOf interval aimAt placeOf isSet each rung advanced waking terminatePlan restartPlan pausePlan cancelPausePlan priorityOf waitOf argumentOf startNowPlan queueRequestPlan startIfDormantPlan requestOf startOrQueuePlan rises risers setPlan resetPlan flagPlan waitPlan alarmPlan tickPlan upTo allOf sumOf numbersRight falls exactAt queueRight timesRight startedRight masksRight busyRight waitersAt waitersRight dormantRight poolRight isWellFormed planOf nobodyActive badBody namesCaller alarmRunning poolFull endsTime overfills refusals firstOf marksOf accepted refused stepOf taskRight isConfiguration sleepers dormantTable markedStart starters freshTable freshOf planOfRecord history along
 worked = record {
   started = refl;
   well-formed = refl;

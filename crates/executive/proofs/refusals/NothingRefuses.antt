@@ -1,7 +1,7 @@
 -- A call that nothing refuses has what its method asks.
 use Prim.Native.Nat.{ℕ, _+_, _≤_, _<_, _^_}
 use mathlib.Core.Path.{_≡_, refl, sym}
-use mathlib.Core.Bool.{Bool, true, false}
+use mathlib.Core.Bool.{Bool, true, false, cond, _||_}
 use mathlib.Core.List.{List, [], _∷_}
 use native.Mathlib.Omega.{arith}
 use borrow.Author.Tests.{ltb-false, leb-false, eqb-false}
@@ -12,13 +12,12 @@ use Rattle.records.specs.declared.Call.{Call}
 use Rattle.records.specs.declared.Call.the-variants as call
 use Rattle.executive.specs.Numbers.{lastUnit}
 use Rattle.executive.specs.declared.Table.{Table}
-use Rattle.executive.specs.Lists.{pick, _or_}
-use Rattle.executive.specs.Table.{Fit, Standing}
+use Rattle.executive.specs.Table.{ArraysInOrder, TimesInOrder}
 use Rattle.executive.specs.States.{isDormant}
 use Rattle.executive.specs.Plans.{stateAt}
 use Rattle.executive.specs.WellFormed.{WellFormed, Times}
-use Rattle.executive.specs.Refusals.{isTick, nobodyActive, badBody, namesCaller, alarmRunning, poolFull, endsTime, Refusal, when, callRefusals, firstOf, butLast, earlyOf}
-use Rattle.executive.proofs.Lists.Tests.{clash}
+use Rattle.executive.specs.Refusals.{isTick, nobodyActive, badBody, namesCaller, alarmRunning, poolFull, endsTime, Refusal, when, callRefusals, firstOf, butLast, refusalBefore11}
+use Rattle.executive.proofs.Lists.Tests.{false-not-true}
 use Rattle.executive.proofs.calls.InOrder.{fit-of, standing-of}
 
 -- the first of a list is given no number: its condition does not hold
@@ -27,7 +26,7 @@ unfolding firstOf
 first-none n true rs h e = absurd (omega arith)
 first-none n false rs h e = (refl, e)
 
-under : (b : Bool) (n : ℕ) {l m : ℕ} → (l ≡ 0 → m ≡ 0) → pick b n l ≡ 0 → pick b n m ≡ 0
+under : (b : Bool) (n : ℕ) {l m : ℕ} → (l ≡ 0 → m ≡ 0) → cond b n l ≡ 0 → cond b n m ≡ 0
 under true n f e = e
 under false n f e = f e
 
@@ -38,8 +37,8 @@ but-last [] e = refl
 but-last (r ∷ []) e = refl
 but-last (r ∷ s ∷ rs) e = under (r .given) (r .number) (but-last (s ∷ rs)) e
 
-pub early : (t : Table) (c : Call) → firstOf (callRefusals t c) ≡ 0 → earlyOf t c ≡ 0
-unfolding earlyOf
+pub early : (t : Table) (c : Call) → firstOf (callRefusals t c) ≡ 0 → refusalBefore11 t c ≡ 0
+unfolding refusalBefore11
 early t c e = but-last (callRefusals t c) e
 
 -- none of what can be refused of a call holds, but for number 11, which need not be said
@@ -50,8 +49,8 @@ pub record Clear (t : Table) (c : Call) : Type 0 where
   pub room : poolFull t c ≡ false
   pub time : endsTime t c ≡ false
 
-pub clear-of : (t : Table) (c : Call) → earlyOf t c ≡ 0 → Clear t c
-unfolding earlyOf
+pub clear-of : (t : Table) (c : Call) → refusalBefore11 t c ≡ 0 → Clear t c
+unfolding refusalBefore11
 clear-of t c h =
     let a = first-none 5 (nobodyActive t c) _ (omega arith) h in
     let b = first-none 6 (badBody t c) _ (omega arith) (a .1) in
@@ -61,9 +60,9 @@ clear-of t c h =
     let g = first-none 10 (endsTime t c) _ (omega arith) (f .1) in
     record { active = a .0; body = b .0; another = d .0; room = f .0; time = g .0 }
 
-pub or-none : (a b : Bool) → (a or b) ≡ false → (a ≡ false) × (b ≡ false)
+pub or-none : (a b : Bool) → (a || b) ≡ false → (a ≡ false) × (b ≡ false)
 or-none false b h = (refl, h)
-or-none true b h = clash (sym h)
+or-none true b h = false-not-true (sym h)
 
 -- what a body that is in range says
 pub flag-low : (t : Table) (o : ℕ) (f : FlagNo) → badBody t (call.Flag o f) ≡ false → f .0 < 32
@@ -84,38 +83,38 @@ pause-unit t u n h = let l = ltb-false lastUnit u h in omega arith
 
 -- ---- what each method asks
 module _ (t : Table) (w : WellFormed t) where
-  active : (c : Call) → isTick c ≡ false → earlyOf t c ≡ 0 → 0 < t .ready
+  active : (c : Call) → isTick c ≡ false → refusalBefore11 t c ≡ 0 → 0 < t .ready
   unfolding nobodyActive
   active c n h = let z = eqb-false (t .ready) 0 (rw n at (clear-of t c h .active)) in omega arith
 
-  pub end-owed : earlyOf t call.Terminate ≡ 0 → Fit t × (0 < t .ready)
+  pub end-owed : refusalBefore11 t call.Terminate ≡ 0 → ArraysInOrder t × (0 < t .ready)
   end-owed h = (fit-of t w, active call.Terminate refl h)
 
-  pub restart-owed : (p n : ℕ) → earlyOf t (call.Restart p n) ≡ 0 → Standing t × (0 < t .ready)
+  pub restart-owed : (p n : ℕ) → refusalBefore11 t (call.Restart p n) ≡ 0 → TimesInOrder t × (0 < t .ready)
   restart-owed p n h = (standing-of t w, active (call.Restart p n) refl h)
 
-  pub pause-owed : (u n : ℕ) → earlyOf t (call.Pause u n) ≡ 0 → Fit t × (0 < t .ready) × (t .rest .clock .0 ≤ 2 ^ 40) × (u ≤ lastUnit)
+  pub pause-owed : (u n : ℕ) → refusalBefore11 t (call.Pause u n) ≡ 0 → ArraysInOrder t × (0 < t .ready) × (t .rest .clock .0 ≤ 2 ^ 40) × (u ≤ lastUnit)
   pause-owed u n h = (fit-of t w, active (call.Pause u n) refl h, w .numbers .clock, pause-unit t u n (clear-of t (call.Pause u n) h .body))
 
-  pub start-owed : (o : ℕ) (k : TaskNo) → earlyOf t (call.Start o k) ≡ 0 → Fit t × (0 < t .ready)
-  start-owed o k h = (fit-of t w, active (call.Start o k) refl h)
+  pub start-owed : (o : ℕ) (k : TaskNo) → refusalBefore11 t (call.StartIfDormant o k) ≡ 0 → ArraysInOrder t × (0 < t .ready)
+  start-owed o k h = (fit-of t w, active (call.StartIfDormant o k) refl h)
 
-  pub ask-owed : (o : ℕ) (k : TaskNo) (a : ℕ) → earlyOf t (call.Queue o k a) ≡ 0
-      → Fit t × (0 < t .ready) × (isDormant (stateAt t k) ≡ false → t .rest .queued < 32)
+  pub ask-owed : (o : ℕ) (k : TaskNo) (a : ℕ) → refusalBefore11 t (call.StartOrQueue o k a) ≡ 0
+      → ArraysInOrder t × (0 < t .ready) × (isDormant (stateAt t k) ≡ false → t .rest .queued < 32)
   unfolding poolFull
-  ask-owed o k a h = (fit-of t w, active (call.Queue o k a) refl h, λ d. leb-false 32 (t .rest .queued) (rw d at (clear-of t (call.Queue o k a) h .room)))
+  ask-owed o k a h = (fit-of t w, active (call.StartOrQueue o k a) refl h, λ d. leb-false 32 (t .rest .queued) (rw d at (clear-of t (call.StartOrQueue o k a) h .room)))
 
-  pub flag-owed : (o : ℕ) (f : FlagNo) → earlyOf t (call.Flag o f) ≡ 0 → Fit t × Times t × (f .0 < 32)
+  pub flag-owed : (o : ℕ) (f : FlagNo) → refusalBefore11 t (call.Flag o f) ≡ 0 → ArraysInOrder t × Times t × (f .0 < 32)
   flag-owed o f h = (fit-of t w, w .times, flag-low t o f (clear-of t (call.Flag o f) h .body))
 
-  pub wait-owed : (m x : ℕ) → earlyOf t (call.Wait m x) ≡ 0 → Fit t × (0 < t .ready)
+  pub wait-owed : (m x : ℕ) → refusalBefore11 t (call.Wait m x) ≡ 0 → ArraysInOrder t × (0 < t .ready)
   wait-owed m x h = (fit-of t w, active (call.Wait m x) refl h)
 
-  pub alarm-owed : (u n : ℕ) (f : FlagNo) → earlyOf t (call.Alarm u n f) ≡ 0 → Fit t × Times t × (f .0 < 32) × (t .rest .clock .0 ≤ 2 ^ 40) × (u ≤ lastUnit)
+  pub alarm-owed : (u n : ℕ) (f : FlagNo) → refusalBefore11 t (call.Alarm u n f) ≡ 0 → ArraysInOrder t × Times t × (f .0 < 32) × (t .rest .clock .0 ≤ 2 ^ 40) × (u ≤ lastUnit)
   alarm-owed u n f h =
       let b = clear-of t (call.Alarm u n f) h .body in
       (fit-of t w, w .times, alarm-low t u n f b, w .numbers .clock, alarm-unit t u n f b)
 
-  pub tick-owed : earlyOf t call.Tick ≡ 0 → Fit t × (t .rest .clock .0 + t .rest .granule ≤ 2 ^ 40)
+  pub tick-owed : refusalBefore11 t call.Tick ≡ 0 → ArraysInOrder t × (t .rest .clock .0 + t .rest .granule ≤ 2 ^ 40)
   unfolding endsTime
   tick-owed h = (fit-of t w, ltb-false (2 ^ 40) (t .rest .clock .0 + t .rest .granule) (clear-of t call.Tick h .time))

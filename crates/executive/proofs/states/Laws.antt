@@ -10,12 +10,12 @@ use Rattle.executive.specs.declared.Mode.the-variants.{Any, All}
 use Rattle.executive.specs.declared.State.{State}
 use Rattle.executive.specs.declared.State.the-variants.{Dormant, Ready, Paused, Due, Flags, AwaitStart, AwaitEnd}
 use Rattle.executive.specs.Lists.{one}
-use Rattle.executive.specs.States.{dormant, ready, paused, due, awaitAny, awaitAll, awaitStart, awaitEnd, kindOf, timeOf, maskOf, stateOf}
+use Rattle.executive.specs.States.{dormant, ready, paused, due, awaitAny, awaitAll, awaitStart, awaitEnd, stateKind, timeOf, maskOf, stateOf}
 use Rattle.executive.specs.States.{isOf, is, isDormant, hasTime, hasMask, waitMode, StatesTold}
 use Rattle.executive.proofs.queue.Law.{one-true}
 
 -- ---- the three tell the state
-pub state-back : (s : State) → stateOf (kindOf s) (timeOf s) (maskOf s) ≡ s
+pub state-back : (s : State) → stateOf (stateKind s) (timeOf s) (maskOf s) ≡ s
 unfolding stateOf
 state-back Dormant = refl
 state-back Ready = refl
@@ -27,7 +27,7 @@ state-back AwaitStart = refl
 state-back AwaitEnd = refl
 
 told : (s : State) (n : ℕ) → isOf n s ≡ true → s ≡ stateOf n (timeOf s) (maskOf s)
-told s n e = sym (state-back s) ∙ ap (λ (k : ℕ). stateOf k (timeOf s) (maskOf s)) (sym (eqb-true n (kindOf s) e))
+told s n e = sym (state-back s) ∙ ap (λ (k : ℕ). stateOf k (timeOf s) (maskOf s)) (sym (eqb-true n (stateKind s) e))
 
 pub dormant-is : (s : State) → isDormant s ≡ true → s ≡ Dormant
 unfolding stateOf
@@ -47,13 +47,13 @@ pub ready-kind : (s : State) → s ≡ Ready → is ready s ≡ 1
 ready-kind s e = ap (is ready) e
 
 -- ---- what holds of a kind holds of every state of that kind; of two kinds, of every state of one of them
-pub of-kind : (P : ℕ → Type 0) (n : ℕ) → P n → (s : State) → isOf n s ≡ true → P (kindOf s)
-of-kind P n x s e = subst P (eqb-true n (kindOf s) e) x
+pub of-kind : (P : ℕ → Type 0) (n : ℕ) → P n → (s : State) → isOf n s ≡ true → P (stateKind s)
+of-kind P n x s e = subst P (eqb-true n (stateKind s) e) x
 
-of-kinds : (P : ℕ → Type 0) (m n : ℕ) → P m → P n → (s : State) → isOf m s || isOf n s ≡ true → P (kindOf s)
+of-kinds : (P : ℕ → Type 0) (m n : ℕ) → P m → P n → (s : State) → isOf m s || isOf n s ≡ true → P (stateKind s)
 of-kinds P m n x y s = go (isOf m s) refl
   where
-    go : (b : Bool) → isOf m s ≡ b → b || isOf n s ≡ true → P (kindOf s)
+    go : (b : Bool) → isOf m s ≡ b → b || isOf n s ≡ true → P (stateKind s)
     go true f e = of-kind P m x s f
     go false f e = of-kind P n y s e
 
@@ -61,10 +61,10 @@ of-kinds P m n x y s = go (isOf m s) refl
 abbrev pub counted : ℕ → ℕ
 counted k = one (eqb ready k) + one (eqb dormant k) + one (eqb awaitStart k) + one (eqb awaitEnd k)
 
-pub time-waits : (s : State) → hasTime s ≡ true → counted (kindOf s) ≡ 0
+pub time-waits : (s : State) → hasTime s ≡ true → counted (stateKind s) ≡ 0
 time-waits s e = of-kinds (λ (k : ℕ). counted k ≡ 0) paused due refl refl s e
 
-pub mask-waits : (s : State) → hasMask s ≡ true → counted (kindOf s) ≡ 0
+pub mask-waits : (s : State) → hasMask s ≡ true → counted (stateKind s) ≡ 0
 mask-waits s e = of-kinds (λ (k : ℕ). counted k ≡ 0) awaitAny awaitAll refl refl s e
 
 pub mask-no-time : (s : State) → hasMask s ≡ true → hasTime s ≡ false

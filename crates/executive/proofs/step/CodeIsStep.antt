@@ -19,17 +19,16 @@ use Rattle.records.specs.Reading.{readAs, readOf}
 use Rattle.records.specs.Writing.{bytesOf}
 use Rattle.records.proofs.Assured.{promises}
 use Rattle.executive.specs.declared.Table.{Table}
-use Rattle.executive.specs.Lists.{pick}
-use Rattle.executive.specs.Table.{carry}
+use Rattle.executive.specs.Table.{applyInFlight}
 use Rattle.executive.specs.Check.{isWellFormed}
 use Rattle.executive.specs.Plans.{planOf}
-use Rattle.executive.specs.Refusals.{kindIn, calledBy, callIn, nobodyActive, badBody, namesCaller, alarmRunning, poolFull, endsTime, overfills, callRefusals, refusals, firstOf, earlyOf}
+use Rattle.executive.specs.Refusals.{kindOfRecord, calledBy, callIn, nobodyActive, badBody, namesCaller, alarmRunning, poolFull, endsTime, overfills, callRefusals, refusals, firstOf, refusalBefore11}
 use Rattle.executive.specs.Step.{isStep, accepted, refused, performed, stepOf}
 
 -- ---- the first number is an early one, or 11, or 0
 late : (a b c d e f g : Bool)
-    → _≡_ {A = ℕ} (pick a 5 (pick b 6 (pick c 7 (pick d 9 (pick e 8 (pick f 10 (pick g 11 0)))))))
-    (pick (eqb (pick a 5 (pick b 6 (pick c 7 (pick d 9 (pick e 8 (pick f 10 0)))))) 0) (pick g 11 0) (pick a 5 (pick b 6 (pick c 7 (pick d 9 (pick e 8 (pick f 10 0)))))))
+    → _≡_ {A = ℕ} (cond a 5 (cond b 6 (cond c 7 (cond d 9 (cond e 8 (cond f 10 (cond g 11 0)))))))
+    (cond (eqb (cond a 5 (cond b 6 (cond c 7 (cond d 9 (cond e 8 (cond f 10 0)))))) 0) (cond g 11 0) (cond a 5 (cond b 6 (cond c 7 (cond d 9 (cond e 8 (cond f 10 0)))))))
 late true b c d e f g = refl
 late false true c d e f g = refl
 late false false true d e f g = refl
@@ -39,19 +38,19 @@ late false false false false false true g = refl
 late false false false false false false g = refl
 
 module _ (t : Table) (c : Call) where
-  late-of : firstOf (callRefusals t c) ≡ pick (eqb (earlyOf t c) 0) (pick (overfills t c) 11 0) (earlyOf t c)
-  unfolding firstOf earlyOf
+  late-of : firstOf (callRefusals t c) ≡ cond (eqb (refusalBefore11 t c) 0) (cond (overfills t c) 11 0) (refusalBefore11 t c)
+  unfolding firstOf refusalBefore11
   late-of = late (nobodyActive t c) (badBody t c) (namesCaller t c) (alarmRunning t c) (poolFull t c) (endsTime t c) (overfills t c)
 
-  pub refused-early : (n : ℕ) → n ≡ earlyOf t c → (n ≡ 0 → ⊥) → refused t n ≡ performed t c
+  pub refused-early : (n : ℕ) → n ≡ refusalBefore11 t c → (n ≡ 0 → ⊥) → refused t n ≡ performed t c
   unfolding performed
   refused-early n e h = rw (late-of, ← e, ne-eqb n 0 h, ne-eqb n 0 h) refl
 
-  pub refused-late : earlyOf t c ≡ 0 → carry (planOf t c) t .full ≡ true → refused t 11 ≡ performed t c
+  pub refused-late : refusalBefore11 t c ≡ 0 → applyInFlight (planOf t c) t .full ≡ true → refused t 11 ≡ performed t c
   unfolding performed overfills
   refused-late e h = rw (late-of, e, h) refl
 
-  pub not-refused : earlyOf t c ≡ 0 → carry (planOf t c) t .full ≡ false → accepted t c ≡ performed t c
+  pub not-refused : refusalBefore11 t c ≡ 0 → applyInFlight (planOf t c) t .full ≡ false → accepted t c ≡ performed t c
   unfolding performed overfills
   not-refused e h = rw (late-of, e, h) refl
 
@@ -67,16 +66,16 @@ module _ (t : Table) (s : List ℕ) where
     step-empty e = rw (w, e) refl
 
     module _ (n : length s ≡ 0 → ⊥) where
-      pub step-no-call : isCall (kindIn s) ≡ false → refused t 4 ≡ stepOf t s
+      pub step-no-call : isCall (kindOfRecord s) ≡ false → refused t 4 ≡ stepOf t s
       unfolding stepOf refusals firstOf
       step-no-call k = rw (w, ne-eqb (length s) 0 n, k) refl
 
-      module _ (k : isCall (kindIn s) ≡ true) where
-        step-short : eqb (length s) (lengthOf (kindIn s)) ≡ false → refused t 3 ≡ stepOf t s
+      module _ (k : isCall (kindOfRecord s) ≡ true) where
+        step-short : eqb (length s) (lengthOf (kindOfRecord s)) ≡ false → refused t 3 ≡ stepOf t s
         unfolding stepOf refusals firstOf
         step-short l = rw (w, ne-eqb (length s) 0 n, k, l) refl
 
-        step-whole : eqb (length s) (lengthOf (kindIn s)) ≡ true → performed t (callIn s) ≡ stepOf t s
+        step-whole : eqb (length s) (lengthOf (kindOfRecord s)) ≡ true → performed t (callIn s) ≡ stepOf t s
         unfolding stepOf refusals firstOf performed
         step-whole l = rw (w, ne-eqb (length s) 0 n, k, l) refl
 
@@ -87,8 +86,8 @@ module _ (t : Table) (s : List ℕ) where
         some kind.Restart h = refl
         some kind.Pause h = refl
         some kind.CancelPause h = refl
-        some kind.Start h = refl
-        some kind.Queue h = refl
+        some kind.StartIfDormant h = refl
+        some kind.StartOrQueue h = refl
         some kind.Flag h = refl
         some kind.Wait h = refl
         some kind.Alarm h = refl
@@ -103,8 +102,8 @@ module _ (t : Table) (s : List ℕ) where
         called kind.Restart xs h = refl
         called kind.Pause xs h = refl
         called kind.CancelPause xs h = refl
-        called kind.Start xs h = refl
-        called kind.Queue xs h = refl
+        called kind.StartIfDormant xs h = refl
+        called kind.StartOrQueue xs h = refl
         called kind.Flag xs h = refl
         called kind.Wait xs h = refl
         called kind.Alarm xs h = refl
@@ -113,45 +112,45 @@ module _ (t : Table) (s : List ℕ) where
         called kind.Task xs h = refl
         called kind.End xs h = refl
 
-        clash : (j : ℕ) (c : Call) → got.Refused j ≡ got.Call c → ⊥
-        clash j c q = let z : _≡_ {A = ℕ} 0 1 = cc in omega arith
+        false-not-true : (j : ℕ) (c : Call) → got.Refused j ≡ got.Call c → ⊥
+        false-not-true j c q = let z : _≡_ {A = ℕ} 0 1 = cc in omega arith
 
         same : (i j : ℕ) → got.Refused i ≡ got.Refused j → i ≡ j
         same i j q = cc
 
         abbrev fields : List ℕ
-        fields = cut (bodyOf (kindIn s)) 1 s
+        fields = cut (bodyOf (kindOfRecord s)) 1 s
 
-        read-is : (b : Bool) → eqb (length s) (lengthOf (kindIn s)) ≡ b → readOf s ≡ cond b (gotOf (kindIn s) fields) (got.Refused 3)
+        read-is : (b : Bool) → eqb (length s) (lengthOf (kindOfRecord s)) ≡ b → readOf s ≡ cond b (gotOf (kindOfRecord s) fields) (got.Refused 3)
         unfolding readOf readAs
-        read-is b l = rw (ne-eqb (length s) 0 n, some (kindIn s) k, l) refl
+        read-is b l = rw (ne-eqb (length s) 0 n, some (kindOfRecord s) k, l) refl
 
         pub step-refused : (j : ℕ) → readOf s ≡ got.Refused j → refused t j ≡ stepOf t s
-        step-refused j e = go (eqb (length s) (lengthOf (kindIn s))) refl
+        step-refused j e = go (eqb (length s) (lengthOf (kindOfRecord s))) refl
           where
-            go : (b : Bool) → eqb (length s) (lengthOf (kindIn s)) ≡ b → refused t j ≡ stepOf t s
-            go true l = absurd (clash j _ (sym e ∙ read-is true l ∙ called (kindIn s) fields k))
+            go : (b : Bool) → eqb (length s) (lengthOf (kindOfRecord s)) ≡ b → refused t j ≡ stepOf t s
+            go true l = absurd (false-not-true j _ (sym e ∙ read-is true l ∙ called (kindOfRecord s) fields k))
             go false l = ap (refused t) (same j 3 (sym e ∙ read-is false l)) ∙ step-short l
 
         pub step-read : (c : Call) → readOf s ≡ got.Call c → performed t c ≡ stepOf t s
-        step-read c e = go (eqb (length s) (lengthOf (kindIn s))) refl
+        step-read c e = go (eqb (length s) (lengthOf (kindOfRecord s))) refl
           where
-            go : (b : Bool) → eqb (length s) (lengthOf (kindIn s)) ≡ b → performed t c ≡ stepOf t s
+            go : (b : Bool) → eqb (length s) (lengthOf (kindOfRecord s)) ≡ b → performed t c ≡ stepOf t s
             go true l = ap (λ g. performed t (calledBy g)) (sym e) ∙ step-whole l
-            go false l = absurd (clash 3 c (sym (read-is false l) ∙ e))
+            go false l = absurd (false-not-true 3 c (sym (read-is false l) ∙ e))
 
 -- ---- the step of a call that was read, as its record's
 some-bytes : (c : Call) → length (bytesOf c) ≡ 0 → ⊥
 some-bytes c h = omega arith
 
-step-kind : (c : Call) → isCall (kindIn (bytesOf c)) ≡ isStep c
+step-kind : (c : Call) → isCall (kindOfRecord (bytesOf c)) ≡ isStep c
 unfolding kindOf
 step-kind call.Terminate = refl
 step-kind (call.Restart p n) = refl
 step-kind (call.Pause u n) = refl
 step-kind (call.CancelPause k) = refl
-step-kind (call.Start o k) = refl
-step-kind (call.Queue o k a) = refl
+step-kind (call.StartIfDormant o k) = refl
+step-kind (call.StartOrQueue o k a) = refl
 step-kind (call.Flag o f) = refl
 step-kind (call.Wait m x) = refl
 step-kind (call.Alarm u n f) = refl

@@ -1,7 +1,7 @@
 -- Demand 2: the head of a well-formed table's queue is the first of the ready tasks with highest priority, and there is none exactly if no task is ready.
 use mathlib.Core.Path.{_≡_, refl, sym, ap, _∙_}
 use mathlib.Core.Logic.{_↔_, _≢_}
-use mathlib.Core.Bool.{Bool, true, false}
+use mathlib.Core.Bool.{Bool, true, false, cond}
 use mathlib.Core.List.{List, [], _∷_}
 use Prim.Native.Nat.{ℕ, _+_, _≤_, _<_}
 use native.Mathlib.Omega.{arith}
@@ -13,7 +13,7 @@ use Rattle.executive.specs.declared.State.{State}
 use Rattle.executive.specs.declared.State.the-variants.{Ready}
 use Rattle.executive.specs.declared.Task.{Task}
 use Rattle.executive.specs.declared.Table.{Table}
-use Rattle.executive.specs.Lists.{pick, one}
+use Rattle.executive.specs.Lists.{one}
 use Rattle.executive.specs.Queue.{count, ahead, prioIn, activeOf}
 use Rattle.executive.specs.Table.{line, itemOf, items, headOf}
 use Rattle.executive.specs.Places.{taskAt}
@@ -23,7 +23,7 @@ use Rattle.executive.specs.WellFormed.{Line}
 use Rattle.executive.specs.Promises.Demands.{Dispatched}
 use Rattle.executive.proofs.queue.Law.{head-highest, head-first}
 use Rattle.executive.proofs.queue.ArraysAreLists.{line-length}
-use Rattle.executive.proofs.Plans.WorkingForm.{Formed}
+use Rattle.executive.proofs.Plans.WorkingForm.{WellFormedByPart}
 use Rattle.executive.proofs.states.Laws.{ready-named, ready-kind}
 use Rattle.executive.proofs.Plans.QueueKept.{Head, head-is}
 
@@ -34,7 +34,7 @@ prio-is ts [] k h = absurd (omega arith)
 prio-is ts (j ∷ r) k h = go (eqb k (j .0)) refl h (prio-is ts r k)
   where
     go : (b : Bool) → eqb k (j .0) ≡ b → 0 < one b + count k (items ts r) → (0 < count k (items ts r) → prioIn k (items ts r) ≡ taskAt ts k .priority)
-        → pick b (taskAt ts (j .0) .priority) (prioIn k (items ts r)) ≡ taskAt ts k .priority
+        → cond b (taskAt ts (j .0) .priority) (prioIn k (items ts r)) ≡ taskAt ts k .priority
     go true e h ih = rw (eqb-true k (j .0) e)
     go false e h ih = ih (omega arith)
 
@@ -78,7 +78,7 @@ unready s n = go (isOf ready s) refl
     go true e = absurd (n (ready-named s (ap one e)))
     go false e = refl
 
-pub dispatches : (t : Table) → Formed t → Dispatched t (caller t .0)
+pub dispatches : (t : Table) → WellFormedByPart t → Dispatched t (caller t .0)
 dispatches t w =
     let p : Picks (t .tasks) (line t) (caller t .0) = picks (t .tasks) (line t) (w .queue) in
     let n : length (line t) ≡ t .ready = line-length t (w .fit) in

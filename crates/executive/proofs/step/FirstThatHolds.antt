@@ -1,7 +1,7 @@
 -- Demand 1: the answer's number is that of the first refusal whose condition holds, and a refusal changes nothing.
 use mathlib.Core.Path.{_≡_, refl, sym, ap, _∙_}
 use mathlib.Core.Logic.{_↔_, _≢_}
-use mathlib.Core.Bool.{Bool, true, false, not}
+use mathlib.Core.Bool.{Bool, true, false, not, cond}
 use mathlib.Core.List.{List, [], _∷_, map, tail}
 use Prim.Native.Nat.{ℕ, zero, suc, _<_}
 use native.Mathlib.Omega.{arith}
@@ -11,14 +11,13 @@ use lib.ListN.{getD}
 use Rattle.records.specs.declared.Call.{Call}
 use Rattle.executive.specs.declared.Table.{Table}
 use Rattle.executive.specs.declared.Outcome.{Outcome}
-use Rattle.executive.specs.Lists.{pick}
 use Rattle.executive.specs.Plans.{caller}
 use Rattle.executive.specs.WellFormed.{WellFormed}
 use Rattle.executive.specs.Check.{isWellFormed}
 use Rattle.executive.specs.Refusals.{Refusal, when, callIn, refusals, firstOf}
 use Rattle.executive.specs.Step.{noTable, marks, answerOf, hasV, accepted, refused, outcomeOf, stepOf}
 use Rattle.executive.specs.Promises.Demands.{FirstAt, Decides}
-use Rattle.executive.proofs.Lists.Tests.{clash}
+use Rattle.executive.proofs.Lists.Tests.{false-not-true}
 use Rattle.executive.proofs.refusals.NothingRefuses.{first-none}
 use Rattle.executive.proofs.check.Decides.{well-formed-iff}
 use Rattle.executive.proofs.step.StepIsPlan.{refused-table}
@@ -37,7 +36,7 @@ unfolding firstOf
 first-not m [] z n e = z (sym e)
 first-not m (r ∷ rs) z n e = go (r .given) e (first-not m rs z (n .1))
   where
-    go : (b : Bool) → pick b (r .number) (firstOf rs) ≡ m → firstOf rs ≢ m → ⊥
+    go : (b : Bool) → cond b (r .number) (firstOf rs) ≡ m → firstOf rs ≢ m → ⊥
     go true e ih = n .0 e
     go false e ih = ih e
 
@@ -46,7 +45,7 @@ unfolding firstOf
 none-given [] n e i = refl
 none-given (r ∷ rs) n e i = go (r .given) refl e i (none-given rs (n .1))
   where
-    go : (b : Bool) → r .given ≡ b → pick b (r .number) (firstOf rs) ≡ 0 → (i : ℕ) → (firstOf rs ≡ 0 → (i : ℕ) → getD rs i blank .given ≡ false) → getD (r ∷ rs) i blank .given ≡ false
+    go : (b : Bool) → r .given ≡ b → cond b (r .number) (firstOf rs) ≡ 0 → (i : ℕ) → (firstOf rs ≡ 0 → (i : ℕ) → getD rs i blank .given ≡ false) → getD (r ∷ rs) i blank .given ≡ false
     go true f e i ih = absurd (n .0 e)
     go false f e zero ih = f
     go false f e (suc i) ih = ih e i
@@ -54,14 +53,14 @@ none-given (r ∷ rs) n e i = go (r .given) refl e i (none-given rs (n .1))
 none-first : (rs : List Refusal) → ((i : ℕ) → getD rs i blank .given ≡ false) → firstOf rs ≡ 0
 unfolding firstOf
 none-first [] h = refl
-none-first (r ∷ rs) h = ap (λ (b : Bool). pick b (r .number) (firstOf rs)) (h 0) ∙ none-first rs (λ i. h (suc i))
+none-first (r ∷ rs) h = ap (λ (b : Bool). cond b (r .number) (firstOf rs)) (h 0) ∙ none-first rs (λ i. h (suc i))
 
 first-at : (rs : List Refusal) (i : ℕ) → FirstAt rs i → firstOf rs ≡ getD rs i blank .number
 unfolding firstOf
 first-at [] i f = absurd (omega (arith, f .there))
-first-at (r ∷ rs) zero f = ap (λ (b : Bool). pick b (r .number) (firstOf rs)) (f .holds)
+first-at (r ∷ rs) zero f = ap (λ (b : Bool). cond b (r .number) (firstOf rs)) (f .holds)
 first-at (r ∷ rs) (suc i) f =
-    ap (λ (b : Bool). pick b (r .number) (firstOf rs)) (f .before 0 (omega arith))
+    ap (λ (b : Bool). cond b (r .number) (firstOf rs)) (f .before 0 (omega arith))
     ∙ first-at rs i (record { there = omega (arith, f .there); holds = f .holds; before = λ j h. f .before (suc j) (omega arith) })
 
 some-first : (rs : List Refusal) → firstOf rs ≢ 0 → (i : ℕ) × FirstAt rs i
@@ -69,7 +68,7 @@ unfolding firstOf
 some-first [] n = absurd (n refl)
 some-first (r ∷ rs) n = go (r .given) refl n (some-first rs)
   where
-    go : (b : Bool) → r .given ≡ b → pick b (r .number) (firstOf rs) ≢ 0 → (firstOf rs ≢ 0 → (i : ℕ) × FirstAt rs i) → (i : ℕ) × FirstAt (r ∷ rs) i
+    go : (b : Bool) → r .given ≡ b → cond b (r .number) (firstOf rs) ≢ 0 → (firstOf rs ≢ 0 → (i : ℕ) × FirstAt rs i) → (i : ℕ) × FirstAt (r ∷ rs) i
     go true f n ih = (0, record { there = omega arith; holds = f; before = λ j h. absurd (omega arith) })
     go false f n ih = later (ih n)
       where
@@ -89,7 +88,7 @@ unfolding accepted refused
 number-is t n c = go (eqb n 0) refl (eqb n 1) refl
   where
     go : (a : Bool) → eqb n 0 ≡ a → (b : Bool) → eqb n 1 ≡ b
-        → pick a (accepted t c) (pick {A = Outcome} b
+        → cond a (accepted t c) (cond {A = Outcome} b
         (record { answer = noTable; table = t })
         (record { answer = answerOf n (marks false (hasV n) false) t; table = t })) .answer .number ≡ n
     go true e b f = sym (eqb-true n 0 e)
@@ -119,7 +118,7 @@ allowed-formed t s e = well-formed-iff t .0 (holds-so (isWellFormed t) (first-no
   where
     holds-so : (b : Bool) → not b ≡ false → b ≡ true
     holds-so true f = refl
-    holds-so false f = clash (sym f)
+    holds-so false f = false-not-true (sym f)
 
 pub order : (t : Table) (s : List ℕ) → map (λ (r : Refusal). r .number) (refusals t s) ≡ 1 ∷ 3 ∷ 4 ∷ 3 ∷ 5 ∷ 6 ∷ 7 ∷ 9 ∷ 8 ∷ 10 ∷ 11 ∷ []
 unfolding refusals
@@ -137,8 +136,8 @@ active-is : (t : Table) (n : ℕ) (c : Call) → n ≢ 1 → outcomeOf t n c .an
 unfolding accepted refused
 active-is t n c z = rw (ne-eqb n 1 z) (go (eqb n 0))
   where
-    go : (b : Bool) → pick b (accepted t c) (record { answer = answerOf n (marks false (hasV n) false) t; table = t }) .answer .active
-        ≡ caller (pick b (accepted t c) (record { answer = answerOf n (marks false (hasV n) false) t; table = t }) .table)
+    go : (b : Bool) → cond b (accepted t c) (record { answer = answerOf n (marks false (hasV n) false) t; table = t }) .answer .active
+        ≡ caller (cond b (accepted t c) (record { answer = answerOf n (marks false (hasV n) false) t; table = t }) .table)
     go true = refl
     go false = refl
 

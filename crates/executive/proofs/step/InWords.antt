@@ -2,7 +2,7 @@
 use Prim.Native.Nat.{ℕ, _+_, _/_, _%_, _≤_, _<_}
 use mathlib.Core.Path.{_≡_, refl, sym, ap, _∙_}
 use mathlib.Core.Logic.{_↔_, _≢_, _⊎_, inl, inr, ⊎-elim}
-use mathlib.Core.Bool.{Bool, true, false, not}
+use mathlib.Core.Bool.{Bool, true, false, not, cond, _||_}
 use mathlib.Core.List.{List, [], _∷_}
 use native.Mathlib.Omega.{arith}
 use native.Mathlib.Nat.{div-div-eq-div-mul}
@@ -19,17 +19,17 @@ use Rattle.records.specs.Kinds.{lengthOf, isCall}
 use Rattle.executive.specs.declared.State.{State}
 use Rattle.executive.specs.declared.State.the-variants.{Dormant}
 use Rattle.executive.specs.declared.Table.{Table}
-use Rattle.executive.specs.Lists.{pick, _and_, _or_}
+use Rattle.executive.specs.Lists.{_and_}
 use Rattle.executive.specs.Numbers.{endOfTime}
 use Rattle.executive.specs.Places.{never}
-use Rattle.executive.specs.Table.{carry}
+use Rattle.executive.specs.Table.{applyInFlight}
 use Rattle.executive.specs.States.{isDormant}
 use Rattle.executive.specs.Plans.{caller, stateAt, planOf}
 use Rattle.executive.specs.Check.{isWellFormed}
-use Rattle.executive.specs.Refusals.{kindIn, callIn, isTick, noSuchTask, nobodyActive, badBody, ofQueue, ofAlarm, namesCaller, alarmRunning, poolFull, endsTime, overfills, Refusal, refusals, firstOf}
+use Rattle.executive.specs.Refusals.{kindOfRecord, callIn, isTick, noSuchTask, nobodyActive, badBody, ofQueue, ofAlarm, namesCaller, alarmRunning, poolFull, endsTime, overfills, Refusal, refusals, firstOf}
 use Rattle.executive.specs.Step.{stepOf}
 use Rattle.executive.specs.Promises.InWords.{Bit, NoCall, NoTask, BadBody, IsQueue, IsAlarm, NamesCaller, AlarmRunning, PoolFull, Case, cases, First, Given}
-use Rattle.executive.proofs.Lists.Tests.{clash}
+use Rattle.executive.proofs.Lists.Tests.{false-not-true}
 use Rattle.executive.proofs.check.Decides.{well-formed-iff}
 use Rattle.executive.proofs.step.FirstThatHolds.{step-number}
 use Rattle.executive.proofs.states.Laws.{dormant-is}
@@ -39,19 +39,19 @@ abbrev Says : Bool → Type 0 → Type 0
 Says b P = (b ≡ true) ↔ P
 
 says-not : (b : Bool) {P : Type 0} → Says b P → Says (not b) (P → ⊥)
-says-not true x = (λ e. clash e, λ n. absurd (n (x .0 refl)))
-says-not false x = (λ e p. clash (x .1 p), λ n. refl)
+says-not true x = (λ e. false-not-true e, λ n. absurd (n (x .0 refl)))
+says-not false x = (λ e p. false-not-true (x .1 p), λ n. refl)
 
-says-or : (a b : Bool) {P Q : Type 0} → Says a P → Says b Q → Says (a or b) (P ⊎ Q)
+says-or : (a b : Bool) {P Q : Type 0} → Says a P → Says b Q → Says (a || b) (P ⊎ Q)
 says-or true b x y = (λ e. inl (x .0 e), λ z. refl)
-says-or false b x y = (λ e. inr (y .0 e), λ z. ⊎-elim (λ p. clash (x .1 p)) (λ q. y .1 q) z)
+says-or false b x y = (λ e. inr (y .0 e), λ z. ⊎-elim (λ p. false-not-true (x .1 p)) (λ q. y .1 q) z)
 
 says-and : (a b : Bool) {P Q : Type 0} → Says a P → Says b Q → Says (a and b) (P × Q)
 says-and true b x y = (λ e. (x .0 refl, y .0 e), λ z. y .1 (z .1))
-says-and false b x y = (λ e. clash e, λ z. x .1 (z .0))
+says-and false b x y = (λ e. false-not-true e, λ z. x .1 (z .0))
 
 says-nothing : Says false ⊥
-says-nothing = (λ e. clash e, λ n. absurd n)
+says-nothing = (λ e. false-not-true e, λ n. absurd n)
 
 says-eq : (a b : ℕ) → Says (eqb a b) (a ≡ b)
 says-eq a b = (eqb-true a b, eq-eqb a b)
@@ -125,16 +125,16 @@ says-no-call k = (to k, λ z. ⊎-elim (λ e. rw e refl) (λ y. ⊎-elim (λ e. 
   where
     to : (k : Kind) → not (isCall k) ≡ true → NoCall k
     to kind.Unknown e = inl refl
-    to kind.Terminate e = clash e
-    to kind.Restart e = clash e
-    to kind.Pause e = clash e
-    to kind.CancelPause e = clash e
-    to kind.Start e = clash e
-    to kind.Queue e = clash e
-    to kind.Flag e = clash e
-    to kind.Wait e = clash e
-    to kind.Alarm e = clash e
-    to kind.Tick e = clash e
+    to kind.Terminate e = false-not-true e
+    to kind.Restart e = false-not-true e
+    to kind.Pause e = false-not-true e
+    to kind.CancelPause e = false-not-true e
+    to kind.StartIfDormant e = false-not-true e
+    to kind.StartOrQueue e = false-not-true e
+    to kind.Flag e = false-not-true e
+    to kind.Wait e = false-not-true e
+    to kind.Alarm e = false-not-true e
+    to kind.Tick e = false-not-true e
     to kind.Granule e = inr (inl refl)
     to kind.Task e = inr (inr (inl refl))
     to kind.End e = inr (inr (inr refl))
@@ -146,57 +146,57 @@ says-tick : (c : Call) → Says (isTick c) (c ≡ call.Tick)
 says-tick c = (to c, λ e. rw e refl)
   where
     to : (c : Call) → isTick c ≡ true → c ≡ call.Tick
-    to call.Terminate e = clash e
-    to (call.Restart p n) e = clash e
-    to (call.Pause u n) e = clash e
-    to (call.CancelPause k) e = clash e
-    to (call.Start o k) e = clash e
-    to (call.Queue o k a) e = clash e
-    to (call.Flag o f) e = clash e
-    to (call.Wait m mask) e = clash e
-    to (call.Alarm u n f) e = clash e
+    to call.Terminate e = false-not-true e
+    to (call.Restart p n) e = false-not-true e
+    to (call.Pause u n) e = false-not-true e
+    to (call.CancelPause k) e = false-not-true e
+    to (call.StartIfDormant o k) e = false-not-true e
+    to (call.StartOrQueue o k a) e = false-not-true e
+    to (call.Flag o f) e = false-not-true e
+    to (call.Wait m mask) e = false-not-true e
+    to (call.Alarm u n f) e = false-not-true e
     to call.Tick e = refl
-    to (call.Granule g) e = clash e
-    to (call.Task p m) e = clash e
-    to call.End e = clash e
+    to (call.Granule g) e = false-not-true e
+    to (call.Task p m) e = false-not-true e
+    to call.End e = false-not-true e
 
 says-queue : (h : ℕ → TaskNo → Bool) (P : ℕ → TaskNo → Type 0) → ((o : ℕ) (k : TaskNo) → Says (h o k) (P o k))
     → (c : Call) → Says (ofQueue h c) (IsQueue P c)
 says-queue h P says c = (to c, λ x. rw (x .call) (says (x .option) (x .target) .1 (x .said)))
   where
     to : (c : Call) → ofQueue h c ≡ true → IsQueue P c
-    to call.Terminate e = clash e
-    to (call.Restart p n) e = clash e
-    to (call.Pause u n) e = clash e
-    to (call.CancelPause k) e = clash e
-    to (call.Start o k) e = clash e
-    to (call.Queue o k a) e = record { option = o; target = k; argument = a; call = refl; said = says o k .0 e }
-    to (call.Flag o f) e = clash e
-    to (call.Wait m mask) e = clash e
-    to (call.Alarm u n f) e = clash e
-    to call.Tick e = clash e
-    to (call.Granule g) e = clash e
-    to (call.Task p m) e = clash e
-    to call.End e = clash e
+    to call.Terminate e = false-not-true e
+    to (call.Restart p n) e = false-not-true e
+    to (call.Pause u n) e = false-not-true e
+    to (call.CancelPause k) e = false-not-true e
+    to (call.StartIfDormant o k) e = false-not-true e
+    to (call.StartOrQueue o k a) e = record { option = o; target = k; argument = a; call = refl; said = says o k .0 e }
+    to (call.Flag o f) e = false-not-true e
+    to (call.Wait m mask) e = false-not-true e
+    to (call.Alarm u n f) e = false-not-true e
+    to call.Tick e = false-not-true e
+    to (call.Granule g) e = false-not-true e
+    to (call.Task p m) e = false-not-true e
+    to call.End e = false-not-true e
 
 says-alarm : (h : FlagNo → Bool) (P : FlagNo → Type 0) → ((f : FlagNo) → Says (h f) (P f))
     → (c : Call) → Says (ofAlarm h c) (IsAlarm P c)
 says-alarm h P says c = (to c, λ x. rw (x .call) (says (x .flag) .1 (x .said)))
   where
     to : (c : Call) → ofAlarm h c ≡ true → IsAlarm P c
-    to call.Terminate e = clash e
-    to (call.Restart p n) e = clash e
-    to (call.Pause u n) e = clash e
-    to (call.CancelPause k) e = clash e
-    to (call.Start o k) e = clash e
-    to (call.Queue o k a) e = clash e
-    to (call.Flag o f) e = clash e
-    to (call.Wait m mask) e = clash e
+    to call.Terminate e = false-not-true e
+    to (call.Restart p n) e = false-not-true e
+    to (call.Pause u n) e = false-not-true e
+    to (call.CancelPause k) e = false-not-true e
+    to (call.StartIfDormant o k) e = false-not-true e
+    to (call.StartOrQueue o k a) e = false-not-true e
+    to (call.Flag o f) e = false-not-true e
+    to (call.Wait m mask) e = false-not-true e
     to (call.Alarm u n f) e = record { unit = u; count = n; flag = f; call = refl; said = says f .0 e }
-    to call.Tick e = clash e
-    to (call.Granule g) e = clash e
-    to (call.Task p m) e = clash e
-    to call.End e = clash e
+    to call.Tick e = false-not-true e
+    to (call.Granule g) e = false-not-true e
+    to (call.Task p m) e = false-not-true e
+    to call.End e = false-not-true e
 
 -- ---- each number
 module _ (t : Table) where
@@ -209,8 +209,8 @@ module _ (t : Table) where
   says-bad (call.Restart p n) = both-high-bits p
   says-bad (call.Pause u n) = says-lt _ u
   says-bad (call.CancelPause k) = says-no-task k
-  says-bad (call.Start o k) = says-or (noSuchTask t k) _ (says-no-task k) (any-bit o)
-  says-bad (call.Queue o k a) = says-or (noSuchTask t k) _ (says-no-task k) (both-bits o)
+  says-bad (call.StartIfDormant o k) = says-or (noSuchTask t k) _ (says-no-task k) (any-bit o)
+  says-bad (call.StartOrQueue o k a) = says-or (noSuchTask t k) _ (says-no-task k) (both-bits o)
   says-bad (call.Flag o f) = says-or (ltb 31 (f .0)) (ltb 2 o) (says-lt 31 (f .0)) (says-lt 2 o)
   says-bad (call.Wait m mask) = says-or (ltb 1 m) (eqb mask 0) (says-lt 1 m) (says-eq mask 0)
   says-bad (call.Alarm u n f) = says-or _ (ltb 31 (f .0)) (says-lt _ u) (says-lt 31 (f .0))
@@ -240,7 +240,7 @@ module _ (t : Table) where
     unfolding endsTime
     says-late = says-and (isTick c) _ (says-tick c) (says-lt endOfTime (t .rest .clock .0 + t .rest .granule))
 
-    says-overfull : Says (overfills t c) (carry (planOf t c) t .full ≡ true)
+    says-overfull : Says (overfills t c) (applyInFlight (planOf t c) t .full ≡ true)
     unfolding overfills
     says-overfull = (λ e. e, λ e. e)
 
@@ -259,9 +259,9 @@ first-is (r ∷ rs) [] m n = absurd m
 first-is (r ∷ rs) (c ∷ cs) m n = go (r .given) (m .1) (first-is rs cs (m .2) n)
   where
     go : (b : Bool) → Says b (c .holds) → (firstOf rs ≡ n) ↔ First n cs
-        → (pick b (r .number) (firstOf rs) ≡ n) ↔ First n (c ∷ cs)
+        → (cond b (r .number) (firstOf rs) ≡ n) ↔ First n (c ∷ cs)
     go true x ih = (λ e. inl (x .0 refl, sym e ∙ m .0), λ z. ⊎-elim (λ h. m .0 ∙ sym (h .1)) (λ h. absurd (h .0 (x .0 refl))) z)
-    go false x ih = (λ e. inr (λ h. clash (x .1 h), ih .0 e), λ z. ⊎-elim (λ h. clash (x .1 (h .0))) (λ h. ih .1 (h .1)) z)
+    go false x ih = (λ e. inr (λ h. false-not-true (x .1 h), ih .0 e), λ z. ⊎-elim (λ h. false-not-true (x .1 (h .0))) (λ h. ih .1 (h .1)) z)
 
 matches : (t : Table) (s : List ℕ) → Matches (refusals t s) (cases t s)
 unfolding refusals
@@ -274,10 +274,10 @@ matches t s =
         says-eq (length s) 0,
         (
           refl,
-          says-no-call (kindIn s),
+          says-no-call (kindOfRecord s),
           (
             refl,
-            says-not _ (says-eq (length s) (lengthOf (kindIn s))),
+            says-not _ (says-eq (length s) (lengthOf (kindOfRecord s))),
             (refl, says-idle t c, (refl, says-bad t c, (refl, says-caller t c, (refl, says-running t c, (refl, says-full t c, (refl, says-late t c, (refl, says-overfull t c, tt))))))),
           ),
         ),

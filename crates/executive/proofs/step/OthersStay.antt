@@ -1,6 +1,6 @@
 -- A step rewrites the entries of those that it makes depart or enter, and of no others.
 use mathlib.Core.Path.{_≡_, refl, ap, _∙_}
-use mathlib.Core.Bool.{Bool, true, false}
+use mathlib.Core.Bool.{Bool, true, false, cond}
 use mathlib.Core.List.{List, [], _∷_}
 use Prim.Native.Nat.{ℕ, _+_}
 use native.Mathlib.Omega.{arith}
@@ -9,13 +9,13 @@ use Rattle.records.specs.declared.TaskNo.{TaskNo}
 use Rattle.records.specs.Numbers.{Bytes}
 use Rattle.executive.specs.declared.Task.{Task}
 use Rattle.executive.specs.declared.Table.{Table}
-use Rattle.executive.specs.Lists.{pick, one}
+use Rattle.executive.specs.Lists.{one}
 use Rattle.executive.specs.Queue.{count, activeOf}
 use Rattle.executive.specs.Table.{line, items, view, headOf, Out, stays, leaves, Join, Plan, depart, apply, left?, change-at, outTasks, entries, movesOf}
 use Rattle.executive.specs.Places.{taskAt}
 use Rattle.executive.specs.WellFormed.{WellFormed}
 use Rattle.executive.specs.Step.{stepOf}
-use Rattle.executive.specs.Promises.Demands.{planIn}
+use Rattle.executive.specs.Promises.Demands.{planOfRecord}
 use Rattle.executive.proofs.places.TaskAt.{at-other}
 use Rattle.executive.proofs.Plans.Moves.{out-tasks}
 use Rattle.executive.proofs.Plans.GoodIsKept.{puts, joins-tasks, after-tasks}
@@ -35,7 +35,7 @@ puts-others (j ∷ js) ts k e =
     puts-others js (change-at ts (j .who .0) (j .change)) k (x .1)
     ∙ at-other ts (j .who .0) k (j .change (taskAt ts (j .who .0))) (x .0)
 
-out-others : (o : Out) (ts : List Task) (c k : ℕ) → pick (left? o) (one (eqb k c)) 0 ≡ 0
+out-others : (o : Out) (ts : List Task) (c k : ℕ) → cond (left? o) (one (eqb k c)) 0 ≡ 0
     → taskAt (outTasks o ts c) k ≡ taskAt ts k
 out-others stays ts c k e = refl
 out-others (leaves f) ts c k e = at-other ts c k (f (taskAt ts c)) (not-counted (eqb k c) 0 (omega arith) .0)
@@ -50,7 +50,7 @@ pub plan-tasks : (p : Plan) (t : Table) → apply p t .tasks ≡ after-tasks p t
 unfolding apply
 plan-tasks p t = joins-tasks (p .ins) (depart (p .out) t) ∙ ap (puts (p .ins)) (out-tasks (p .out) t)
 
-plan-others : (p : Plan) (t : Table) (k : ℕ) → pick (movesOf p t .out) (one (eqb k (activeOf (view t)))) 0 ≡ 0
+plan-others : (p : Plan) (t : Table) (k : ℕ) → cond (movesOf p t .out) (one (eqb k (activeOf (view t)))) 0 ≡ 0
     → count k (movesOf p t .ins) ≡ 0 → taskAt (apply p t .tasks) k ≡ taskAt (t .tasks) k
 unfolding movesOf
 plan-others p t k d e =
@@ -59,7 +59,7 @@ plan-others p t k d e =
     ∙ out-others (p .out) (t .tasks) (headOf (line t) .0) k (rw (head-is-active (t .tasks) (line t)) at d)
 
 pub step-others : (t : Table) (s : List ℕ) (k : ℕ) → WellFormed t → Bytes s
-    → pick (movesOf (planIn t s) t .out) (one (eqb k (activeOf (view t)))) 0 ≡ 0
-    → count k (movesOf (planIn t s) t .ins) ≡ 0
+    → cond (movesOf (planOfRecord t s) t .out) (one (eqb k (activeOf (view t)))) 0 ≡ 0
+    → count k (movesOf (planOfRecord t s) t .ins) ≡ 0
     → taskAt (stepOf t s .table .tasks) k ≡ taskAt (t .tasks) k
-step-others t s k w b d e = rw (step-is t s w b .table) (plan-others (planIn t s) t k d e)
+step-others t s k w b d e = rw (step-is t s w b .table) (plan-others (planOfRecord t s) t k d e)

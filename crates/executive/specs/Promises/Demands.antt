@@ -3,7 +3,7 @@
 -- That each call gives the answer and the table that 01's rules define is the code's own contract, `r ≡ stepOf t s`.
 use mathlib.Core.Path.{_≡_}
 use mathlib.Core.Logic.{_↔_, _≢_}
-use mathlib.Core.Bool.{true, false}
+use mathlib.Core.Bool.{true, false, cond}
 use mathlib.Core.List.{List, [], _∷_, map}
 use Prim.Native.Nat.{ℕ, _+_, _≤_, _<_}
 use lib.Dec.{eqb}
@@ -16,28 +16,28 @@ use Rattle.executive.specs.declared.Answer.{Answer}
 use Rattle.executive.specs.declared.Outcome.{Outcome}
 use Rattle.executive.specs.declared.Fresh.{Fresh}
 use Rattle.executive.specs.Queue.{Moves, count, ahead, activeOf, plays, Legal, departures, entriesAbove}
-use Rattle.executive.specs.Lists.{pick, one}
+use Rattle.executive.specs.Lists.{one}
 use Rattle.executive.specs.Pool.{requests, placeOf}
 use Rattle.executive.specs.Places.{taskAt}
 use Rattle.executive.specs.Table.{view, Plan, apply, movesOf}
 use Rattle.executive.specs.Clock.{aimAt}
-use Rattle.executive.specs.Plans.{caller, nothing, endPlan, restartPlan, planOf}
+use Rattle.executive.specs.Plans.{caller, nothing, terminatePlan, restartPlan, planOf}
 use Rattle.executive.specs.WellFormed.{WellFormed}
 use Rattle.executive.specs.Check.{Checked}
 use Rattle.executive.specs.Refusals.{Refusal, when, callIn, callRefusals, refusals, firstOf}
 use Rattle.executive.specs.Promises.InWords.{Given}
-use Rattle.executive.specs.Step.{stepOf, IsNoTable, Steps, Takes}
+use Rattle.executive.specs.Step.{stepOf, IsNoTable, Steps, StepsCall}
 use Rattle.executive.specs.Configuration.{Makes, Measures}
 
 -- ---- the plan that a step executes: its kind's, where it is accepted; where it is refused, nothing
 abbrev pub planFor : Table → ℕ → Call → Plan
-planFor t n c = pick (eqb n 0) (planOf t c) (nothing t)
+planFor t n c = cond (eqb n 0) (planOf t c) (nothing t)
 
-unfoldable pub planned : Table → Call → Plan
-planned t c = planFor t (firstOf (callRefusals t c)) c
+unfoldable pub planOfCall : Table → Call → Plan
+planOfCall t c = planFor t (firstOf (callRefusals t c)) c
 
-unfoldable pub planIn : Table → List ℕ → Plan
-planIn t s = planFor t (firstOf (refusals t s)) (callIn s)
+unfoldable pub planOfRecord : Table → List ℕ → Plan
+planOfRecord t s = planFor t (firstOf (refusals t s)) (callIn s)
 
 -- ---- a history: records one after the other. The table after them, and what the plan of each did to the queue
 unfoldable pub after : Table → List (List ℕ) → Table
@@ -46,7 +46,7 @@ after t (s ∷ ss) = after (stepOf t s .table) ss
 
 unfoldable pub history : Table → List (List ℕ) → List Moves
 history t [] = []
-history t (s ∷ ss) = movesOf (planIn t s) t ∷ history (stepOf t s .table) ss
+history t (s ∷ ss) = movesOf (planOfRecord t s) t ∷ history (stepOf t s .table) ss
 
 -- the records' elements are bytes
 abbrev pub AllBytes : List (List ℕ) → Type 0
@@ -103,7 +103,7 @@ pub record Overtaking (t : Table) (k : ℕ) (ss : List (List ℕ)) : Type 0 wher
 -- how often task k departed, being the active one; how often it entered
 unfoldable pub departedOf : ℕ → Table → List (List ℕ) → ℕ
 departedOf k t [] = 0
-departedOf k t (s ∷ ss) = pick (movesOf (planIn t s) t .out) (one (eqb k (activeOf (view t)))) 0 + departedOf k (stepOf t s .table) ss
+departedOf k t (s ∷ ss) = cond (movesOf (planOfRecord t s) t .out) (one (eqb k (activeOf (view t)))) 0 + departedOf k (stepOf t s .table) ss
 
 unfoldable pub enteredOf : ℕ → List Moves → ℕ
 enteredOf k [] = 0
@@ -130,7 +130,7 @@ pub record Demands : Type 0 where
   pub order : (t : Table) (s : List ℕ) → map (λ (r : Refusal). r .number) (refusals t s) ≡ 1 ∷ 3 ∷ 4 ∷ 3 ∷ 5 ∷ 6 ∷ 7 ∷ 9 ∷ 8 ∷ 10 ∷ 11 ∷ []
   pub kept : (t : Table) (ss : List (List ℕ)) → WellFormed t → AllBytes ss → WellFormed (after t ss)
   -- the step executes its plan
-  pub executed : (t : Table) (s : List ℕ) → WellFormed t → Bytes s → stepOf t s .table ≡ apply (planIn t s) t
+  pub executed : (t : Table) (s : List ℕ) → WellFormed t → Bytes s → stepOf t s .table ≡ apply (planOfRecord t s) t
   -- 2: after any history
   pub dispatched : (t : Table) (ss : List (List ℕ)) (s : List ℕ) → WellFormed t → AllBytes ss → Bytes s
       → Dispatched (stepOf (after t ss) s .table) (stepOf (after t ss) s .answer .active .0)
@@ -153,7 +153,7 @@ pub record Demands : Type 0 where
   pub restarts : (t : Table) (p n : ℕ) → WellFormed t → 0 < t .ready
       → aimAt (taskAt (t .tasks) (caller t .0) .start) (t .rest .clock) p n .0 ≤ t .rest .clock .0 → Restarts (restartPlan t p n) t
   pub begins-again : (t : Table) → WellFormed t → 0 < t .ready
-      → placeOf (caller t .0) (requests (t .rest)) < length (requests (t .rest)) → Restarts (endPlan t) t
+      → placeOf (caller t .0) (requests (t .rest)) < length (requests (t .rest)) → Restarts (terminatePlan t) t
   pub restarts-by : (t : Table) (p n : ℕ) → stepOf t (0x01 ∷ p ∷ n ∷ []) .answer .number ≡ 0
       → aimAt (taskAt (t .tasks) (caller t .0) .start) (t .rest .clock) p n .0 ≤ t .rest .clock .0
       → RestartsBy (0x01 ∷ p ∷ n ∷ []) t
@@ -161,7 +161,7 @@ pub record Demands : Type 0 where
       → placeOf (caller t .0) (requests (t .rest)) < length (requests (t .rest)) → RestartsBy (0x00 ∷ []) t
   -- any two outcomes that a public entry's contract allows are equal: the answer and every field of the table
   pub step-determined : (t : Table) (s : List ℕ) (x y : Outcome) → Steps t s x → Steps t s y → x ≡ y
-  pub take-determined : (t : Table) (c : Call) (x y : Outcome) → Takes t c x → Takes t c y → x ≡ y
+  pub step-call-determined : (t : Table) (c : Call) (x y : Outcome) → StepsCall t c x → StepsCall t c y → x ≡ y
   pub check-determined : (t : Table) (x y : ℕ) → Checked t x → Checked t y → x ≡ y
   pub fresh-determined : (s : List ℕ) (x y : Fresh) → Makes s x → Makes s y → x ≡ y
   pub no-table-determined : (x y : Answer) → IsNoTable x → IsNoTable y → x ≡ y

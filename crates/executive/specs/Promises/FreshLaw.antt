@@ -1,7 +1,7 @@
 -- What holds of every configuration and its fresh table, as one list under one statement.
 use Prim.Native.Nat.{ℕ, suc, _≤_}
 use mathlib.Core.Path.{_≡_}
-use mathlib.Core.Bool.{true, false}
+use mathlib.Core.Bool.{true, false, cond}
 use mathlib.Core.List.{List, [], _∷_, _++_, map}
 use mathlib.Core.Logic.{_↔_}
 use lib.Dec.{eqb}
@@ -13,9 +13,9 @@ use Rattle.executive.specs.declared.Answer.{Answer}
 use Rattle.executive.specs.declared.Table.{Table}
 use Rattle.executive.specs.Numbers.{mostTasks, mostQueued, flagCount, highest}
 use Rattle.executive.specs.Queue.{Item, inserts}
-use Rattle.executive.specs.Lists.{pick, pad}
+use Rattle.executive.specs.Lists.{pad}
 use Rattle.executive.specs.Places.{nobody, never, noTask, noRequest}
-use Rattle.executive.specs.Table.{view, begin, admits}
+use Rattle.executive.specs.Table.{view, begin, enterAllInFlight}
 use Rattle.executive.specs.WellFormed.{WellFormed}
 use Rattle.executive.specs.Configuration.{tasksIn, configurationIn, isConfiguration, zeroTable, dormantAt, dormantTable, starters, freshTable, madeBy, freshOf}
 use Rattle.executive.specs.Promises.Demands.{Dispatched}
@@ -49,12 +49,12 @@ abbrev pub startedAt : ℕ → Task
 startedAt p = record { own = p; state = Ready; priority = p; argument = 0; start = never; «end_waiter» = nobody }
 
 abbrev pub entryOf : Entry → Task
-entryOf e = pick (eqb (e .mark) 1) (startedAt (e .own)) (dormantAt (e .own))
+entryOf e = cond (eqb (e .mark) 1) (startedAt (e .own)) (dormantAt (e .own))
 
 -- the marked ones of some tasks, the first of them numbered k
 unfoldable pub marked : ℕ → List Entry → List Item
 marked k [] = []
-marked k (e ∷ es) = pick (eqb (e .mark) 1) (record { task = k; prio = e .own } ∷ marked (suc k) es) (marked (suc k) es)
+marked k (e ∷ es) = cond (eqb (e .mark) 1) (record { task = k; prio = e .own } ∷ marked (suc k) es) (marked (suc k) es)
 
 pub record SaidOut (g : ℕ) (es : List Entry) (t : Table) : Type 0 where
   pub count : t .rest .count ≡ length es
@@ -79,7 +79,7 @@ pub record FreshLaw : Type 0 where
   pub exactly : (s : List ℕ) → (isConfiguration s ≡ true) ↔ Configuration s
   -- from any configuration the fresh table is well formed, and no start finds the ready queue full
   pub formed : (s : List ℕ) → Bytes s → isConfiguration s ≡ true → WellFormed (freshTable s)
-  pub room : (s : List ℕ) → Bytes s → isConfiguration s ≡ true → admits (starters s (tasksIn s) 1) (begin (dormantTable s)) .full ≡ false
+  pub room : (s : List ℕ) → Bytes s → isConfiguration s ≡ true → enterAllInFlight (starters s (tasksIn s) 1) (begin (dormantTable s)) .full ≡ false
   pub said-out : (s : List ℕ) → Bytes s → (c : Configuration s) → SaidOut (c .granule) (c .tasks) (freshTable s)
   -- its clock is 0, no flag is set
   pub clock : (s : List ℕ) → freshTable s .rest .clock .0 ≡ 0

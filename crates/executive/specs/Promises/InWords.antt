@@ -17,10 +17,10 @@ use Rattle.executive.specs.declared.State.the-variants.{Dormant}
 use Rattle.executive.specs.declared.Table.{Table}
 use Rattle.executive.specs.Numbers.{lastUnit, mostQueued, endOfTime}
 use Rattle.executive.specs.Places.{never}
-use Rattle.executive.specs.Table.{carry}
+use Rattle.executive.specs.Table.{applyInFlight}
 use Rattle.executive.specs.Plans.{caller, stateAt, planOf}
 use Rattle.executive.specs.WellFormed.{WellFormed}
-use Rattle.executive.specs.Refusals.{kindIn, callIn}
+use Rattle.executive.specs.Refusals.{kindOfRecord, callIn}
 
 -- bit i of a byte is set
 abbrev pub Bit : ℕ → ℕ → Type 0
@@ -40,8 +40,8 @@ BadBody t call.Terminate = ⊥
 BadBody t (call.Restart p n) = Bit 7 p × Bit 6 p
 BadBody t (call.Pause u n) = lastUnit < u
 BadBody t (call.CancelPause k) = NoTask t k
-BadBody t (call.Start o k) = NoTask t k ⊎ (Bit 6 o ⊎ (Bit 5 o ⊎ Bit 4 o))
-BadBody t (call.Queue o k a) = NoTask t k ⊎ (Bit 6 o × Bit 5 o)
+BadBody t (call.StartIfDormant o k) = NoTask t k ⊎ (Bit 6 o ⊎ (Bit 5 o ⊎ Bit 4 o))
+BadBody t (call.StartOrQueue o k a) = NoTask t k ⊎ (Bit 6 o × Bit 5 o)
 BadBody t (call.Flag o f) = (31 < f .0) ⊎ (2 < o)
 BadBody t (call.Wait m mask) = (1 < m) ⊎ (mask ≡ 0)
 BadBody t (call.Alarm u n f) = (lastUnit < u) ⊎ (31 < f .0)
@@ -55,7 +55,7 @@ pub record IsQueue (P : ℕ → TaskNo → Type 0) (c : Call) : Type 0 where
   pub option : ℕ
   pub target : TaskNo
   pub argument : ℕ
-  pub call : c ≡ call.Queue option target argument
+  pub call : c ≡ call.StartOrQueue option target argument
   pub said : P option target
 
 pub record IsAlarm (P : FlagNo → Type 0) (c : Call) : Type 0 where
@@ -89,15 +89,15 @@ abbrev pub cases : Table → List ℕ → List Case
 cases t s =
     case 1 (WellFormed t → ⊥)
     ∷ case 3 (length s ≡ 0)
-    ∷ case 4 (NoCall (kindIn s))
-    ∷ case 3 (length s ≢ lengthOf (kindIn s))
+    ∷ case 4 (NoCall (kindOfRecord s))
+    ∷ case 3 (length s ≢ lengthOf (kindOfRecord s))
     ∷ case 5 ((callIn s ≢ call.Tick) × (t .ready ≡ 0))
     ∷ case 6 (BadBody t (callIn s))
     ∷ case 7 (NamesCaller t (callIn s))
     ∷ case 9 (AlarmRunning t (callIn s))
     ∷ case 8 (PoolFull t (callIn s))
     ∷ case 10 ((callIn s ≡ call.Tick) × (endOfTime < t .rest .clock .0 + t .rest .granule))
-    ∷ case 11 (carry (planOf t (callIn s)) t .full ≡ true)
+    ∷ case 11 (applyInFlight (planOf t (callIn s)) t .full ≡ true)
     ∷ []
 
 -- n is the number of the first case that holds, and 0 if none does

@@ -1,29 +1,28 @@
 -- `checking::same_bytes` meets its contract. The invariant: the whole is the same exactly where nothing differed so far and what is left is the same.
 use Prim.Native.Nat.{_-_, _≤_}
 use mathlib.Core.Path.{_≡_, refl, sym, ap, _∙_}
-use mathlib.Core.Bool.{Bool, true, false}
+use mathlib.Core.Bool.{Bool, true, false, cond}
 use mathlib.Core.Logic.{⊎-elim}
 use native.Mathlib.Omega.{arith}
 use lib.ListN.{length, drop}
 use denote.Ref.{now}
 use borrow.Author.Needs.{needs}
-use Rattle.executive.specs.Lists.{pick}
 use Rattle.board.specs.Blocks.{same}
 use Rattle.board.proofs.Alike.{same-lengths, same-turn, same-differ, same-end}
 use Rattle.board.proofs.checking.same_bytes.Statement.{statement}
 use Rattle.board.proofs.checking.same_bytes.Tie as tie
 
 abbrev Inv-loop : tie.InvT-loop
-Inv-loop a b right₀ i₀ right i = (i ≤ length a) × (length a ≡ length b) × (pick right (same (drop i a) (drop i b)) false ≡ same a b)
+Inv-loop a b right₀ i₀ right i = (i ≤ length a) × (length a ≡ length b) × (cond right (same (drop i a) (drop i b)) false ≡ same a b)
 
 abbrev μ-loop : tie.MeasureT-loop
 μ-loop a b right₀ i₀ right i = length a - i
 
-neither : (r : Bool) → pick r false false ≡ false
+neither : (r : Bool) → cond r false false ≡ false
 neither true = refl
 neither false = refl
 
-itself : (r : Bool) → r ≡ pick r true false
+itself : (r : Bool) → r ≡ cond r true false
 itself true = refl
 itself false = refl
 
@@ -37,8 +36,8 @@ loop-again c =
       omega arith,
       v .inv .1,
       ⊎-elim
-          (λ t. rw (t .1) (sym (neither (v .right)) ∙ ap (λ (r : Bool). pick (v .right) r false) (sym (same-differ (now (a .a)) (now (a .b)) (v .i) (omega arith) (omega arith) (t .0 .taken))) ∙ v .inv .2))
-          (λ u. rw (u .1) (ap (λ (r : Bool). pick (v .right) r false) (sym (same-turn (now (a .a)) (now (a .b)) (v .i) (omega arith) (omega arith) (u .0 .left))) ∙ v .inv .2))
+          (λ t. rw (t .1) (sym (neither (v .right)) ∙ ap (λ (r : Bool). cond (v .right) r false) (sym (same-differ (now (a .a)) (now (a .b)) (v .i) (omega arith) (omega arith) (t .0 .taken))) ∙ v .inv .2))
+          (λ u. rw (u .1) (ap (λ (r : Bool). cond (v .right) r false) (sym (same-turn (now (a .a)) (now (a .b)) (v .i) (omega arith) (omega arith) (u .0 .left))) ∙ v .inv .2))
           (c .if2 .came),
     )
 
@@ -46,7 +45,7 @@ returns-2 : tie.Need-returns-2 Inv-loop μ-loop
 returns-2 c =
     let a = c .before .before .before .args in
     let v = c .before .loop in
-    itself (v .right) ∙ ap (λ (r : Bool). pick (v .right) r false) (sym (same-end (now (a .a)) (now (a .b)) (v .i) (omega arith) (omega arith))) ∙ v .inv .2
+    itself (v .right) ∙ ap (λ (r : Bool). cond (v .right) r false) (sym (same-end (now (a .a)) (now (a .b)) (v .i) (omega arith) (omega arith))) ∙ v .inv .2
 
 pub same-bytes-spec : {M : Type 1} → statement M
 same-bytes-spec =

@@ -4,7 +4,7 @@ use Prim.Native.Nat.{_≤_}
 use borrow.Author.Tests.{ne-eqb}
 use Rattle.executive.specs.Numbers.{longest}
 use Rattle.executive.specs.Plans.{alarmPlan}
-use Rattle.executive.specs.Table.{carry, depart, admits}
+use Rattle.executive.specs.Table.{applyInFlight, depart, enterAllInFlight}
 use Rattle.executive.proofs.clock.Interval.{interval-most}
 use borrow.Author.Needs.{needs}
 use Rattle.executive.proofs.Table.alarm.Statement.{statement}
@@ -22,7 +22,7 @@ add-t11 c =
     omega (arith, s .pre .3)
 
 returns-2 : tie.Need-returns-2
-unfolding alarmPlan carry depart admits
+unfolding alarmPlan applyInFlight depart enterAllInFlight
 returns-2 c =
     let c4 = c .before .before .before .before in
     rw (

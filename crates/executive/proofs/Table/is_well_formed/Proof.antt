@@ -1,4 +1,4 @@
-use Rattle.executive.proofs.Lists.Tests.{here, beyond, onward}
+use Rattle.executive.proofs.Lists.Tests.{and-false-left, and-false-right, and-true-left}
 use Rattle.executive.specs.Lists.{allOf}
 use Rattle.executive.specs.Check.{isBlank, inBounds, alarmRight, entryRight, inPasses, isWellFormed}
 use mathlib.Core.Path.{_≡_, sym, _∙_}
@@ -29,7 +29,7 @@ unfolding inPasses
 returns c =
     let s = c .before .before .before in
     let t = s .args .self in
-    of-size s (here _ _ (sym (c .before .in-bounds .ensures) ∙ not-true _ (c .if1 .taken)))
+    of-size s (and-false-left _ _ (sym (c .before .in-bounds .ensures) ∙ not-true _ (c .if1 .taken)))
 
 entries-right-requires : tie.Need-entries-right-requires
 entries-right-requires c κs = search needs
@@ -39,7 +39,7 @@ unfolding inPasses
 returns-2 c =
     let s = c .before .before .before .before .before .before in
     let t = s .args .self in
-    of-size s (beyond (inBounds (t .rest .count) (t .rest .granule) (t .rest .clock) (t .ready) (t .rest .queued)) _ (here _ _ (sym (c .before .entries-right .ensures) ∙ not-true _ (c .if2 .taken))))
+    of-size s (and-false-right (inBounds (t .rest .count) (t .rest .granule) (t .rest .clock) (t .ready) (t .rest .queued)) _ (and-false-left _ _ (sym (c .before .entries-right .ensures) ∙ not-true _ (c .if2 .taken))))
 
 cast-blank-past : tie.Need-cast-blank-past
 cast-blank-past c = search needs
@@ -54,7 +54,7 @@ unfolding inPasses
 returns-3 c =
     let s = c .before .before .before .before .before .before .before .before in
     let t = s .args .self in
-    of-size s (beyond (inBounds (t .rest .count) (t .rest .granule) (t .rest .clock) (t .ready) (t .rest .queued)) _ (beyond (allOf (entryRight (t .rest .count) (t .rest .clock .0) (t .rest .flags)) (t .tasks)) _ (here _ _ (sym (c .before .blank-past .ensures) ∙ not-true _ (c .if3 .taken)))))
+    of-size s (and-false-right (inBounds (t .rest .count) (t .rest .granule) (t .rest .clock) (t .ready) (t .rest .queued)) _ (and-false-right (allOf (entryRight (t .rest .count) (t .rest .clock .0) (t .rest .flags)) (t .tasks)) _ (and-false-left _ _ (sym (c .before .blank-past .ensures) ∙ not-true _ (c .if3 .taken)))))
 
 all-alarms-requires : tie.Need-all-alarms-requires
 all-alarms-requires c κs = search needs
@@ -64,7 +64,7 @@ unfolding inPasses
 returns-4 c =
     let s = c .before .before .before .before .before .before .before .before .before .before .before in
     let t = s .args .self in
-    of-size s (beyond (inBounds (t .rest .count) (t .rest .granule) (t .rest .clock) (t .ready) (t .rest .queued)) _ (beyond (allOf (entryRight (t .rest .count) (t .rest .clock .0) (t .rest .flags)) (t .tasks)) _ (beyond (allOf isBlank (drop (t .rest .count) (t .tasks))) _ (here _ _ (sym (c .before .all-alarms .ensures) ∙ not-true _ (c .if4 .taken))))))
+    of-size s (and-false-right (inBounds (t .rest .count) (t .rest .granule) (t .rest .clock) (t .ready) (t .rest .queued)) _ (and-false-right (allOf (entryRight (t .rest .count) (t .rest .clock .0) (t .rest .flags)) (t .tasks)) _ (and-false-right (allOf isBlank (drop (t .rest .count) (t .tasks))) _ (and-false-left _ _ (sym (c .before .all-alarms .ensures) ∙ not-true _ (c .if4 .taken))))))
 
 cast-queue-right : tie.Need-cast-queue-right
 cast-queue-right c = search needs
@@ -80,7 +80,7 @@ unfolding inPasses
 returns-5 c =
     let s = c .before .before .before .before .before .before .before .before .before .before .before .before .before .before .before in
     let t = s .args .self in
-    of-size s (beyond (inBounds (t .rest .count) (t .rest .granule) (t .rest .clock) (t .ready) (t .rest .queued)) _ (beyond (allOf (entryRight (t .rest .count) (t .rest .clock .0) (t .rest .flags)) (t .tasks)) _ (beyond (allOf isBlank (drop (t .rest .count) (t .tasks))) _ (beyond (allOf (alarmRight (t .rest .clock .0)) (t .rest .alarms)) _ (here _ _ (sym (c .before .queue-right .ensures) ∙ not-true _ (c .if5 .taken)))))))
+    of-size s (and-false-right (inBounds (t .rest .count) (t .rest .granule) (t .rest .clock) (t .ready) (t .rest .queued)) _ (and-false-right (allOf (entryRight (t .rest .count) (t .rest .clock .0) (t .rest .flags)) (t .tasks)) _ (and-false-right (allOf isBlank (drop (t .rest .count) (t .tasks))) _ (and-false-right (allOf (alarmRight (t .rest .clock .0)) (t .rest .alarms)) _ (and-false-left _ _ (sym (c .before .queue-right .ensures) ∙ not-true _ (c .if5 .taken)))))))
 
 cast-pool-right : tie.Need-cast-pool-right
 cast-pool-right c = search needs
@@ -96,7 +96,7 @@ unfolding inPasses
 returns-6 c =
     let s = c .before .before .before .before .before .before .before .before .before .before .before .before .before .before .before .before .before .before in
     let t = s .args .self in
-    of-size s (onward _ _ _ (sym (c .before .before .before .before .before .before .before .before .before .before .before .before .before .before .before .before .in-bounds .ensures) ∙ not-false _ (c .before .before .before .before .before .before .before .before .before .before .before .before .before .before .before .if1 .left)) (onward _ _ _ (sym (c .before .before .before .before .before .before .before .before .before .before .before .before .before .entries-right .ensures) ∙ not-false _ (c .before .before .before .before .before .before .before .before .before .before .before .before .if2 .left)) (onward _ _ _ (sym (c .before .before .before .before .before .before .before .before .before .before .before .blank-past .ensures) ∙ not-false _ (c .before .before .before .before .before .before .before .before .before .before .if3 .left)) (onward _ _ _ (sym (c .before .before .before .before .before .before .before .before .all-alarms .ensures) ∙ not-false _ (c .before .before .before .before .before .before .before .if4 .left)) (onward _ _ _ (sym (c .before .before .before .before .queue-right .ensures) ∙ not-false _ (c .before .before .before .if5 .left)) (c .pool-right .ensures))))))
+    of-size s (and-true-left _ _ _ (sym (c .before .before .before .before .before .before .before .before .before .before .before .before .before .before .before .before .in-bounds .ensures) ∙ not-false _ (c .before .before .before .before .before .before .before .before .before .before .before .before .before .before .before .if1 .left)) (and-true-left _ _ _ (sym (c .before .before .before .before .before .before .before .before .before .before .before .before .before .entries-right .ensures) ∙ not-false _ (c .before .before .before .before .before .before .before .before .before .before .before .before .if2 .left)) (and-true-left _ _ _ (sym (c .before .before .before .before .before .before .before .before .before .before .before .blank-past .ensures) ∙ not-false _ (c .before .before .before .before .before .before .before .before .before .before .if3 .left)) (and-true-left _ _ _ (sym (c .before .before .before .before .before .before .before .before .all-alarms .ensures) ∙ not-false _ (c .before .before .before .before .before .before .before .if4 .left)) (and-true-left _ _ _ (sym (c .before .before .before .before .queue-right .ensures) ∙ not-false _ (c .before .before .before .if5 .left)) (c .pool-right .ensures))))))
 
 pub is-well-formed-spec : {M : Type 1} → statement M
 is-well-formed-spec =

@@ -1,6 +1,6 @@
 use Rattle.executive.specs.Numbers.{longest}
 use Rattle.executive.specs.Plans.{pausePlan}
-use Rattle.executive.specs.Table.{carry, departed, depart, admits}
+use Rattle.executive.specs.Table.{applyInFlight, departed, depart, enterAllInFlight}
 use Rattle.executive.specs.Places.{nobody}
 use Rattle.executive.proofs.clock.Interval.{interval-most}
 use Prim.Native.Nat.{_≤_}
@@ -13,7 +13,7 @@ use Rattle.executive.proofs.Table.pause.Statement.{statement}
 use Rattle.executive.proofs.Table.pause.Tie as tie
 
 returns : tie.Need-returns
-unfolding pausePlan carry depart admits
+unfolding pausePlan applyInFlight depart enterAllInFlight
 returns c = rw (c .begin .ensures, c .before .if1 .taken) refl
 
 array-copy-out-task-at : tie.Need-array-copy-out-task-at
@@ -38,7 +38,7 @@ depart-requires : tie.Need-depart-requires
 depart-requires c κs = search needs
 
 returns-2 : tie.Need-returns-2
-unfolding pausePlan carry depart departed admits
+unfolding pausePlan applyInFlight depart departed enterAllInFlight
 returns-2 c =
     let c4 = c .before .before .before .before in
     let c8 = c4 .before .before .before .before in

@@ -1,7 +1,7 @@
 use mathlib.Core.Path.{_≡_, sym, _∙_}
 use mathlib.Core.Bool.{true, false}
 use Rattle.executive.specs.Plans.{planOf}
-use Rattle.executive.specs.Table.{carry}
+use Rattle.executive.specs.Table.{applyInFlight}
 use Rattle.executive.specs.Step.{accepted}
 use Rattle.executive.proofs.calls.InOrder.{standing-of}
 use Rattle.executive.proofs.refusals.NothingRefuses.{clear-of}
@@ -21,7 +21,7 @@ run-requires c κs = (c .before .before .pre, sym (c .before .refusal .ensures) 
 returns-2 : tie.Need-returns-2
 returns-2 c =
     let s = c .before .before .before .before .before in
-    let f : carry (planOf (s .args .self) (s .args .call)) (s .args .self) .full ≡ true = rw (c .before .before .run .ensures) at (c .before .if2 .taken) in
+    let f : applyInFlight (planOf (s .args .self) (s .args .call)) (s .args .self) .full ≡ true = rw (c .before .before .run .ensures) at (c .before .if2 .taken) in
     c .refuse2 .ensures ∙ refused-late (s .args .self) (s .args .call) (sym (c .before .before .before .before .refusal .ensures) ∙ c .before .before .before .if1 .left) f
 
 marks-of-requires : tie.Need-marks-of-requires
@@ -33,7 +33,7 @@ returns-3 : tie.Need-returns-3
 unfolding accepted
 returns-3 c =
     let s = c .before .before .before .before .before .before .before in
-    let f : carry (planOf (s .args .self) (s .args .call)) (s .args .self) .full ≡ false = rw (c .before .before .before .before .run .ensures) at (c .before .before .before .if2 .left) in
+    let f : applyInFlight (planOf (s .args .self) (s .args .call)) (s .args .self) .full ≡ false = rw (c .before .before .before .before .run .ensures) at (c .before .before .before .if2 .left) in
     rw (c .answer .ensures, c .before .marks-of .ensures, c .before .before .before .before .run .ensures) (not-refused (s .args .self) (s .args .call) (sym (c .before .before .before .before .before .before .refusal .ensures) ∙ c .before .before .before .before .before .if1 .left) f)
 
 pub perform-spec : {M : Type 1} → statement M

@@ -1,35 +1,35 @@
 use mathlib.Core.Path.{refl}
-use Rattle.executive.specs.Refusals.{earlyOf, firstOf}
+use Rattle.executive.specs.Refusals.{refusalBefore11, firstOf}
 use borrow.Author.Needs.{needs}
 use Rattle.executive.proofs.Table.refusal.Statement.{statement}
 use Rattle.executive.proofs.Table.refusal.Tie as tie
 
 returns : tie.Need-returns
-unfolding earlyOf firstOf
+unfolding refusalBefore11 firstOf
 returns c = rw (← c .before .nobody-active .ensures, c .if1 .taken) refl
 
 returns-2 : tie.Need-returns-2
-unfolding earlyOf firstOf
+unfolding refusalBefore11 firstOf
 returns-2 c = rw (← c .before .before .before .nobody-active .ensures, c .before .before .if1 .left, ← c .before .bad-body .ensures, c .if2 .taken) refl
 
 returns-3 : tie.Need-returns-3
-unfolding earlyOf firstOf
+unfolding refusalBefore11 firstOf
 returns-3 c = rw (← c .before .before .before .before .before .nobody-active .ensures, c .before .before .before .before .if1 .left, ← c .before .before .before .bad-body .ensures, c .before .before .if2 .left, ← c .before .names-caller .ensures, c .if3 .taken) refl
 
 returns-4 : tie.Need-returns-4
-unfolding earlyOf firstOf
+unfolding refusalBefore11 firstOf
 returns-4 c = rw (← c .before .before .before .before .before .before .before .nobody-active .ensures, c .before .before .before .before .before .before .if1 .left, ← c .before .before .before .before .before .bad-body .ensures, c .before .before .before .before .if2 .left, ← c .before .before .before .names-caller .ensures, c .before .before .if3 .left, ← c .before .alarm-running .ensures, c .if4 .taken) refl
 
 returns-5 : tie.Need-returns-5
-unfolding earlyOf firstOf
+unfolding refusalBefore11 firstOf
 returns-5 c = rw (← c .before .before .before .before .before .before .before .before .before .nobody-active .ensures, c .before .before .before .before .before .before .before .before .if1 .left, ← c .before .before .before .before .before .before .before .bad-body .ensures, c .before .before .before .before .before .before .if2 .left, ← c .before .before .before .before .before .names-caller .ensures, c .before .before .before .before .if3 .left, ← c .before .before .before .alarm-running .ensures, c .before .before .if4 .left, ← c .before .pool-full .ensures, c .if5 .taken) refl
 
 returns-6 : tie.Need-returns-6
-unfolding earlyOf firstOf
+unfolding refusalBefore11 firstOf
 returns-6 c = rw (← c .before .before .before .before .before .before .before .before .before .before .before .nobody-active .ensures, c .before .before .before .before .before .before .before .before .before .before .if1 .left, ← c .before .before .before .before .before .before .before .before .before .bad-body .ensures, c .before .before .before .before .before .before .before .before .if2 .left, ← c .before .before .before .before .before .before .before .names-caller .ensures, c .before .before .before .before .before .before .if3 .left, ← c .before .before .before .before .before .alarm-running .ensures, c .before .before .before .before .if4 .left, ← c .before .before .before .pool-full .ensures, c .before .before .if5 .left, ← c .before .ends-time .ensures, c .if6 .taken) refl
 
 returns-7 : tie.Need-returns-7
-unfolding earlyOf firstOf
+unfolding refusalBefore11 firstOf
 returns-7 c = rw (← c .before .before .before .before .before .before .before .before .before .before .before .nobody-active .ensures, c .before .before .before .before .before .before .before .before .before .before .if1 .left, ← c .before .before .before .before .before .before .before .before .before .bad-body .ensures, c .before .before .before .before .before .before .before .before .if2 .left, ← c .before .before .before .before .before .before .before .names-caller .ensures, c .before .before .before .before .before .before .if3 .left, ← c .before .before .before .before .before .alarm-running .ensures, c .before .before .before .before .if4 .left, ← c .before .before .before .pool-full .ensures, c .before .before .if5 .left, ← c .before .ends-time .ensures, c .if6 .left) refl
 
 pub refusal-spec : {M : Type 1} → statement M

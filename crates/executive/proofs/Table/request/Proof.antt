@@ -4,7 +4,7 @@ use Rattle.executive.proofs.Table.request.Statement.{statement}
 use Rattle.executive.proofs.Table.request.Tie as tie
 
 returns : tie.Need-returns
-returns c = rw (c .end-waiter-of .ensures, c .before .start-waiter-of .ensures, c .before .before .level-of .ensures, c .before .before .before .task-at .ensures, c .before .before .before .before .before .active .ensures) refl
+returns c = rw (c .end-waiter-of .ensures, c .before .start-waiter-of .ensures, c .before .before .priority-of .ensures, c .before .before .before .task-at .ensures, c .before .before .before .before .before .active .ensures) refl
 
 pub request-spec : {M : Type 1} → statement M
 request-spec =

@@ -1,6 +1,6 @@
 use mathlib.Core.Path.{refl}
 use Rattle.executive.specs.Plans.{setPlan}
-use Rattle.executive.specs.Table.{carry, depart}
+use Rattle.executive.specs.Table.{applyInFlight, depart}
 use Rattle.executive.proofs.waking.ScansAgree.{risers-timely}
 use borrow.Author.Needs.{needs}
 use Rattle.executive.proofs.queue.InFlight.{begin-flying}
@@ -11,7 +11,7 @@ rise-all-requires : tie.Need-rise-all-requires
 rise-all-requires c κs = rw (c .begin .ensures) (begin-flying _ (c .before .before .before .before .pre .0))
 
 returns : tie.Need-returns
-unfolding setPlan carry depart
+unfolding setPlan applyInFlight depart
 returns c =
     let c4 = c .before .before .before .before in
     let s = c4 .before .before in

@@ -1,7 +1,7 @@
 use mathlib.Core.Path.{refl}
 use borrow.Author.Needs.{needs}
 use Rattle.executive.specs.Plans.{tickPlan}
-use Rattle.executive.specs.Table.{carry, depart}
+use Rattle.executive.specs.Table.{applyInFlight, depart}
 use Rattle.executive.proofs.queue.InFlight.{begin-flying}
 use Rattle.executive.proofs.Table.tick.Statement.{statement}
 use Rattle.executive.proofs.Table.tick.Tie as tie
@@ -16,7 +16,7 @@ with-rest-requires : tie.Need-with-rest-requires
 with-rest-requires c κs = search needs
 
 returns : tie.Need-returns
-unfolding tickPlan carry depart
+unfolding tickPlan applyInFlight depart
 returns c =
     let c4 = c .before .before .before .before in
     rw (

@@ -2,7 +2,7 @@ use mathlib.Core.Path.{_≡_, refl, sym, _∙_}
 use mathlib.Core.Bool.{true, false}
 use Rattle.executive.specs.Flags.{met, modeOf}
 use Rattle.executive.specs.Plans.{waitPlan}
-use Rattle.executive.specs.Table.{carry, depart, departed, admits}
+use Rattle.executive.specs.Table.{applyInFlight, depart, departed, enterAllInFlight}
 use Rattle.executive.proofs.waking.ScansAgree.{unchanged}
 use borrow.Author.Needs.{needs}
 use Rattle.executive.proofs.Table.wait.Statement.{statement}
@@ -18,7 +18,7 @@ returns c =
     rw (c .begin .ensures, e) (unchanged (s .args .self))
 
 returns-2 : tie.Need-returns-2
-unfolding waitPlan carry depart departed admits
+unfolding waitPlan applyInFlight depart departed enterAllInFlight
 returns-2 c =
     let c4 = c .before .before .before .before in
     let s = c4 .before in

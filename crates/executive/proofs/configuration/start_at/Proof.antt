@@ -1,18 +1,18 @@
 -- `executive::configuration::start_at` meets its contract.
 use mathlib.Core.Path.{refl}
 use borrow.Author.Tests.{eq-eqb, ne-eqb}
-use Rattle.executive.specs.Table.{admits}
-use Rattle.executive.specs.Configuration.{starter}
+use Rattle.executive.specs.Table.{enterAllInFlight}
+use Rattle.executive.specs.Configuration.{markedStart}
 use borrow.Author.Needs.{needs}
 use Rattle.executive.proofs.configuration.start_at.Statement.{statement}
 use Rattle.executive.proofs.configuration.start_at.Tie as tie
 
 returns : tie.Need-returns
-unfolding starter admits
+unfolding markedStart enterAllInFlight
 returns c = rw (← c .before .mark-in .ensures, ne-eqb (c .before .mark-in .result) 1 (c .if1 .taken)) refl
 
 returns-2 : tie.Need-returns-2
-unfolding starter
+unfolding markedStart
 returns-2 c = rw (c .commence .ensures, c .before .own-in .ensures, ← c .before .before .before .mark-in .ensures, eq-eqb (c .before .before .before .mark-in .result) 1 (c .before .before .if1 .left)) refl
 
 pub start-at-spec : {M : Type 1} → statement M

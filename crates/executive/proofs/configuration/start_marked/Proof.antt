@@ -2,7 +2,7 @@
 use mathlib.Core.Path.{_≡_, refl}
 use native.Mathlib.Omega.{arith}
 use Prim.Native.Nat.{_≤_, _-_}
-use Rattle.executive.specs.Table.{Flying, admits}
+use Rattle.executive.specs.Table.{InFlight, enterAllInFlight}
 use Rattle.executive.specs.Configuration.{starters}
 use Rattle.executive.proofs.configuration.Loops.{start-more}
 use Rattle.executive.proofs.queue.InFlight.{admits-flying}
@@ -10,13 +10,13 @@ use Rattle.executive.proofs.configuration.start_marked.Statement.{state
 use Rattle.executive.proofs.configuration.start_marked.Tie as tie
 
 abbrev Inv-loop : tie.InvT-loop
-Inv-loop s n v₀ k₀ v k = (k ≤ n) × Flying v × (v ≡ admits (starters s k 1) v₀)
+Inv-loop s n v₀ k₀ v k = (k ≤ n) × InFlight v × (v ≡ enterAllInFlight (starters s k 1) v₀)
 
 abbrev μ-loop : tie.MeasureT-loop
 μ-loop s n v₀ k₀ v k = n - k
 
 loop-holds : tie.Need-loop-holds Inv-loop μ-loop
-unfolding starters admits
+unfolding starters enterAllInFlight
 loop-holds c = (omega arith, c .before .pre .0, refl)
 
 add-t7 : tie.Need-add-t7 Inv-loop μ-loop

@@ -1,4 +1,4 @@
-use Rattle.executive.proofs.Lists.Tests.{here, beyond, onward, shut}
+use Rattle.executive.proofs.Lists.Tests.{and-false-left, and-false-right, and-true-left, both-false}
 use Rattle.executive.specs.Check.{waitersAt}
 use lib.Dec.{eqb}
 use lib.ListN.{take}
@@ -22,7 +22,7 @@ plus-if-requires c κs = search needs
 
 returns : tie.Need-returns
 unfolding waitersAt
-returns c = here _ _ (ne-eqb _ _ (rw (c .before .before .links-in .ensures .1, c .before .plus-if .ensures, c .before .before .before .kind-of .ensures, c .before .before .before .before .pre .1, add-zero) at (c .if1 .taken)))
+returns c = and-false-left _ _ (ne-eqb _ _ (rw (c .before .before .links-in .ensures .1, c .before .plus-if .ensures, c .before .before .before .kind-of .ensures, c .before .before .before .before .pre .1, add-zero) at (c .if1 .taken)))
 
 links-in-requires-2 : tie.Need-links-in-requires-2
 links-in-requires-2 c κs = c .before .before .before .before .pre .0
@@ -48,7 +48,7 @@ returns-2 c =
     let runs = c .before .before .before .before .runs-in .ensures .1 in
     let want = c .before .before .before .plus-if2 .ensures in
     let ends = rw (m .links-in2 .ensures .1, runs, want, k, e, add-zero) at (c .before .before .if2 .taken) in
-    onward _ _ _ (eq-eqb _ _ starts) (onward _ _ _ (eq-eqb _ _ ends) (rw e))
+    and-true-left _ _ _ (eq-eqb _ _ starts) (and-true-left _ _ _ (eq-eqb _ _ ends) (rw e))
 
 returns-3 : tie.Need-returns-3
 unfolding waitersAt
@@ -62,7 +62,7 @@ returns-3 c =
     let runs = c .before .before .runs-in .ensures .1 in
     let want = c .before .plus-if2 .ensures in
     let ends = rw (m .links-in2 .ensures .1, runs, want, k, s .pre .1, add-zero) at (c .if2 .left) in
-    shut (ne-eqb _ _ (c .if2 .left)) (beyond starts _ (here _ _ (ne-eqb _ _ ends)))
+    both-false (ne-eqb _ _ (c .if2 .left)) (and-false-right starts _ (and-false-left _ _ (ne-eqb _ _ ends)))
 
 pub waiters-at-spec : {M : Type 1} → statement M
 waiters-at-spec =

@@ -1,7 +1,7 @@
 -- What the entry points answer and leave in their buffers, for every input.
 use Prim.Native.Nat.{ℕ, _≤_}
 use mathlib.Core.Path.{_≡_}
-use mathlib.Core.Bool.{true}
+use mathlib.Core.Bool.{true, cond}
 use mathlib.Core.List.{List, [], _∷_}
 use mathlib.Core.Logic.{_↔_}
 use lib.Dec.{eqb, ltb}
@@ -9,7 +9,7 @@ use lib.ListN.{length}
 use Rattle.records.specs.Numbers.{lay}
 use Rattle.executive.specs.declared.Answer.{Answer}
 use Rattle.executive.specs.declared.Table.{Table}
-use Rattle.executive.specs.Lists.{pick, one}
+use Rattle.executive.specs.Lists.{one}
 use Rattle.executive.specs.WellFormed.{WellFormed}
 use Rattle.executive.specs.Check.{isWellFormed}
 use Rattle.executive.specs.Step.{noTable, stepOf}
@@ -20,7 +20,7 @@ use Rattle.board.specs.Image.{noRoom, imageLength, imageOf, loadOf, isIm
 
 -- ---- the check: 0 exactly where the bytes are the image of a well-formed table, else 1
 unfoldable pub checkNumber : List ℕ → ℕ
-checkNumber s = pick (isImage s) (pick (isWellFormed (loadOf s)) 0 1) 1
+checkNumber s = cond (isImage s) (cond (isWellFormed (loadOf s)) 0 1) 1
 
 pub record WellFormedImage (s : List ℕ) : Type 0 where
   pub image : isImage s ≡ true
@@ -38,10 +38,10 @@ pub record Holds (s : List ℕ) (t : Table) : Type 0 where
 -- ---- a fresh table from configuration bytes: 30 where the buffer has not the image's length, else the number of
 -- making it; written only with 0
 unfoldable pub freshNumber : List ℕ → List ℕ → ℕ
-freshNumber config o = pick (eqb (length o) imageLength) (freshOf config .answer .number) noRoom
+freshNumber config o = cond (eqb (length o) imageLength) (freshOf config .answer .number) noRoom
 
 unfoldable pub freshImage : List ℕ → List ℕ → List ℕ
-freshImage config o = pick (eqb (freshNumber config o) 0) (imageOf (freshOf config .table)) o
+freshImage config o = cond (eqb (freshNumber config o) 0) (imageOf (freshOf config .table)) o
 
 -- the contract: n is what making a table from config in the buffer o answers, and o then is p
 pub record MakesImage (config o p : List ℕ) (n : ℕ) : Type 0 where
@@ -66,20 +66,20 @@ answerBytes a = lay answerWidths (a .number ∷ one (a .z) ∷ one (a .v) ∷ on
 -- the executive's own answer (bytes that are no image are no well-formed table), and the image of its own table
 -- where the step is accepted; a refusal keeps every byte
 unfoldable pub answerTo : List ℕ → List ℕ → Answer
-answerTo s call = pick (isImage s) (stepOf (loadOf s) call .answer) noTable
+answerTo s call = cond (isImage s) (stepOf (loadOf s) call .answer) noTable
 
 unfoldable pub imageAfter : List ℕ → List ℕ → List ℕ
-imageAfter s call = pick (eqb (answerTo s call .number) 0) (imageOf (stepOf (loadOf s) call .table)) s
+imageAfter s call = cond (eqb (answerTo s call .number) 0) (imageOf (stepOf (loadOf s) call .table)) s
 
 -- ---- a step: 30 where the answer's buffer is too short, and then no byte of any buffer changes
 unfoldable pub stepNumber : List ℕ → List ℕ → List ℕ → ℕ
-stepNumber s call o = pick (ltb (length o) answerLength) noRoom (answerTo s call .number)
+stepNumber s call o = cond (ltb (length o) answerLength) noRoom (answerTo s call .number)
 
 unfoldable pub stepImage : List ℕ → List ℕ → List ℕ → List ℕ
-stepImage s call o = pick (ltb (length o) answerLength) s (imageAfter s call)
+stepImage s call o = cond (ltb (length o) answerLength) s (imageAfter s call)
 
 unfoldable pub stepAnswer : List ℕ → List ℕ → List ℕ → List ℕ
-stepAnswer s call o = pick (ltb (length o) answerLength) o (written o 0 (answerBytes (answerTo s call)))
+stepAnswer s call o = cond (ltb (length o) answerLength) o (written o 0 (answerBytes (answerTo s call)))
 
 -- the contract: n is what the step of call at the image s answers, the buffer o lent for the answer; s then is p, o
 -- is q

@@ -2,8 +2,8 @@ use mathlib.Core.Path.{sym, _∙_}
 use Rattle.executive.proofs.waking.ScansAgree.{cancelled, not-cancelled}
 use borrow.Author.Needs.{needs}
 use Rattle.executive.proofs.queue.InFlight.{begin-flying}
-use Rattle.executive.proofs.Table.cancel.Statement.{statement}
-use Rattle.executive.proofs.Table.cancel.Tie as tie
+use Rattle.executive.proofs.Table.cancel_pause.Statement.{statement}
+use Rattle.executive.proofs.Table.cancel_pause.Tie as tie
 
 raise-requires : tie.Need-raise-requires
 raise-requires c κs =
@@ -24,8 +24,8 @@ returns-2 c =
     (not-cancelled (c4 .before .args .self) (c4 .before .args .k)
     (rw (c .before .before .before .task-at .ensures) at (sym (c .before .is-paused .ensures) ∙ c .if1 .left)))
 
-pub cancel-spec : {M : Type 1} → statement M
-cancel-spec =
+pub cancel-pause-spec : {M : Type 1} → statement M
+cancel-pause-spec =
     tie.close
     (tie.spec
     (λ c κs. search needs)

@@ -1,4 +1,4 @@
--- `trips::there_and_back` meets its contract: the record fits six bytes, its start is the call's bytes, and those read as the call.
+-- `trips::write_then_read` meets its contract: the record fits six bytes, its start is the call's bytes, and those read as the call.
 use Prim.Native.Nat.{ℕ, _≤_}
 use mathlib.Core.Path.{_≡_, sym, ap, _∙_}
 use mathlib.Core.List.{List}
@@ -11,8 +11,8 @@ use Rattle.records.specs.Reading.{readOf}
 use Rattle.records.specs.Writing.{bytesOf}
 use Rattle.records.proofs.writing.Laws.{bytes-short, write-length, write-never, out-start}
 use Rattle.records.proofs.RoundTrips.{write-read}
-use Rattle.records.proofs.trips.there_and_back.Statement.{statement}
-use Rattle.records.proofs.trips.there_and_back.Tie as tie
+use Rattle.records.proofs.trips.write_then_read.Statement.{statement}
+use Rattle.records.proofs.trips.write_then_read.Tie as tie
 
 abbrev zeros : List ℕ
 zeros = replicate 6 0
@@ -50,8 +50,8 @@ returns-2 c =
     let w = c .before .before .before .before .write in
     absurd (write-never (c .before .before .before .before .before .before .args .call) zeros (lit≤ tt) _ (sym (c .before .number .given .1) ∙ w .ensures .answer))
 
-pub there-and-back-spec : {M : Type 1} → statement M
-there-and-back-spec =
+pub write-then-read-spec : {M : Type 1} → statement M
+write-then-read-spec =
     tie.close
     (tie.spec
     (λ c. search needs)

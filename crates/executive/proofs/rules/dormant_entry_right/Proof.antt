@@ -1,8 +1,8 @@
 use mathlib.Core.Path.{sym, _∙_}
 use borrow.Author.Tests.{not-true, not-false}
 use borrow.Author.Needs.{needs}
-use Rattle.executive.proofs.rules.sleeps_right.Statement.{statement}
-use Rattle.executive.proofs.rules.sleeps_right.Tie as tie
+use Rattle.executive.proofs.rules.dormant_entry_right.Statement.{statement}
+use Rattle.executive.proofs.rules.dormant_entry_right.Tie as tie
 
 is-dormant-requires : tie.Need-is-dormant-requires
 is-dormant-requires c κs = search needs
@@ -16,5 +16,5 @@ is-zero-requires c κs = search needs
 returns-2 : tie.Need-returns-2
 returns-2 c = rw (sym (c .before .before .is-dormant .ensures) ∙ not-false _ (c .before .if1 .left), c .is-zero .ensures)
 
-pub sleeps-right-spec : {M : Type 1} → statement M
-sleeps-right-spec = tie.close (tie.spec is-dormant-requires returns is-zero-requires returns-2)
+pub dormant-entry-right-spec : {M : Type 1} → statement M
+dormant-entry-right-spec = tie.close (tie.spec is-dormant-requires returns is-zero-requires returns-2)

@@ -1,9 +1,9 @@
 use mathlib.Core.Path.{refl}
 use borrow.Author.Needs.{needs}
-use Rattle.executive.specs.Plans.{queuePlan}
-use Rattle.executive.specs.Table.{carry, admits}
-use Rattle.executive.proofs.Table.ask.Statement.{statement}
-use Rattle.executive.proofs.Table.ask.Tie as tie
+use Rattle.executive.specs.Plans.{queueRequestPlan}
+use Rattle.executive.specs.Table.{applyInFlight, enterAllInFlight}
+use Rattle.executive.proofs.Table.queue_request.Statement.{statement}
+use Rattle.executive.proofs.Table.queue_request.Tie as tie
 
 go-out-requires : tie.Need-go-out-requires
 go-out-requires c κs = search needs
@@ -15,7 +15,7 @@ with-rest-requires : tie.Need-with-rest-requires
 with-rest-requires c κs = search needs
 
 returns : tie.Need-returns
-unfolding queuePlan carry admits
+unfolding queueRequestPlan applyInFlight enterAllInFlight
 returns c =
     let c4 = c .before .before .before .before in
     rw (
@@ -25,5 +25,5 @@ returns c =
       c4 .go-out .ensures,
     ) refl
 
-pub ask-spec : {M : Type 1} → statement M
-ask-spec = tie.close (tie.spec go-out-requires with-request-requires (λ c κs. search needs) with-rest-requires returns)
+pub queue-request-spec : {M : Type 1} → statement M
+queue-request-spec = tie.close (tie.spec go-out-requires with-request-requires (λ c κs. search needs) with-rest-requires returns)

@@ -1,11 +1,11 @@
--- `promises::there_and_back` meets its contract: a table that code holds fits, and so it comes back.
+-- `promises::write_then_read` meets its contract: a table that code holds fits, and so it comes back.
 use mathlib.Core.Path.{ap, _∙_}
 use Rattle.board.specs.Image.{loadOf}
 use Rattle.board.proofs.Owned.{table-owned}
 use Rattle.board.proofs.Trips.{load-store}
 use borrow.Author.Needs.{needs}
-use Rattle.board.proofs.promises.there_and_back.Statement.{statement}
-use Rattle.board.proofs.promises.there_and_back.Tie as tie
+use Rattle.board.proofs.promises.write_then_read.Statement.{statement}
+use Rattle.board.proofs.promises.write_then_read.Tie as tie
 
 returns : tie.Need-returns
 returns c =
@@ -13,8 +13,8 @@ returns c =
     let t = start .args .table in
     c .load .ensures ∙ ap loadOf (c .before .before .before .put-table .ensures) ∙ load-store t (table-owned t _ (start .good .0))
 
-pub there-and-back-spec : {M : Type 1} → statement M
-there-and-back-spec =
+pub write-then-read-spec : {M : Type 1} → statement M
+write-then-read-spec =
     tie.close
     (tie.spec
     (λ c. search needs)

@@ -2,8 +2,8 @@ use mathlib.Core.Path.{sym, _∙_}
 use Rattle.executive.proofs.check.Decides.{well-formed-iff}
 use Rattle.executive.proofs.step.CodeIsStep.{take-call, take-no-call}
 use borrow.Author.Needs.{needs}
-use Rattle.executive.proofs.Table.take_checked.Statement.{statement}
-use Rattle.executive.proofs.Table.take_checked.Tie as tie
+use Rattle.executive.proofs.Table.step_call_checked.Statement.{statement}
+use Rattle.executive.proofs.Table.step_call_checked.Tie as tie
 
 returns : tie.Need-returns
 returns c = let s = c .before .before .before in c .perform .ensures ∙ take-call (s .args .self) (s .args .call) (s .pre) (sym (c .before .before .is-step .ensures) ∙ c .before .if1 .taken)
@@ -14,6 +14,6 @@ returns-2 c = let s = c .before .before .before in c .refuse .ensures ∙ take-n
 perform-requires : tie.Need-perform-requires
 perform-requires c κs = let s = c .before .before in well-formed-iff (s .args .self) .0 (s .pre)
 
-pub take-checked-spec : {M : Type 1} → statement M
-take-checked-spec =
+pub step-call-checked-spec : {M : Type 1} → statement M
+step-call-checked-spec =
     tie.close (tie.spec (λ c κs. search needs) perform-requires returns (λ c κs. search needs) returns-2)

@@ -1,9 +1,9 @@
 use mathlib.Core.Path.{refl, sym}
-use Rattle.executive.specs.Plans.{startPlan}
+use Rattle.executive.specs.Plans.{startNowPlan}
 use Rattle.executive.proofs.queue.InFlight.{begin-flying, depart-fit, carry-still}
 use borrow.Author.Needs.{needs}
-use Rattle.executive.proofs.Table.start.Statement.{statement}
-use Rattle.executive.proofs.Table.start.Tie as tie
+use Rattle.executive.proofs.Table.start_now.Statement.{statement}
+use Rattle.executive.proofs.Table.start_now.Tie as tie
 
 at-once-requires : tie.Need-at-once-requires
 at-once-requires c κs = search needs
@@ -20,7 +20,7 @@ commence-requires c κs =
     ) (begin-flying _ (depart-fit _ (c4 .before .before .args .self) (c4 .before .before .pre .0)))
 
 returns : tie.Need-returns
-unfolding startPlan
+unfolding startNowPlan
 returns c =
     let c4 = c .before .before .before .before in
     let a = c4 .before .before .before .args in
@@ -29,7 +29,7 @@ returns c =
       c .before .begin .ensures,
       c4 .before .go-out .ensures,
       c4 .before .before .at-once .ensures,
-    ) (sym (carry-still (startPlan (a .self) (a .q) (a .wt)) (a .self) refl))
+    ) (sym (carry-still (startNowPlan (a .self) (a .q) (a .wt)) (a .self) refl))
 
-pub start-spec : {M : Type 1} → statement M
-start-spec = tie.close (tie.spec at-once-requires go-out-requires (λ c κs. search needs) commence-requires returns)
+pub start-now-spec : {M : Type 1} → statement M
+start-now-spec = tie.close (tie.spec at-once-requires go-out-requires (λ c κs. search needs) commence-requires returns)

@@ -1,12 +1,12 @@
--- `trips::back_and_there` meets its contract: what the writer says of the call that was read is said of the bytes themselves.
+-- `trips::read_then_write` meets its contract: what the writer says of the call that was read is said of the bytes themselves.
 use mathlib.Core.Path.{sym, _∙_}
 use native.Mathlib.Omega.{arith}
 use denote.Ref.{now}
 use borrow.Author.Needs.{needs}
 use Rattle.records.specs.Numbers.{Bytes}
 use Rattle.records.proofs.RoundTrips.{again-call, again-out, again-refused, again-kept}
-use Rattle.records.proofs.trips.back_and_there.Statement.{statement}
-use Rattle.records.proofs.trips.back_and_there.Tie as tie
+use Rattle.records.proofs.trips.read_then_write.Statement.{statement}
+use Rattle.records.proofs.trips.read_then_write.Tie as tie
 
 returns : tie.Need-returns
 returns c =
@@ -29,8 +29,8 @@ returns-2 c =
     let e = sym (r .read .ensures) ∙ k .number .given .1 in
     record { answer = again-refused (now (a .bytes)) (now (a .out)) _ e; buffer = again-kept (now (a .bytes)) (now (a .out)) _ e }
 
-pub back-and-there-spec : {M : Type 1} → statement M
-back-and-there-spec =
+pub read-then-write-spec : {M : Type 1} → statement M
+read-then-write-spec =
     tie.close
     (tie.spec
     (λ c κs. search needs)
