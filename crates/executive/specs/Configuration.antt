@@ -16,7 +16,8 @@ use Rattle.executive.specs.Lists.{pad, _and_, upTo}
 use Rattle.executive.specs.Places.{nobody, never, noTask, noRequest}
 use Rattle.executive.specs.Table.{Join, begin, enterAllInFlight}
 use Rattle.executive.specs.Plans.{asks, begins}
-use Rattle.executive.specs.Step.{marks, answerOf}
+use Rattle.executive.specs.Sheet.{marks}
+use Rattle.executive.specs.Step.{answerOf}
 
 -- ---- the bytes: 40, granule; for each task 41, own priority, mark; 42. The record of task k stands at a place
 abbrev pub granuleIn : List ℕ → ℕ

@@ -12,6 +12,7 @@ pub mod Clock
 pub mod Plans
 pub mod WellFormed
 pub mod Check
+pub mod Sheet
 pub mod Refusals
 pub mod Step
 pub mod Configuration

@@ -23,8 +23,6 @@ use Rattle.executive.specs.States.{timeOf, maskOf, isDormant, isPaused, 
 use Rattle.executive.specs.Entries.{withState, asDormant, begun, dueAt, risen}
 use Rattle.executive.specs.Clock.{interval, aimAt, withAlarm, advanced}
 use Rattle.executive.specs.Flags.{withFlags, flagSet, flagReset, met, modeOf}
-use Rattle.records.specs.declared.Call.{Call}
-use Rattle.records.specs.declared.Call.the-variants as call
 
 -- ---- the caller is the active task, the head of the ready queue
 abbrev pub caller : Table → TaskNo
@@ -197,19 +195,3 @@ over c fs s = cond (hasTime s) (leb (timeOf s .0) c) (holds fs s)
 -- clock, and each whose flag condition holds, enters (H)
 unfoldable pub tickPlan : Table → Plan
 tickPlan t = record { out = stays; ins = risers (over (advanced (t .rest) .clock .0) (advanced (t .rest) .flags)) 1 (t .tasks); rest = advanced (t .rest) }
-
--- ---- the plan of each kind; a configuration record is no call
-unfoldable pub planOf : Table → Call → Plan
-planOf t call.Terminate = terminatePlan t
-planOf t (call.Restart p n) = restartPlan t p n
-planOf t (call.Pause u n) = pausePlan t u n
-planOf t (call.CancelPause k) = cancelPausePlan t k
-planOf t (call.StartIfDormant o k) = startIfDormantPlan t o k
-planOf t (call.StartOrQueue o k a) = startOrQueuePlan t o k a
-planOf t (call.Flag o f) = flagPlan t o f
-planOf t (call.Wait m mask) = waitPlan t m mask
-planOf t (call.Alarm u n f) = alarmPlan t u n f
-planOf t call.Tick = tickPlan t
-planOf t (call.Granule g) = nothing t
-planOf t (call.Task p m) = nothing t
-planOf t call.End = nothing t

@@ -14,8 +14,9 @@ ghost use mathlib.Core.Path.{_≡_};
 ghost use mathlib.Core.Bool.{false};
 ghost use Prim.Native.Nat.{_<_};
 ghost use Rattle.executive.specs.Table.{TimesInOrder};
+ghost use Rattle.executive.specs.Sheet.{marks, flagMarks, marksOf};
 ghost use Rattle.executive.specs.Refusals.{badBody};
-ghost use Rattle.executive.specs.Step.{IsNoTable, marks, flagMarks, marksOf, answerOf, hasV, refused};
+ghost use Rattle.executive.specs.Step.{IsNoTable, answerOf, hasV, refused};
 
 // The answer where there is no well-formed table.
 pub fn no_table() -> Answer

@@ -13,27 +13,8 @@ ghost use lib.Dec.{ltb, eqb};
 ghost use lib.ListN.{getD};
 ghost use Rattle.executive.specs.Numbers.{lastUnit, endOfTime};
 ghost use Rattle.executive.specs.Places.{never};
-ghost use Rattle.executive.specs.Refusals.{isTick, noSuchTask, nobodyActive, badBody, namesCaller, alarmRunning, poolFull, endsTime, refusalBefore11};
-
-pub(crate) fn is_tick(call: Call) -> bool
-    ensures { λ r. ⌜ r ≡ isTick call ⌝ }
-{
-    match call {
-        Call::Tick => true,
-        Call::Terminate => false,
-        Call::Restart { .. } => false,
-        Call::Pause { .. } => false,
-        Call::CancelPause { .. } => false,
-        Call::StartIfDormant { .. } => false,
-        Call::StartOrQueue { .. } => false,
-        Call::Flag { .. } => false,
-        Call::Wait { .. } => false,
-        Call::Alarm { .. } => false,
-        Call::Granule { .. } => false,
-        Call::Task { .. } => false,
-        Call::End => false,
-    }
-}
+ghost use Rattle.executive.specs.Sheet.{noSuchTask};
+ghost use Rattle.executive.specs.Refusals.{nobodyActive, badBody, namesCaller, alarmRunning, poolFull, endsTime, refusalBefore11};
 
 // 6 in kinds 09, 0A and 0B.
 fn bad_flag(operation: u8, f: FlagNo) -> bool
@@ -79,10 +60,10 @@ impl Table {
     fn nobody_active(self, call: Call) -> bool
         ensures { λ r. ⌜ r ≡ nobodyActive self call ⌝ }
     {
-        if is_tick(call) {
-            return false;
-        }
-        self.ready == 0
+        let Call::Tick = call else {
+            return self.ready == 0;
+        };
+        false
     }
 
     // 6: a number in the body is out of its range.
@@ -179,12 +160,12 @@ impl Table {
         requires { ⌜ self .rest .clock .0 ≤ endOfTime ⌝ }
         ensures { λ r. ⌜ r ≡ endsTime self call ⌝ }
     {
-        if is_tick(call) {
-            let granule = clock::granule_of(self.rest.granule);
-            let end = self.rest.clock.0 + granule.0;
-            return clock::END_OF_TIME < end;
-        }
-        false
+        let Call::Tick = call else {
+            return false;
+        };
+        let granule = clock::granule_of(self.rest.granule);
+        let end = self.rest.clock.0 + granule.0;
+        clock::END_OF_TIME < end
     }
 
     // The number of the first refusal, in 01's order; 0 where there is none. Number 11 is left: it is judged on

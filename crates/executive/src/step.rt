@@ -12,7 +12,7 @@ ghost use Rattle.executive.specs.Table.{applyInFlight};
 ghost use Rattle.executive.specs.WellFormed.{WellFormed};
 ghost use mathlib.Core.Bool.{true};
 ghost use Rattle.executive.specs.Check.{isWellFormed};
-ghost use Rattle.executive.specs.Plans.{planOf};
+ghost use Rattle.executive.specs.Sheet.{planOf};
 ghost use Rattle.executive.specs.Refusals.{refusalBefore11};
 ghost use Rattle.executive.specs.Step.{isStep, performed, stepOf, Steps, StepsCall};
 

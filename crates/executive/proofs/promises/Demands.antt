@@ -24,8 +24,9 @@ use Rattle.executive.specs.Pool.{requests, placeOf}
 use Rattle.executive.specs.States.{ready}
 use Rattle.executive.specs.Entries.{withState, begun, risen}
 use Rattle.executive.specs.Clock.{aimAt}
-use Rattle.executive.specs.Plans.{caller, endWaiter, waking, terminatePlan, restartPlan, planOf}
+use Rattle.executive.specs.Plans.{caller, endWaiter, waking, terminatePlan, restartPlan}
 use Rattle.executive.specs.WellFormed.{WellFormed}
+use Rattle.executive.specs.Sheet.{planOf}
 use Rattle.executive.specs.Refusals.{callIn, refusals, firstOf, refusalBefore11}
 use Rattle.executive.specs.Step.{stepOf}
 use Rattle.executive.specs.Promises.Demands.{planOfRecord, after, history, AllBytes, IsReady, Dispatched, NotYet, Overtaking, departedOf, enteredOf, Restarts, RestartsBy, Demands}

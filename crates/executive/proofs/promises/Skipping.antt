@@ -27,9 +27,9 @@ use Rattle.executive.specs.Clock.{interval, missed, nextOnGrid, skipsMis
 use Rattle.executive.specs.Plans.{caller, endWaiter, waking, restartPlan, terminatePlan, pausePlan, cancelPausePlan, priorityOf, waitOf, argumentOf, startNowPlan, queueRequestPlan, startIfDormantPlan, requestOf, startOrQueuePlan, rises, risers, setPlan, resetPlan, flagPlan, waitPlan, alarmPlan, tickPlan}
 use Rattle.executive.specs.WellFormed.{WellFormed}
 use Rattle.executive.specs.Check.{isWellFormed, numbersRight, falls, exactAt, queueRight, timesRight, startedRight, masksRight, busyRight, waitersAt, waitersRight, dormantRight, poolRight}
-use Rattle.executive.specs.Plans.{planOf}
+use Rattle.executive.specs.Sheet.{planOf, marksOf, marks}
 use Rattle.executive.specs.Refusals.{nobodyActive, badBody, namesCaller, alarmRunning, poolFull, endsTime, overfills, refusals, firstOf, callIn}
-use Rattle.executive.specs.Step.{marksOf, accepted, refused, outcomeOf, stepOf, noTable, marks, answerOf, hasV}
+use Rattle.executive.specs.Step.{accepted, refused, outcomeOf, stepOf, noTable, answerOf, hasV}
 use Rattle.executive.specs.Promises.Demands.{planOfRecord, after}
 use Rattle.executive.specs.Promises.Skipping.{NextOnGrid, Skip, DueNext, Skips, Skipping}
 use Rattle.executive.proofs.clock.Interval.{every-some, next-ahead}

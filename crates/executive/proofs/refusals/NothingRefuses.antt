@@ -83,7 +83,7 @@ pause-unit t u n h = let l = ltb-false lastUnit u h in omega arith
 
 -- ---- what each method asks
 module _ (t : Table) (w : WellFormed t) where
-  active : (c : Call) → isTick c ≡ false → refusalBefore11 t c ≡ 0 → 0 < t .ready
+  active : (c : Call) → isTick t c ≡ false → refusalBefore11 t c ≡ 0 → 0 < t .ready
   unfolding nobodyActive
   active c n h = let z = eqb-false (t .ready) 0 (rw n at (clear-of t c h .active)) in omega arith
 

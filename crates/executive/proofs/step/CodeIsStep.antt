@@ -21,7 +21,7 @@ use Rattle.records.proofs.Assured.{promises}
 use Rattle.executive.specs.declared.Table.{Table}
 use Rattle.executive.specs.Table.{applyInFlight}
 use Rattle.executive.specs.Check.{isWellFormed}
-use Rattle.executive.specs.Plans.{planOf}
+use Rattle.executive.specs.Sheet.{planOf}
 use Rattle.executive.specs.Refusals.{kindOfRecord, calledBy, callIn, nobodyActive, badBody, namesCaller, alarmRunning, poolFull, endsTime, overfills, callRefusals, refusals, firstOf, refusalBefore11}
 use Rattle.executive.specs.Step.{isStep, accepted, refused, performed, stepOf}
 

@@ -15,7 +15,8 @@ use Rattle.executive.specs.Plans.{caller}
 use Rattle.executive.specs.WellFormed.{WellFormed}
 use Rattle.executive.specs.Check.{isWellFormed}
 use Rattle.executive.specs.Refusals.{Refusal, when, callIn, refusals, firstOf}
-use Rattle.executive.specs.Step.{noTable, marks, answerOf, hasV, accepted, refused, outcomeOf, stepOf}
+use Rattle.executive.specs.Sheet.{marks}
+use Rattle.executive.specs.Step.{noTable, answerOf, hasV, accepted, refused, outcomeOf, stepOf}
 use Rattle.executive.specs.Promises.Demands.{FirstAt, Decides}
 use Rattle.executive.proofs.Lists.Tests.{false-not-true}
 use Rattle.executive.proofs.refusals.NothingRefuses.{first-none}

@@ -20,15 +20,16 @@ use Rattle.executive.specs.declared.State.{State}
 use Rattle.executive.specs.declared.State.the-variants.{Dormant}
 use Rattle.executive.specs.declared.Table.{Table}
 use Rattle.executive.specs.Lists.{_and_}
-use Rattle.executive.specs.Numbers.{endOfTime}
+use Rattle.executive.specs.Numbers.{mostQueued, endOfTime}
 use Rattle.executive.specs.Places.{never}
 use Rattle.executive.specs.Table.{applyInFlight}
+use Rattle.executive.specs.Plans.{caller, stateAt}
 use Rattle.executive.specs.States.{isDormant}
-use Rattle.executive.specs.Plans.{caller, stateAt, planOf}
 use Rattle.executive.specs.Check.{isWellFormed}
-use Rattle.executive.specs.Refusals.{kindOfRecord, callIn, isTick, noSuchTask, nobodyActive, badBody, ofQueue, ofAlarm, namesCaller, alarmRunning, poolFull, endsTime, overfills, Refusal, refusals, firstOf}
+use Rattle.executive.specs.Sheet.{noSuchTask, planOf}
+use Rattle.executive.specs.Refusals.{kindOfRecord, callIn, isTick, nobodyActive, badBody, namesCaller, alarmRunning, poolFull, endsTime, overfills, Refusal, refusals, firstOf}
 use Rattle.executive.specs.Step.{stepOf}
-use Rattle.executive.specs.Promises.InWords.{Bit, NoCall, NoTask, BadBody, IsQueue, IsAlarm, NamesCaller, AlarmRunning, PoolFull, Case, cases, First, Given}
+use Rattle.executive.specs.Promises.InWords.{Bit, NoCall, NoTask, BadBody, NamesCaller, AlarmRunning, PoolFull, Case, cases, First, Given}
 use Rattle.executive.proofs.Lists.Tests.{false-not-true}
 use Rattle.executive.proofs.check.Decides.{well-formed-iff}
 use Rattle.executive.proofs.step.FirstThatHolds.{step-number}
@@ -142,62 +143,6 @@ says-no-call k = (to k, λ z. ⊎-elim (λ e. rw e refl) (λ y. ⊎-elim (λ e. 
 says-dormant : (x : State) → Says (isDormant x) (x ≡ Dormant)
 says-dormant x = (dormant-is x, λ e. rw e refl)
 
-says-tick : (c : Call) → Says (isTick c) (c ≡ call.Tick)
-says-tick c = (to c, λ e. rw e refl)
-  where
-    to : (c : Call) → isTick c ≡ true → c ≡ call.Tick
-    to call.Terminate e = false-not-true e
-    to (call.Restart p n) e = false-not-true e
-    to (call.Pause u n) e = false-not-true e
-    to (call.CancelPause k) e = false-not-true e
-    to (call.StartIfDormant o k) e = false-not-true e
-    to (call.StartOrQueue o k a) e = false-not-true e
-    to (call.Flag o f) e = false-not-true e
-    to (call.Wait m mask) e = false-not-true e
-    to (call.Alarm u n f) e = false-not-true e
-    to call.Tick e = refl
-    to (call.Granule g) e = false-not-true e
-    to (call.Task p m) e = false-not-true e
-    to call.End e = false-not-true e
-
-says-queue : (h : ℕ → TaskNo → Bool) (P : ℕ → TaskNo → Type 0) → ((o : ℕ) (k : TaskNo) → Says (h o k) (P o k))
-    → (c : Call) → Says (ofQueue h c) (IsQueue P c)
-says-queue h P says c = (to c, λ x. rw (x .call) (says (x .option) (x .target) .1 (x .said)))
-  where
-    to : (c : Call) → ofQueue h c ≡ true → IsQueue P c
-    to call.Terminate e = false-not-true e
-    to (call.Restart p n) e = false-not-true e
-    to (call.Pause u n) e = false-not-true e
-    to (call.CancelPause k) e = false-not-true e
-    to (call.StartIfDormant o k) e = false-not-true e
-    to (call.StartOrQueue o k a) e = record { option = o; target = k; argument = a; call = refl; said = says o k .0 e }
-    to (call.Flag o f) e = false-not-true e
-    to (call.Wait m mask) e = false-not-true e
-    to (call.Alarm u n f) e = false-not-true e
-    to call.Tick e = false-not-true e
-    to (call.Granule g) e = false-not-true e
-    to (call.Task p m) e = false-not-true e
-    to call.End e = false-not-true e
-
-says-alarm : (h : FlagNo → Bool) (P : FlagNo → Type 0) → ((f : FlagNo) → Says (h f) (P f))
-    → (c : Call) → Says (ofAlarm h c) (IsAlarm P c)
-says-alarm h P says c = (to c, λ x. rw (x .call) (says (x .flag) .1 (x .said)))
-  where
-    to : (c : Call) → ofAlarm h c ≡ true → IsAlarm P c
-    to call.Terminate e = false-not-true e
-    to (call.Restart p n) e = false-not-true e
-    to (call.Pause u n) e = false-not-true e
-    to (call.CancelPause k) e = false-not-true e
-    to (call.StartIfDormant o k) e = false-not-true e
-    to (call.StartOrQueue o k a) e = false-not-true e
-    to (call.Flag o f) e = false-not-true e
-    to (call.Wait m mask) e = false-not-true e
-    to (call.Alarm u n f) e = record { unit = u; count = n; flag = f; call = refl; said = says f .0 e }
-    to call.Tick e = false-not-true e
-    to (call.Granule g) e = false-not-true e
-    to (call.Task p m) e = false-not-true e
-    to call.End e = false-not-true e
-
 -- ---- each number
 module _ (t : Table) where
   says-no-task : (k : TaskNo) → Says (noSuchTask t k) (NoTask t k)
@@ -219,26 +164,78 @@ module _ (t : Table) where
   says-bad (call.Task p m) = says-nothing
   says-bad call.End = says-nothing
 
+  -- 7 and 8 of a 05, 9 of a 0B, 10 of a tick
+  caller-said : (o : ℕ) (k : TaskNo) → Says (eqb (k .0) (caller t .0) and not (eqb (o / 32 % 4) 0)) ((k .0 ≡ caller t .0) × (Bit 6 o ⊎ Bit 5 o))
+  caller-said o k = says-and _ _ (says-eq (k .0) (caller t .0)) (either-bit o)
+
+  full-said : (k : TaskNo) → Says (not (isDormant (stateAt t k)) and leb mostQueued (t .rest .queued)) ((stateAt t k ≢ Dormant) × (mostQueued ≤ t .rest .queued))
+  full-said k = says-and _ _ (says-not _ (says-dormant (stateAt t k))) (says-le 32 (t .rest .queued))
+
+  running-said : (f : FlagNo) → Says (not (eqb (getD (t .rest .alarms) (f .0) never .0) 0)) (getD (t .rest .alarms) (f .0) never .0 ≢ 0)
+  running-said f = says-not _ (says-eq (getD (t .rest .alarms) (f .0) never .0) 0)
+
+  late-said : Says (ltb endOfTime (t .rest .clock .0 + t .rest .granule)) (endOfTime < t .rest .clock .0 + t .rest .granule)
+  late-said = says-lt endOfTime (t .rest .clock .0 + t .rest .granule)
+
+  -- what the sheet says of some kinds only tells the kind
+  pub record Tells (c : Call) : Type 0 where
+    pub tick : isTick t c ≡ true → c ≡ call.Tick
+    pub caller : namesCaller t c ≡ true → NamesCaller t c
+    pub running : alarmRunning t c ≡ true → AlarmRunning t c
+    pub full : poolFull t c ≡ true → PoolFull t c
+    pub late : endsTime t c ≡ true → (c ≡ call.Tick) × (endOfTime < t .rest .clock .0 + t .rest .granule)
+
+  pub tells : (c : Call) → Tells c
+  unfolding namesCaller alarmRunning poolFull endsTime
+  tells call.Terminate = record { tick = λ e. false-not-true e; caller = λ e. false-not-true e; running = λ e. false-not-true e; full = λ e. false-not-true e; late = λ e. false-not-true e }
+  tells (call.Restart p n) = record { tick = λ e. false-not-true e; caller = λ e. false-not-true e; running = λ e. false-not-true e; full = λ e. false-not-true e; late = λ e. false-not-true e }
+  tells (call.Pause u n) = record { tick = λ e. false-not-true e; caller = λ e. false-not-true e; running = λ e. false-not-true e; full = λ e. false-not-true e; late = λ e. false-not-true e }
+  tells (call.CancelPause k) = record { tick = λ e. false-not-true e; caller = λ e. false-not-true e; running = λ e. false-not-true e; full = λ e. false-not-true e; late = λ e. false-not-true e }
+  tells (call.StartIfDormant o k) = record { tick = λ e. false-not-true e; caller = λ e. false-not-true e; running = λ e. false-not-true e; full = λ e. false-not-true e; late = λ e. false-not-true e }
+  tells (call.StartOrQueue o k a) = record {
+    tick = λ e. false-not-true e;
+    caller = λ e. record { option = o; target = k; argument = a; call = refl; said = caller-said o k .0 e };
+    running = λ e. false-not-true e;
+    full = λ e. record { option = o; target = k; argument = a; call = refl; said = full-said k .0 e };
+    late = λ e. false-not-true e;
+  }
+  tells (call.Flag o f) = record { tick = λ e. false-not-true e; caller = λ e. false-not-true e; running = λ e. false-not-true e; full = λ e. false-not-true e; late = λ e. false-not-true e }
+  tells (call.Wait m mask) = record { tick = λ e. false-not-true e; caller = λ e. false-not-true e; running = λ e. false-not-true e; full = λ e. false-not-true e; late = λ e. false-not-true e }
+  tells (call.Alarm u n f) = record {
+    tick = λ e. false-not-true e;
+    caller = λ e. false-not-true e;
+    running = λ e. record { unit = u; count = n; flag = f; call = refl; said = running-said f .0 e };
+    full = λ e. false-not-true e;
+    late = λ e. false-not-true e;
+  }
+  tells call.Tick = record { tick = λ e. refl; caller = λ e. false-not-true e; running = λ e. false-not-true e; full = λ e. false-not-true e; late = λ e. (refl, late-said .0 e) }
+  tells (call.Granule g) = record { tick = λ e. false-not-true e; caller = λ e. false-not-true e; running = λ e. false-not-true e; full = λ e. false-not-true e; late = λ e. false-not-true e }
+  tells (call.Task p m) = record { tick = λ e. false-not-true e; caller = λ e. false-not-true e; running = λ e. false-not-true e; full = λ e. false-not-true e; late = λ e. false-not-true e }
+  tells call.End = record { tick = λ e. false-not-true e; caller = λ e. false-not-true e; running = λ e. false-not-true e; full = λ e. false-not-true e; late = λ e. false-not-true e }
+
   module _ (c : Call) where
+    says-tick : Says (isTick t c) (c ≡ call.Tick)
+    says-tick = (tells c .tick, λ e. rw e refl)
+
     says-idle : Says (nobodyActive t c) ((c ≢ call.Tick) × (t .ready ≡ 0))
     unfolding nobodyActive
-    says-idle = says-and (not (isTick c)) (eqb (t .ready) 0) (says-not (isTick c) (says-tick c)) (says-eq (t .ready) 0)
+    says-idle = says-and (not (isTick t c)) (eqb (t .ready) 0) (says-not (isTick t c) says-tick) (says-eq (t .ready) 0)
 
     says-caller : Says (namesCaller t c) (NamesCaller t c)
     unfolding namesCaller
-    says-caller = says-queue _ _ (λ o k. says-and _ _ (says-eq (k .0) (caller t .0)) (either-bit o)) c
+    says-caller = (tells c .caller, λ x. rw (x .call) (caller-said (x .option) (x .target) .1 (x .said)))
 
     says-running : Says (alarmRunning t c) (AlarmRunning t c)
     unfolding alarmRunning
-    says-running = says-alarm _ _ (λ f. says-not _ (says-eq (getD (t .rest .alarms) (f .0) never .0) 0)) c
+    says-running = (tells c .running, λ x. rw (x .call) (running-said (x .flag) .1 (x .said)))
 
     says-full : Says (poolFull t c) (PoolFull t c)
     unfolding poolFull
-    says-full = says-queue _ _ (λ o k. says-and _ _ (says-not _ (says-dormant (stateAt t k))) (says-le 32 (t .rest .queued))) c
+    says-full = (tells c .full, λ x. rw (x .call) (full-said (x .target) .1 (x .said)))
 
     says-late : Says (endsTime t c) ((c ≡ call.Tick) × (endOfTime < t .rest .clock .0 + t .rest .granule))
     unfolding endsTime
-    says-late = says-and (isTick c) _ (says-tick c) (says-lt endOfTime (t .rest .clock .0 + t .rest .granule))
+    says-late = (tells c .late, λ x. rw (x .0) (late-said .1 (x .1)))
 
     says-overfull : Says (overfills t c) (applyInFlight (planOf t c) t .full ≡ true)
     unfolding overfills

@@ -21,10 +21,11 @@ use Rattle.executive.specs.declared.Outcome.{Outcome}
 use Rattle.executive.specs.Lists.{_and_}
 use Rattle.executive.specs.Table.{Plan, depart, joins, apply}
 use Rattle.executive.specs.States.{isDormant}
-use Rattle.executive.specs.Plans.{stateAt, nothing, planOf}
+use Rattle.executive.specs.Plans.{stateAt, nothing}
 use Rattle.executive.specs.WellFormed.{WellFormed}
-use Rattle.executive.specs.Refusals.{noSuchTask, nobodyActive, badBody, namesCaller, poolFull, endsTime, overfills, callRefusals, refusals, firstOf, calledBy, callIn}
-use Rattle.executive.specs.Step.{noTable, marks, answerOf, hasV, accepted, refused, outcomeOf, performed, stepOf}
+use Rattle.executive.specs.Sheet.{planOf, noSuchTask, marks}
+use Rattle.executive.specs.Refusals.{nobodyActive, badBody, namesCaller, poolFull, endsTime, overfills, callRefusals, refusals, firstOf, calledBy, callIn}
+use Rattle.executive.specs.Step.{noTable, answerOf, hasV, accepted, refused, outcomeOf, performed, stepOf}
 use Rattle.executive.specs.Promises.Demands.{planFor, planOfCall, planOfRecord}
 use Rattle.executive.proofs.Lists.Tests.{false-not-true}
 use Rattle.executive.proofs.refusals.NothingRefuses.{Clear, clear-of, early, first-none, or-none}

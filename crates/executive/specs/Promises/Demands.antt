@@ -21,10 +21,11 @@ use Rattle.executive.specs.Pool.{requests, placeOf}
 use Rattle.executive.specs.Places.{taskAt}
 use Rattle.executive.specs.Table.{view, Plan, apply, movesOf}
 use Rattle.executive.specs.Clock.{aimAt}
-use Rattle.executive.specs.Plans.{caller, nothing, terminatePlan, restartPlan, planOf}
+use Rattle.executive.specs.Plans.{caller, nothing, terminatePlan, restartPlan}
 use Rattle.executive.specs.WellFormed.{WellFormed}
 use Rattle.executive.specs.Check.{Checked}
 use Rattle.executive.specs.Refusals.{Refusal, when, callIn, callRefusals, refusals, firstOf}
+use Rattle.executive.specs.Sheet.{planOf}
 use Rattle.executive.specs.Promises.InWords.{Given}
 use Rattle.executive.specs.Step.{stepOf, IsNoTable, Steps, StepsCall}
 use Rattle.executive.specs.Configuration.{Makes, Measures}

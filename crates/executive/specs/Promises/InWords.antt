@@ -18,8 +18,9 @@ use Rattle.executive.specs.declared.Table.{Table}
 use Rattle.executive.specs.Numbers.{lastUnit, mostQueued, endOfTime}
 use Rattle.executive.specs.Places.{never}
 use Rattle.executive.specs.Table.{applyInFlight}
-use Rattle.executive.specs.Plans.{caller, stateAt, planOf}
+use Rattle.executive.specs.Plans.{caller, stateAt}
 use Rattle.executive.specs.WellFormed.{WellFormed}
+use Rattle.executive.specs.Sheet.{planOf}
 use Rattle.executive.specs.Refusals.{kindOfRecord, callIn}
 
 -- bit i of a byte is set

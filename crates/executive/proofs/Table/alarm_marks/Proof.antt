@@ -1,6 +1,6 @@
 use mathlib.Core.Path.{refl}
 use borrow.Author.Tests.{ne-eqb}
-use Rattle.executive.specs.Step.{marksOf}
+use Rattle.executive.specs.Sheet.{marksOf}
 use borrow.Author.Needs.{needs}
 use Rattle.executive.proofs.Table.alarm_marks.Statement.{statement}
 use Rattle.executive.proofs.Table.alarm_marks.Tie as tie

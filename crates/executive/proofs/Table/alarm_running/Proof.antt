@@ -1,12 +1,11 @@
 use Rattle.executive.specs.Refusals.{alarmRunning}
-use Rattle.executive.proofs.refusals.OtherKinds.{not-alarm}
+use Rattle.executive.proofs.refusals.OtherKinds.{others}
 use borrow.Author.Needs.{needs}
 use Rattle.executive.proofs.Table.alarm_running.Statement.{statement}
 use Rattle.executive.proofs.Table.alarm_running.Tie as tie
 
 returns : tie.Need-returns
-unfolding alarmRunning
-returns c = not-alarm _ (c .before .args .call) (c .match .keys2)
+returns c = others (c .before .args .self) (c .before .args .call) .alarm (c .match .keys2)
 
 returns-2 : tie.Need-returns-2
 unfolding alarmRunning

@@ -1,4 +1,4 @@
-use Rattle.executive.specs.Step.{marksOf}
+use Rattle.executive.specs.Sheet.{marksOf}
 use Rattle.executive.proofs.refusals.NothingRefuses.{flag-low, alarm-low}
 use borrow.Author.Needs.{needs}
 use Rattle.executive.proofs.Table.marks_of.Statement.{statement}

@@ -1,13 +1,12 @@
 use borrow.Author.Tests.{eq-eqb, ne-eqb}
 use Rattle.executive.specs.Refusals.{namesCaller}
-use Rattle.executive.proofs.refusals.OtherKinds.{not-queue}
+use Rattle.executive.proofs.refusals.OtherKinds.{others}
 use borrow.Author.Needs.{needs}
 use Rattle.executive.proofs.Table.names_caller.Statement.{statement}
 use Rattle.executive.proofs.Table.names_caller.Tie as tie
 
 returns : tie.Need-returns
-unfolding namesCaller
-returns c = not-queue _ (c .before .args .call) (c .match .keys2)
+returns c = others (c .before .args .self) (c .before .args .call) .queue (c .match .keys2) .0
 
 returns-2 : tie.Need-returns-2
 unfolding namesCaller

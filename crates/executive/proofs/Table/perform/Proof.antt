@@ -1,6 +1,6 @@
 use mathlib.Core.Path.{_≡_, sym, _∙_}
 use mathlib.Core.Bool.{true, false}
-use Rattle.executive.specs.Plans.{planOf}
+use Rattle.executive.specs.Sheet.{planOf}
 use Rattle.executive.specs.Table.{applyInFlight}
 use Rattle.executive.specs.Step.{accepted}
 use Rattle.executive.proofs.calls.InOrder.{standing-of}

@@ -1,12 +1,11 @@
 use Rattle.executive.specs.Refusals.{poolFull}
-use Rattle.executive.proofs.refusals.OtherKinds.{not-queue}
+use Rattle.executive.proofs.refusals.OtherKinds.{others}
 use borrow.Author.Needs.{needs}
 use Rattle.executive.proofs.Table.pool_full.Statement.{statement}
 use Rattle.executive.proofs.Table.pool_full.Tie as tie
 
 returns : tie.Need-returns
-unfolding poolFull
-returns c = not-queue _ (c .before .args .call) (c .match .keys2)
+returns c = others (c .before .args .self) (c .before .args .call) .queue (c .match .keys2) .1
 
 returns-2 : tie.Need-returns-2
 unfolding poolFull
