@@ -1,5 +1,6 @@
 //! What a trial met: numbers, kinds, checks and days that ended.
 
+use crate::book::Book;
 use model::table::{State, Table, FLAGS, TASKS};
 use std::collections::BTreeMap;
 
@@ -21,6 +22,8 @@ pub struct Met {
     days: [u64; TIMED.len()],
     /// The most grid times that one step passed over.
     skipped: u64,
+    /// Starts that were asked for, and that have begun.
+    starts: [u64; 2],
 }
 
 /// Since when each task has been in its state and each alarm has had its time.
@@ -79,6 +82,12 @@ impl Met {
         }
     }
 
+    /// A book that is closed.
+    pub fn accounted(&mut self, book: &Book) {
+        self.starts[0] += book.asked;
+        self.starts[1] += book.begun;
+    }
+
     /// A damaged image: whether it is one of a well-formed table all the same.
     pub fn checked(&mut self, sound: bool) {
         *self.checks.entry(sound).or_default() += 1;
@@ -96,6 +105,7 @@ impl Met {
         print_counts("accepted kind", &self.kinds, |kind| format!("{kind:02X}"));
         print_counts("fresh table, number", &self.fresh, |number| number.to_string());
         println!("  grid times passed over in one step: at most {}", self.skipped);
+        println!("  starts asked for: {}, begun: {}", self.starts[0], self.starts[1]);
         for (what, count) in TIMED.iter().zip(self.days) {
             println!("  {what} after more than 255 hours: {count}");
         }
@@ -104,6 +114,7 @@ impl Met {
             && OF_FRESH.iter().all(|n| self.fresh.contains_key(n))
             && KINDS.iter().all(|kind| self.kinds.contains_key(kind))
             && self.skipped > u64::from(u32::MAX)
+            && self.starts.iter().all(|count| *count > 0)
             && self.days.iter().all(|count| *count > 0)
             && of(false) > 0
             && of(true) > 0;

@@ -1,6 +1,8 @@
 //! The board library against the second program's model, on random tables, damaged images and bad records.
 
+mod account;
 mod answer;
+mod book;
 mod counts;
 mod image;
 mod library;
@@ -25,6 +27,7 @@ use wrong::{wrong_of, Wrong};
 
 const USAGE: &str = "usage: trial [--steps N] [--seed S] [--fault NAME]
        trial --part [--steps N] [--seed S]
+       trial --account [--steps N] [--seed S] [--fault NAME]
        trial --instructions [--steps N] [--seed S]
        trial --listing < input
        trial --passes WAY MIX N
@@ -83,6 +86,10 @@ fn asked(library: &mut Library, words: &[&str]) -> Option<bool> {
         // a part of a trial, too short to meet everything
         ["--part", options @ ..] => options_of(options)
             .map(|(steps, seed, wrong)| walked(&mut Trial::new(library, seed, wrong), steps).is_some()),
+        // the model alone, held to the account of starts; what is made wrong is one of its rules, or nothing
+        ["--account", options @ ..] => options_of(options)
+            .filter(|(_, _, wrong)| matches!(wrong, Wrong::Nothing | Wrong::Rule(_)))
+            .map(|(steps, seed, wrong)| account::accounted(steps, seed, wrong)),
         ["--instructions", options @ ..] => options_of(options)
             .filter(|(_, _, wrong)| *wrong == Wrong::Nothing)
             .map(|(steps, seed, _)| instructions(library, steps, seed)),

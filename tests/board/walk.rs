@@ -1,6 +1,7 @@
 //! The walks through generated runs, by the board library and by the model, step beside step.
 
 use crate::answer::{answer_bytes, ANSWER};
+use crate::book::Book;
 use crate::counts::Counts;
 use crate::image::{decode, encode, LENGTH};
 use crate::library::Library;
@@ -83,22 +84,27 @@ impl Trial<'_> {
         };
         let edits = rng.pick(&[6, 20, 60, 1000]);
         let mut since = Since::default();
+        let mut book = Book::open(&image);
         for record in records_of(&bytes[used..]).into_iter().take(LONGEST_WALK) {
             if rng.one_in(edits) {
                 let before = table_of(&image);
                 let edited = tables::edited(&before, rng);
                 since.changed(&before, &edited);
                 image = encode(&edited);
+                self.met.accounted(&book);
+                book = Book::open(&image);
             }
             self.beside(&image, record, rng)?;
-            let before = table_of(&image);
-            image = self.step(&image, record, &UNWRITTEN)?;
-            let after = table_of(&image);
+            let (_, next, answer) = self.taken(&image, record, &UNWRITTEN)?;
+            book.enter(&image, record, &answer, &next)?;
+            let (before, after) = (table_of(&image), table_of(&next));
+            image = next;
             if after.clock != before.clock {
                 self.met.ticked(&since, &before, &after);
             }
             since.changed(&before, &after);
         }
+        self.met.accounted(&book);
         Ok(())
     }
 
@@ -142,6 +148,11 @@ impl Trial<'_> {
 
     /// One step of both; the image after it.
     pub fn step(&mut self, image: &[u8], record: &[u8], answer: &[u8]) -> Result<Vec<u8>, String> {
+        self.taken(image, record, answer).map(|(_, after, _)| after)
+    }
+
+    /// One step of both, and what both give.
+    fn taken(&mut self, image: &[u8], record: &[u8], answer: &[u8]) -> Result<Given, String> {
         let given = self.library.step(image, record, answer);
         let expected = self.expected(image, record, answer);
         if given != expected {
@@ -153,7 +164,7 @@ impl Trial<'_> {
             self.met.skipped(&given.2[8..ANSWER]);
         }
         self.counts.add(record, number, self.library.spent());
-        Ok(given.1)
+        Ok(given)
     }
 
     /// What the model gives for a step.

@@ -1,5 +1,5 @@
-//! The faults that the last board had, beside the model: its own step, and then what that board did otherwise.
-//! They show that the comparisons find them.
+//! The faults that the last board had, and one more of its kind, beside the model: its own step, and then what such a
+//! board did otherwise. They show that the comparisons find them.
 
 use crate::steps::step_unchecked;
 use crate::table::{Answer, State, Table};
@@ -11,15 +11,17 @@ pub enum Fault {
     CancelWakesDue,
     RememberedFlag,
     LostStart,
+    StartTwice,
 }
 
 /// The faults, by name.
-pub const FAULTS: [(&str, Fault); 5] = [
+pub const FAULTS: [(&str, Fault); 6] = [
     ("equal-in-front", Fault::EqualInFront),
     ("drifting-catch-up", Fault::DriftingCatchUp),
     ("cancel-wakes-due", Fault::CancelWakesDue),
     ("remembered-flag", Fault::RememberedFlag),
     ("lost-start", Fault::LostStart),
+    ("start-twice", Fault::StartTwice),
 ];
 
 impl Fault {
@@ -36,6 +38,7 @@ impl Fault {
             Fault::CancelWakesDue => cancel_wakes_due(&before, table, record, &mut answer),
             Fault::RememberedFlag => remembered_flag(&before, table, record),
             Fault::LostStart => lost_start(&before, table, record),
+            Fault::StartTwice => start_twice(&before, table, record),
         }
         answer.name_active(table);
         answer
@@ -95,5 +98,13 @@ fn remembered_flag(before: &Table, after: &mut Table, record: &[u8]) {
 fn lost_start(before: &Table, after: &mut Table, record: &[u8]) {
     if record[0] == 0x01 {
         after.take_request(before.queue[0]);
+    }
+}
+
+/// A queued start begins and stays in the pool, so that it begins again.
+fn start_twice(before: &Table, after: &mut Table, record: &[u8]) {
+    if record[0] == 0x00 {
+        after.pool = before.pool;
+        after.asked = before.asked;
     }
 }

@@ -192,7 +192,7 @@ pub fn hex(bytes: &[u8]) -> String {
     bytes.iter().map(|byte| format!("{byte:02X}")).collect::<Vec<_>>().join(" ")
 }
 
-/// Shows that the comparison can fail: each fault of the last board must be found.
+/// Shows that the comparison can fail: each fault, of the last board or of its kind, must be found.
 pub fn trial() -> bool {
     const RUNS: u64 = 2_000;
     let mut right = true;

@@ -4,5 +4,7 @@
 pub mod Lists
 -- the plans of the calls: each is good, and a good plan keeps the table well formed
 pub mod Plans
+-- the book of starts
+pub mod Book
 -- what the crates above name, and nothing else
 pub mod Assured

@@ -1,4 +1,5 @@
 -- What is promised, shown.
+pub mod EveryStart
 pub mod Worked
 pub mod CardsAndFresh
 pub mod Skipping

@@ -6,4 +6,5 @@ pub mod FreshLaw
 pub mod InWords
 pub mod QueueLaw
 pub mod Skipping
+pub mod EveryStart
 pub mod Worked

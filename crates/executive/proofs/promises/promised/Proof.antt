@@ -5,9 +5,10 @@ use Rattle.executive.proofs.queue.Law.{queue-law}
 use Rattle.executive.proofs.promises.Demands.{demands}
 use Rattle.executive.proofs.promises.Worked.{worked}
 use Rattle.executive.proofs.promises.Skipping.{skipping}
+use Rattle.executive.proofs.promises.EveryStart.{every-start}
 
 returns : tie.Need-returns
-returns c = (demands, queue-law, worked, skipping)
+returns c = (demands, queue-law, worked, skipping, every-start)
 
 pub promised-spec : {M : Type 1} → statement M
 promised-spec = tie.close (tie.spec returns)
