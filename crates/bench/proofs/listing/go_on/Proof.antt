@@ -30,15 +30,24 @@ last-line-requires : tie.Need-last-line-requires Inv-loop μ-loop
 last-line-requires c κs = omega (arith, c .before .before .before .loop-test .taken)
 
 same-length : tie.Need-same-length Inv-loop μ-loop
-same-length c = c .before .before .last-line .ensures .size ∙ c .before .before .before .before .before .before .before .loop .inv .adds .size
+same-length c =
+    let at-loop = c .before .before .before .before .before .before .before in
+    c .before .before .last-line .ensures .size ∙ at-loop .loop .inv .adds .size
 
 returns : tie.Need-returns Inv-loop μ-loop
 returns c =
-    let l = c .before .before .before .before .before .before .before .loop in
-    going-last (l .inv) (omega (arith, c .before .before .before .before .before .before .loop-test .taken, l .inv .adds .size)) (sym (c .before .before .before .before .if1 .taken) ∙ c .before .before .before .before .before .whole-at .ensures) (c .before .before .last-line .ensures)
+    let after-whole-at = c .before .before .before .before in
+    let at-loop-test = after-whole-at .before .before in
+    let at-loop = at-loop-test .before in
+    let l = at-loop .loop in
+    going-last (l .inv) (omega (arith, at-loop-test .loop-test .taken, l .inv .adds .size)) (sym (after-whole-at .if1 .taken) ∙ after-whole-at .before .whole-at .ensures) (c .before .before .last-line .ensures)
 
 add-end : tie.Need-add-end Inv-loop μ-loop
-add-end c = omega (arith, whole-in (now (c .before .before .before .before .before .before .before .args .input)) (c .before .before .before .loop .at) (c .before .whole-at .result) (c .before .whole-at .ensures) (c .if1 .left), c .before .before .before .before .before .before .shared-slice-known .given 0)
+add-end c =
+    let at-loop = c .before .before .before in
+    let at-shared-slice-known = at-loop .before .before .before in
+    let start = at-shared-slice-known .before in
+    omega (arith, whole-in (now (start .args .input)) (at-loop .loop .at) (c .before .whole-at .result) (c .before .whole-at .ensures) (c .if1 .left), at-shared-slice-known .shared-slice-known .given 0)
 
 sub-step : tie.Need-sub-step Inv-loop μ-loop
 sub-step c = omega arith
@@ -47,27 +56,47 @@ part-step-start : tie.Need-part-step-start Inv-loop μ-loop
 part-step-start c = omega arith
 
 part-step-end : tie.Need-part-step-end Inv-loop μ-loop
-part-step-end c = whole-in (now (c .before .before .before .before .before .before .before .args .input)) (c .before .before .before .loop .at) (c .before .whole-at .result) (c .before .whole-at .ensures) (c .if1 .left)
+part-step-end c =
+    let at-loop = c .before .before .before in
+    let start = at-loop .before .before .before .before in
+    whole-in (now (start .args .input)) (at-loop .loop .at) (c .before .whole-at .result) (c .before .whole-at .ensures) (c .if1 .left)
 
 shared-slice-read-step-line : tie.Need-shared-slice-read-step-line Inv-loop μ-loop
 shared-slice-read-step-line c =
-    let w = c .before .before .before .before .before .whole-at in
-    let z : 0 < w .result = some (w .result) (c .before .before .before .before .if1 .left) in
-    omega (arith, whole-in (now (c .before .before .before .before .before .before .before .before .before .before .before .args .input)) (c .before .before .before .before .before .before .before .loop .at) (w .result) (w .ensures) (c .before .before .before .before .if1 .left))
+    let after-whole-at = c .before .before .before .before in
+    let at-loop = after-whole-at .before .before .before in
+    let start = at-loop .before .before .before .before in
+    let w = after-whole-at .before .whole-at in
+    let z : 0 < w .result = some (w .result) (after-whole-at .if1 .left) in
+    omega (arith, whole-in (now (start .args .input)) (at-loop .loop .at) (w .result) (w .ensures) (after-whole-at .if1 .left))
 
 step-line-requires : tie.Need-step-line-requires Inv-loop μ-loop
-step-line-requires c κs = omega (arith, c .before .before .before .before .before .before .loop-test .taken)
+step-line-requires c κs =
+    let at-loop-test = c .before .before .before .before .before .before in
+    omega (arith, at-loop-test .loop-test .taken)
 
 loop-less : tie.Need-loop-less Inv-loop μ-loop
-loop-less c = omega (arith, c .before .before .before .before .step-line .ensures .place, line-some (c .before .before .before .before .before .before .before .before .before .before .before .before .loop .number) (getD (now (c .before .before .before .before .before .before .before .before .before .before .before .before .before .before .before .before .args .input)) (c .before .before .before .before .before .before .before .before .before .before .before .before .loop .at) 0) (c .before .before .before .before .before .before .before .step .result .answer), c .before .before .before .before .before .before .before .before .before .before .before .before .loop .inv .place, c .before .before .before .before .before .before .before .before .before .before .before .loop-test .taken, c .before .before .before .before .before .before .before .before .before .before .before .before .loop .inv .adds .size)
+loop-less c =
+    let at-step-line = c .before .before .before .before in
+    let at-step = at-step-line .before .before .before in
+    let at-loop-test = at-step .before .before .before .before in
+    let at-loop = at-loop-test .before in
+    let start = at-loop .before .before .before .before in
+    omega (arith, at-step-line .step-line .ensures .place, line-some (at-loop .loop .number) (getD (now (start .args .input)) (at-loop .loop .at) 0) (at-step .step .result .answer), at-loop .loop .inv .place, at-loop-test .loop-test .taken, at-loop .loop .inv .adds .size)
 
 loop-again : tie.Need-loop-again Inv-loop μ-loop
 loop-again c =
-    let l = c .before .before .before .before .before .before .before .before .before .before .before .before .loop in
-    let w = c .before .before .before .before .before .before .before .before .before .before .whole-at in
-    going-step (l .inv) (omega (arith, c .before .before .before .before .before .before .before .before .before .before .before .loop-test .taken, l .inv .adds .size)) (w .result) (w .ensures) (c .before .before .before .before .before .before .before .before .before .if1 .left)
-    _ (ap (λ n. take n (drop (l .at) (now (c .before .before .before .before .before .before .before .before .before .before .before .before .before .before .before .before .args .input)))) (add-sub-cancel-left (l .at) (w .result)))
-    (c .before .before .before .before .before .before .before .step .result) (c .before .before .before .before .before .before .before .step .ensures) (c .before .before .before .before .step-line .ensures) _ (c .before .number-after .ensures)
+    let at-step-line = c .before .before .before .before in
+    let at-step = at-step-line .before .before .before in
+    let after-whole-at = at-step .before .before in
+    let at-loop-test = after-whole-at .before .before in
+    let at-loop = at-loop-test .before in
+    let start = at-loop .before .before .before .before in
+    let l = at-loop .loop in
+    let w = after-whole-at .before .whole-at in
+    going-step (l .inv) (omega (arith, at-loop-test .loop-test .taken, l .inv .adds .size)) (w .result) (w .ensures) (after-whole-at .if1 .left)
+    _ (ap (λ n. take n (drop (l .at) (now (start .args .input)))) (add-sub-cancel-left (l .at) (w .result)))
+    (at-step .step .result) (at-step .step .ensures) (at-step-line .step-line .ensures) _ (c .before .number-after .ensures)
 
 same-length-2 : tie.Need-same-length-2 Inv-loop μ-loop
 same-length-2 c = c .before .loop .inv .adds .size

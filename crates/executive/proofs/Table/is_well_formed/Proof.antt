@@ -39,22 +39,29 @@ unfolding inPasses
 returns-2 c =
     let s = c .before .before .before .before .before .before in
     let t = s .args .self in
-    of-size s (and-false-right (inBounds (t .rest .count) (t .rest .granule) (t .rest .clock) (t .ready) (t .rest .queued)) _ (and-false-left _ _ (sym (c .before .entries-right .ensures) ∙ not-true _ (c .if2 .taken))))
+    of-size s
+    (and-false-right (inBounds (t .rest .count) (t .rest .granule) (t .rest .clock) (t .ready) (t .rest .queued)) _
+    (and-false-left _ _ (sym (c .before .entries-right .ensures) ∙ not-true _ (c .if2 .taken))))
 
 cast-blank-past : tie.Need-cast-blank-past
 cast-blank-past c = search needs
 
 blank-past-requires : tie.Need-blank-past-requires
 blank-past-requires c κs =
-    let t = c .before .before .before .before .before .before .args .self in
-    bounds-get (t .rest .count) (t .rest .granule) (t .rest .clock) (t .ready) (t .rest .queued) (sym (c .before .before .before .before .in-bounds .ensures) ∙ not-false _ (c .before .before .before .if1 .left)) .count .1
+    let after-in-bounds = c .before .before .before in
+    let start = after-in-bounds .before .before .before in
+    let t = start .args .self in
+    bounds-get (t .rest .count) (t .rest .granule) (t .rest .clock) (t .ready) (t .rest .queued) (sym (after-in-bounds .before .in-bounds .ensures) ∙ not-false _ (after-in-bounds .if1 .left)) .count .1
 
 returns-3 : tie.Need-returns-3
 unfolding inPasses
 returns-3 c =
     let s = c .before .before .before .before .before .before .before .before in
     let t = s .args .self in
-    of-size s (and-false-right (inBounds (t .rest .count) (t .rest .granule) (t .rest .clock) (t .ready) (t .rest .queued)) _ (and-false-right (allOf (entryRight (t .rest .count) (t .rest .clock .0) (t .rest .flags)) (t .tasks)) _ (and-false-left _ _ (sym (c .before .blank-past .ensures) ∙ not-true _ (c .if3 .taken)))))
+    of-size s
+    (and-false-right (inBounds (t .rest .count) (t .rest .granule) (t .rest .clock) (t .ready) (t .rest .queued)) _
+    (and-false-right (allOf (entryRight (t .rest .count) (t .rest .clock .0) (t .rest .flags)) (t .tasks)) _
+    (and-false-left _ _ (sym (c .before .blank-past .ensures) ∙ not-true _ (c .if3 .taken)))))
 
 all-alarms-requires : tie.Need-all-alarms-requires
 all-alarms-requires c κs = search needs
@@ -64,15 +71,21 @@ unfolding inPasses
 returns-4 c =
     let s = c .before .before .before .before .before .before .before .before .before .before .before in
     let t = s .args .self in
-    of-size s (and-false-right (inBounds (t .rest .count) (t .rest .granule) (t .rest .clock) (t .ready) (t .rest .queued)) _ (and-false-right (allOf (entryRight (t .rest .count) (t .rest .clock .0) (t .rest .flags)) (t .tasks)) _ (and-false-right (allOf isBlank (drop (t .rest .count) (t .tasks))) _ (and-false-left _ _ (sym (c .before .all-alarms .ensures) ∙ not-true _ (c .if4 .taken))))))
+    of-size s
+    (and-false-right (inBounds (t .rest .count) (t .rest .granule) (t .rest .clock) (t .ready) (t .rest .queued)) _
+    (and-false-right (allOf (entryRight (t .rest .count) (t .rest .clock .0) (t .rest .flags)) (t .tasks)) _
+    (and-false-right (allOf isBlank (drop (t .rest .count) (t .tasks))) _
+    (and-false-left _ _ (sym (c .before .all-alarms .ensures) ∙ not-true _ (c .if4 .taken))))))
 
 cast-queue-right : tie.Need-cast-queue-right
 cast-queue-right c = search needs
 
 queue-right-requires : tie.Need-queue-right-requires
 queue-right-requires c κs =
-    let t = c .before .before .before .before .before .before .before .before .before .before .before .before .before .args .self in
-    let w = bounds-get (t .rest .count) (t .rest .granule) (t .rest .clock) (t .ready) (t .rest .queued) (sym (c .before .before .before .before .before .before .before .before .before .before .before .in-bounds .ensures) ∙ not-false _ (c .before .before .before .before .before .before .before .before .before .before .if1 .left)) in
+    let after-in-bounds = c .before .before .before .before .before .before .before .before .before .before in
+    let start = after-in-bounds .before .before .before in
+    let t = start .args .self in
+    let w = bounds-get (t .rest .count) (t .rest .granule) (t .rest .clock) (t .ready) (t .rest .queued) (sym (after-in-bounds .before .in-bounds .ensures) ∙ not-false _ (after-in-bounds .if1 .left)) in
     (w .ready, w .count .1)
 
 returns-5 : tie.Need-returns-5
@@ -80,23 +93,40 @@ unfolding inPasses
 returns-5 c =
     let s = c .before .before .before .before .before .before .before .before .before .before .before .before .before .before .before in
     let t = s .args .self in
-    of-size s (and-false-right (inBounds (t .rest .count) (t .rest .granule) (t .rest .clock) (t .ready) (t .rest .queued)) _ (and-false-right (allOf (entryRight (t .rest .count) (t .rest .clock .0) (t .rest .flags)) (t .tasks)) _ (and-false-right (allOf isBlank (drop (t .rest .count) (t .tasks))) _ (and-false-right (allOf (alarmRight (t .rest .clock .0)) (t .rest .alarms)) _ (and-false-left _ _ (sym (c .before .queue-right .ensures) ∙ not-true _ (c .if5 .taken)))))))
+    of-size s
+    (and-false-right (inBounds (t .rest .count) (t .rest .granule) (t .rest .clock) (t .ready) (t .rest .queued)) _
+    (and-false-right (allOf (entryRight (t .rest .count) (t .rest .clock .0) (t .rest .flags)) (t .tasks)) _
+    (and-false-right (allOf isBlank (drop (t .rest .count) (t .tasks))) _
+    (and-false-right (allOf (alarmRight (t .rest .clock .0)) (t .rest .alarms)) _
+    (and-false-left _ _ (sym (c .before .queue-right .ensures) ∙ not-true _ (c .if5 .taken)))))))
 
 cast-pool-right : tie.Need-cast-pool-right
 cast-pool-right c = search needs
 
 pool-right-requires : tie.Need-pool-right-requires
 pool-right-requires c κs =
-    let t = c .before .before .before .before .before .before .before .before .before .before .before .before .before .before .before .before .before .args .self in
-    let w = bounds-get (t .rest .count) (t .rest .granule) (t .rest .clock) (t .ready) (t .rest .queued) (sym (c .before .before .before .before .before .before .before .before .before .before .before .before .before .before .before .in-bounds .ensures) ∙ not-false _ (c .before .before .before .before .before .before .before .before .before .before .before .before .before .before .if1 .left)) in
+    let after-in-bounds = c .before .before .before .before .before .before .before .before .before .before .before .before .before .before in
+    let start = after-in-bounds .before .before .before in
+    let t = start .args .self in
+    let w = bounds-get (t .rest .count) (t .rest .granule) (t .rest .clock) (t .ready) (t .rest .queued) (sym (after-in-bounds .before .in-bounds .ensures) ∙ not-false _ (after-in-bounds .if1 .left)) in
     (w .queued, w .count .1)
 
 returns-6 : tie.Need-returns-6
 unfolding inPasses
 returns-6 c =
-    let s = c .before .before .before .before .before .before .before .before .before .before .before .before .before .before .before .before .before .before in
+    let after-queue-right = c .before .before .before in
+    let after-all-alarms = after-queue-right .before .before .before .before in
+    let after-blank-past = after-all-alarms .before .before .before in
+    let after-entries-right = after-blank-past .before .before in
+    let after-in-bounds = after-entries-right .before .before .before in
+    let s = after-in-bounds .before .before .before in
     let t = s .args .self in
-    of-size s (and-true-left _ _ _ (sym (c .before .before .before .before .before .before .before .before .before .before .before .before .before .before .before .before .in-bounds .ensures) ∙ not-false _ (c .before .before .before .before .before .before .before .before .before .before .before .before .before .before .before .if1 .left)) (and-true-left _ _ _ (sym (c .before .before .before .before .before .before .before .before .before .before .before .before .before .entries-right .ensures) ∙ not-false _ (c .before .before .before .before .before .before .before .before .before .before .before .before .if2 .left)) (and-true-left _ _ _ (sym (c .before .before .before .before .before .before .before .before .before .before .before .blank-past .ensures) ∙ not-false _ (c .before .before .before .before .before .before .before .before .before .before .if3 .left)) (and-true-left _ _ _ (sym (c .before .before .before .before .before .before .before .before .all-alarms .ensures) ∙ not-false _ (c .before .before .before .before .before .before .before .if4 .left)) (and-true-left _ _ _ (sym (c .before .before .before .before .queue-right .ensures) ∙ not-false _ (c .before .before .before .if5 .left)) (c .pool-right .ensures))))))
+    of-size s
+    (and-true-left _ _ _ (sym (after-in-bounds .before .in-bounds .ensures) ∙ not-false _ (after-in-bounds .if1 .left))
+    (and-true-left _ _ _ (sym (after-entries-right .before .entries-right .ensures) ∙ not-false _ (after-entries-right .if2 .left))
+    (and-true-left _ _ _ (sym (after-blank-past .before .blank-past .ensures) ∙ not-false _ (after-blank-past .if3 .left))
+    (and-true-left _ _ _ (sym (after-all-alarms .before .all-alarms .ensures) ∙ not-false _ (after-all-alarms .if4 .left))
+    (and-true-left _ _ _ (sym (after-queue-right .before .queue-right .ensures) ∙ not-false _ (after-queue-right .if5 .left)) (c .pool-right .ensures))))))
 
 pub is-well-formed-spec : {M : Type 1} → statement M
 is-well-formed-spec =

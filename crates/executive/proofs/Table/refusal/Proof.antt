@@ -14,23 +14,105 @@ returns-2 c = rw (← c .before .before .before .nobody-active .ensures, c .befo
 
 returns-3 : tie.Need-returns-3
 unfolding refusalBefore11 firstOf
-returns-3 c = rw (← c .before .before .before .before .before .nobody-active .ensures, c .before .before .before .before .if1 .left, ← c .before .before .before .bad-body .ensures, c .before .before .if2 .left, ← c .before .names-caller .ensures, c .if3 .taken) refl
+returns-3 c =
+    let after-bad-body = c .before .before in
+    let after-nobody-active = after-bad-body .before .before in
+    rw (
+      ← after-nobody-active .before .nobody-active .ensures,
+      after-nobody-active .if1 .left,
+      ← after-bad-body .before .bad-body .ensures,
+      after-bad-body .if2 .left,
+      ← c .before .names-caller .ensures,
+      c .if3 .taken,
+    )
+    refl
 
 returns-4 : tie.Need-returns-4
 unfolding refusalBefore11 firstOf
-returns-4 c = rw (← c .before .before .before .before .before .before .before .nobody-active .ensures, c .before .before .before .before .before .before .if1 .left, ← c .before .before .before .before .before .bad-body .ensures, c .before .before .before .before .if2 .left, ← c .before .before .before .names-caller .ensures, c .before .before .if3 .left, ← c .before .alarm-running .ensures, c .if4 .taken) refl
+returns-4 c =
+    let after-names-caller = c .before .before in
+    let after-bad-body = after-names-caller .before .before in
+    let after-nobody-active = after-bad-body .before .before in
+    rw (
+      ← after-nobody-active .before .nobody-active .ensures,
+      after-nobody-active .if1 .left,
+      ← after-bad-body .before .bad-body .ensures,
+      after-bad-body .if2 .left,
+      ← after-names-caller .before .names-caller .ensures,
+      after-names-caller .if3 .left,
+      ← c .before .alarm-running .ensures,
+      c .if4 .taken,
+    )
+    refl
 
 returns-5 : tie.Need-returns-5
 unfolding refusalBefore11 firstOf
-returns-5 c = rw (← c .before .before .before .before .before .before .before .before .before .nobody-active .ensures, c .before .before .before .before .before .before .before .before .if1 .left, ← c .before .before .before .before .before .before .before .bad-body .ensures, c .before .before .before .before .before .before .if2 .left, ← c .before .before .before .before .before .names-caller .ensures, c .before .before .before .before .if3 .left, ← c .before .before .before .alarm-running .ensures, c .before .before .if4 .left, ← c .before .pool-full .ensures, c .if5 .taken) refl
+returns-5 c =
+    let after-alarm-running = c .before .before in
+    let after-names-caller = after-alarm-running .before .before in
+    let after-bad-body = after-names-caller .before .before in
+    let after-nobody-active = after-bad-body .before .before in
+    rw (
+      ← after-nobody-active .before .nobody-active .ensures,
+      after-nobody-active .if1 .left,
+      ← after-bad-body .before .bad-body .ensures,
+      after-bad-body .if2 .left,
+      ← after-names-caller .before .names-caller .ensures,
+      after-names-caller .if3 .left,
+      ← after-alarm-running .before .alarm-running .ensures,
+      after-alarm-running .if4 .left,
+      ← c .before .pool-full .ensures,
+      c .if5 .taken,
+    )
+    refl
 
 returns-6 : tie.Need-returns-6
 unfolding refusalBefore11 firstOf
-returns-6 c = rw (← c .before .before .before .before .before .before .before .before .before .before .before .nobody-active .ensures, c .before .before .before .before .before .before .before .before .before .before .if1 .left, ← c .before .before .before .before .before .before .before .before .before .bad-body .ensures, c .before .before .before .before .before .before .before .before .if2 .left, ← c .before .before .before .before .before .before .before .names-caller .ensures, c .before .before .before .before .before .before .if3 .left, ← c .before .before .before .before .before .alarm-running .ensures, c .before .before .before .before .if4 .left, ← c .before .before .before .pool-full .ensures, c .before .before .if5 .left, ← c .before .ends-time .ensures, c .if6 .taken) refl
+returns-6 c =
+    let after-pool-full = c .before .before in
+    let after-alarm-running = after-pool-full .before .before in
+    let after-names-caller = after-alarm-running .before .before in
+    let after-bad-body = after-names-caller .before .before in
+    let after-nobody-active = after-bad-body .before .before in
+    rw (
+      ← after-nobody-active .before .nobody-active .ensures,
+      after-nobody-active .if1 .left,
+      ← after-bad-body .before .bad-body .ensures,
+      after-bad-body .if2 .left,
+      ← after-names-caller .before .names-caller .ensures,
+      after-names-caller .if3 .left,
+      ← after-alarm-running .before .alarm-running .ensures,
+      after-alarm-running .if4 .left,
+      ← after-pool-full .before .pool-full .ensures,
+      after-pool-full .if5 .left,
+      ← c .before .ends-time .ensures,
+      c .if6 .taken,
+    )
+    refl
 
 returns-7 : tie.Need-returns-7
 unfolding refusalBefore11 firstOf
-returns-7 c = rw (← c .before .before .before .before .before .before .before .before .before .before .before .nobody-active .ensures, c .before .before .before .before .before .before .before .before .before .before .if1 .left, ← c .before .before .before .before .before .before .before .before .before .bad-body .ensures, c .before .before .before .before .before .before .before .before .if2 .left, ← c .before .before .before .before .before .before .before .names-caller .ensures, c .before .before .before .before .before .before .if3 .left, ← c .before .before .before .before .before .alarm-running .ensures, c .before .before .before .before .if4 .left, ← c .before .before .before .pool-full .ensures, c .before .before .if5 .left, ← c .before .ends-time .ensures, c .if6 .left) refl
+returns-7 c =
+    let after-pool-full = c .before .before in
+    let after-alarm-running = after-pool-full .before .before in
+    let after-names-caller = after-alarm-running .before .before in
+    let after-bad-body = after-names-caller .before .before in
+    let after-nobody-active = after-bad-body .before .before in
+    rw (
+      ← after-nobody-active .before .nobody-active .ensures,
+      after-nobody-active .if1 .left,
+      ← after-bad-body .before .bad-body .ensures,
+      after-bad-body .if2 .left,
+      ← after-names-caller .before .names-caller .ensures,
+      after-names-caller .if3 .left,
+      ← after-alarm-running .before .alarm-running .ensures,
+      after-alarm-running .if4 .left,
+      ← after-pool-full .before .pool-full .ensures,
+      after-pool-full .if5 .left,
+      ← c .before .ends-time .ensures,
+      c .if6 .left,
+    )
+    refl
 
 pub refusal-spec : {M : Type 1} → statement M
 refusal-spec =

@@ -21,31 +21,39 @@ abbrev μ-loop : tie.MeasureT-loop
 
 returns : tie.Need-returns Inv-loop μ-loop
 returns c =
-    let s = c .before .before .before .before .before in
-    let v = c .before .before .before .before .loop in
+    let at-loop = c .before .before .before .before in
+    let s = at-loop .before in
+    let v = at-loop .loop in
     let l = s .good .1 .0 .1 .0 .1 in
     sym (sym (v .inv .1) ∙ first-not (requestRight (s .args .t1) (s .args .count)) noRequest (s .args .t2) (s .args .queued) (omega arith) (v .i) (omega arith) (fits-not (s .args .t1) (s .args .count) (getD (s .args .t2) (v .i) noRequest) (sym (c .before .request-fits .ensures) ∙ not-true _ (c .if1 .taken))))
 
 returns-2 : tie.Need-returns-2 Inv-loop μ-loop
 returns-2 c =
-    let s = c .before .before .before .before .before .before .before in
-    let v = c .before .before .before .before .before .before .loop in
+    let at-loop = c .before .before .before .before .before .before in
+    let s = at-loop .before in
+    let v = at-loop .loop in
     let l = s .good .1 .0 .1 .0 .1 in
     sym (sym (v .inv .1) ∙ first-not (requestRight (s .args .t1) (s .args .count)) noRequest (s .args .t2) (s .args .queued) (omega arith) (v .i) (omega arith) (fits-nobody (s .args .t1) (s .args .count) (getD (s .args .t2) (v .i) noRequest) (s .good .0 .1 .0 .1) _ (c .before .entry-place .ensures) (c .if2 .taken)))
 
 returns-3 : tie.Need-returns-3 Inv-loop μ-loop
 returns-3 c =
-    let s = c .before .before .before .before .before .before .before .before .before .before in
-    let v = c .before .before .before .before .before .before .before .before .before .loop in
+    let at-entry-place = c .before .before .before .before in
+    let after-request-fits = at-entry-place .before in
+    let at-loop = after-request-fits .before .before .before .before in
+    let s = at-loop .before in
+    let v = at-loop .loop in
     let l = s .good .1 .0 .1 .0 .1 in
-    sym (sym (v .inv .1) ∙ first-not (requestRight (s .args .t1) (s .args .count)) noRequest (s .args .t2) (s .args .queued) (omega arith) (v .i) (omega arith) (fits-busy (s .args .t1) (s .args .count) (getD (s .args .t2) (v .i) noRequest) (s .good .0 .1 .0 .1) _ (c .before .before .before .before .entry-place .ensures) true (sym (c .before .before .before .before .before .before .request-fits .ensures) ∙ not-false _ (c .before .before .before .before .before .if1 .left)) (sym (c .before .is-dormant .ensures) ∙ c .if3 .taken)))
+    sym (sym (v .inv .1) ∙ first-not (requestRight (s .args .t1) (s .args .count)) noRequest (s .args .t2) (s .args .queued) (omega arith) (v .i) (omega arith) (fits-busy (s .args .t1) (s .args .count) (getD (s .args .t2) (v .i) noRequest) (s .good .0 .1 .0 .1) _ (at-entry-place .entry-place .ensures) true (sym (after-request-fits .before .request-fits .ensures) ∙ not-false _ (after-request-fits .if1 .left)) (sym (c .before .is-dormant .ensures) ∙ c .if3 .taken)))
 
 loop-again : tie.Need-loop-again Inv-loop μ-loop
 loop-again c =
-    let s = c .before .before .before .before .before .before .before .before .before .before in
-    let v = c .before .before .before .before .before .before .before .before .before .loop in
+    let at-entry-place = c .before .before .before .before in
+    let after-request-fits = at-entry-place .before in
+    let at-loop = after-request-fits .before .before .before .before in
+    let s = at-loop .before in
+    let v = at-loop .loop in
     let l = s .good .1 .0 .1 .0 .1 in
-    (omega arith, first-turn (requestRight (s .args .t1) (s .args .count)) noRequest (s .args .t2) (s .args .queued) (omega arith) (v .i) (omega arith) (fits-busy (s .args .t1) (s .args .count) (getD (s .args .t2) (v .i) noRequest) (s .good .0 .1 .0 .1) _ (c .before .before .before .before .entry-place .ensures) false (sym (c .before .before .before .before .before .before .request-fits .ensures) ∙ not-false _ (c .before .before .before .before .before .if1 .left)) (sym (c .before .is-dormant .ensures) ∙ c .if3 .left)) ∙ v .inv .1)
+    (omega arith, first-turn (requestRight (s .args .t1) (s .args .count)) noRequest (s .args .t2) (s .args .queued) (omega arith) (v .i) (omega arith) (fits-busy (s .args .t1) (s .args .count) (getD (s .args .t2) (v .i) noRequest) (s .good .0 .1 .0 .1) _ (at-entry-place .entry-place .ensures) false (sym (after-request-fits .before .request-fits .ensures) ∙ not-false _ (after-request-fits .if1 .left)) (sym (c .before .is-dormant .ensures) ∙ c .if3 .left)) ∙ v .inv .1)
 
 returns-4 : tie.Need-returns-4 Inv-loop μ-loop
 returns-4 c =
