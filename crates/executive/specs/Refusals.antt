@@ -5,6 +5,7 @@ use mathlib.Core.Bool.{Bool, not, cond}
 use mathlib.Core.List.{List, [], _∷_}
 use lib.Dec.{eqb}
 use lib.ListN.{length, getD}
+use Rattle.records.specs.Firsts.{Refusal, when, firstOf}
 use Rattle.records.specs.declared.Kind.{Kind}
 use Rattle.records.specs.declared.Call.{Call}
 use Rattle.records.specs.declared.Call.the-variants as call
@@ -62,13 +63,6 @@ unfoldable pub overfills : Table → Call → Bool
 overfills t c = applyInFlight (planOf t c) t .full
 
 -- ---- the list, in 01's order
-pub record Refusal : Type 0 where
-  pub number : ℕ
-  pub given : Bool
-
-abbrev pub when : ℕ → Bool → Refusal
-when n b = record { number = n; given = b }
-
 -- what can be refused of a call that was read
 abbrev pub callRefusals : Table → Call → List Refusal
 callRefusals t c =
@@ -88,11 +82,6 @@ refusals t s =
     ∷ when 4 (not (isCall (kindOfRecord s)))
     ∷ when 3 (not (eqb (length s) (lengthOf (kindOfRecord s))))
     ∷ callRefusals t (callIn s)
-
--- the number of the first that is given; 0: accepted
-unfoldable pub firstOf : List Refusal → ℕ
-firstOf [] = 0
-firstOf (r ∷ rs) = cond (r .given) (r .number) (firstOf rs)
 
 -- ---- for the code, which judges 11 on what the call comes to: the number of the first of all but the last of a
 -- call's refusals

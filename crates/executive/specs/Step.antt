@@ -4,6 +4,7 @@ use mathlib.Core.Path.{_≡_}
 use mathlib.Core.Bool.{Bool, false, cond, _||_}
 use mathlib.Core.List.{List}
 use lib.Dec.{eqb}
+use Rattle.records.specs.Firsts.{firstOf}
 use Rattle.records.specs.declared.Call.{Call}
 use Rattle.records.specs.Kinds.{isCall}
 use Rattle.records.specs.Calls as calls
@@ -16,7 +17,7 @@ use Rattle.executive.specs.Places.{nobody, taskAt}
 use Rattle.executive.specs.Table.{applyInFlight}
 use Rattle.executive.specs.Plans.{caller}
 use Rattle.executive.specs.Sheet.{marks, planOf, marksOf}
-use Rattle.executive.specs.Refusals.{callIn, callRefusals, refusals, firstOf}
+use Rattle.executive.specs.Refusals.{callIn, callRefusals, refusals}
 
 -- ---- the answer: the active task of the table and its run's argument, both 0 when idle
 abbrev pub answerOf : ℕ → Marks → Table → Answer

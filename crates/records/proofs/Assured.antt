@@ -1,9 +1,11 @@
 -- What is promised holds. Of the modules here the crates above name this one and no other.
 use mathlib.Core.Path.{sym, _∙_}
 use Rattle.records.specs.Promises.{Promises}
-use Rattle.records.proofs.Numbers.{fitting-back}
+use Rattle.records.proofs.Numbers.{fitting-back, cut-lay, lay-cut, lay-length}
+use Rattle.records.proofs.Firsts.{first-decides, first-not}
 use Rattle.records.proofs.Ranges.{read-in-range}
 use Rattle.records.proofs.RoundTrips.{write-read, read-write}
+use Rattle.records.proofs.CallParts.{call-whole, call-parts}
 use Rattle.records.proofs.reading.Laws.{reads, three, four}
 use Rattle.records.proofs.writing.Laws.{writes, twenty}
 
@@ -25,4 +27,11 @@ promises = record {
   write-determined = λ c o _ _ x y p q. (p .buffer ∙ sym (q .buffer), p .answer ∙ sym (q .answer));
   there-determined = λ c x y p q. p ∙ sym q;
   back-determined = λ s o _ _ x y p q. (p .buffer ∙ sym (q .buffer), p .answer ∙ sym (q .answer));
+  first-decides = first-decides;
+  first-not = first-not;
+  cut-lay = cut-lay;
+  lay-cut = lay-cut;
+  lay-length = lay-length;
+  call-whole = call-whole;
+  call-parts = call-parts;
 }

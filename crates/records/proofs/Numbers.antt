@@ -1,13 +1,13 @@
 -- A number is its bytes, and some bytes are their number; and so a row of numbers, by any widths.
 use Prim.Native.Nat.{ℕ, zero, suc, _+_, _*_, _/_, _%_, _<_, _^_}
 use mathlib.Core.Path.{_≡_, refl, sym, ap, _∙_}
-use mathlib.Core.List.{List, [], _∷_, _++_}
+use mathlib.Core.List.{List, [], _∷_, _++_, append-assoc}
 use native.Mathlib.Omega.{arith}
 use native.Mathlib.Nat.{add-zero, add-suc, suc-add, add-comm, div-div-eq-div-mul, pow-succ'}
-use lib.ListN.{length, getD, drop, drop-of-length-le}
-use lib.Seq.{drop-cons}
+use lib.ListN.{length, getD, drop, length-append, drop-of-length-le}
+use lib.Seq.{drop-cons, getD-append-seam}
 use lib.Dec.{lit<}
-use Rattle.records.specs.Numbers.{Bytes, numberFrom, numberOf, oneAnd, bytesIn, part, total, lay, cut, Fits}
+use Rattle.records.specs.Numbers.{Bytes, numberFrom, numberOf, oneAnd, bytesIn, part, total, lay, cut, Fits, Wide}
 
 from-last : (n : ℕ) (bs : List ℕ) (b : ℕ) → numberFrom n (bs ++ (b ∷ [])) ≡ numberFrom n bs * 256 + b
 from-last n [] b = refl
@@ -93,3 +93,54 @@ module _ (s : List ℕ) where
     pub cut-fits : (ws : List ℕ) (i : ℕ) → Fits ws (cut ws i s)
     cut-fits [] i = tt
     cut-fits (w ∷ ws) i = (width-fits w i, cut-fits ws (i + w))
+
+length-one : (w x : ℕ) → length (oneAnd w x) ≡ suc w
+length-one zero x = refl
+length-one (suc w) x =
+    length-append (oneAnd w (x / 256)) (x % 256 ∷ []) ∙ ap (λ n. n + 1) (length-one w (x / 256)) ∙ omega arith
+
+length-bytes : (w x : ℕ) → length (bytesIn w x) ≡ w
+length-bytes zero x = refl
+length-bytes (suc w) x = length-one w x
+
+-- what is laid has the sum of its widths
+pub lay-length : (ws xs : List ℕ) → length xs ≡ length ws → length (lay ws xs) ≡ total ws
+lay-length [] xs h = refl
+lay-length (w ∷ ws) [] h = absurd (omega arith)
+lay-length (w ∷ ws) (x ∷ xs) h =
+    length-append (bytesIn w x) (lay ws xs)
+    ∙ ap (λ n. n + length (lay ws xs)) (length-bytes w x)
+    ∙ ap (λ n. w + n) (lay-length ws xs (omega arith))
+
+-- bytes in the middle of others are read as they stand
+part-middle : (p bs q : List ℕ) → part (length bs) (length p) (p ++ (bs ++ q)) ≡ bs
+part-middle p [] q = refl
+part-middle p (b ∷ bs) q =
+    let l : suc (length p) ≡ length (p ++ (b ∷ [])) = sym (length-append p (b ∷ []) ∙ omega arith) in
+    ap (λ x. x ∷ part (length bs) (suc (length p)) (p ++ (b ∷ (bs ++ q)))) (getD-append-seam p b (bs ++ q) 0)
+    ∙ ap (λ n. b ∷ part (length bs) n (p ++ (b ∷ (bs ++ q)))) l
+    ∙ ap (λ s. b ∷ part (length bs) (length (p ++ (b ∷ []))) s) (sym (append-assoc p (b ∷ []) (bs ++ q)))
+    ∙ ap (λ t. b ∷ t) (part-middle (p ++ (b ∷ [])) bs q)
+
+wide-back : (w x : ℕ) → 0 < w → numberOf (bytesIn w x) ≡ x
+wide-back zero x h = absurd (omega arith)
+wide-back (suc w) x h = number-back w x
+
+-- numbers that are laid by some widths, cut out again by the same: the same numbers, whatever stands around them
+pub cut-lay : (ws xs p q : List ℕ) → Wide ws → length xs ≡ length ws → cut ws (length p) (p ++ (lay ws xs ++ q)) ≡ xs
+cut-lay [] [] p q h n = refl
+cut-lay [] (x ∷ xs) p q h n = absurd (omega arith)
+cut-lay (w ∷ ws) [] p q h n = absurd (omega arith)
+cut-lay (w ∷ ws) (x ∷ xs) p q h n =
+    let b = bytesIn w x in
+    let s = p ++ ((b ++ lay ws xs) ++ q) in
+    let l : length b ≡ w = length-bytes w x in
+    let m : length p + w ≡ length (p ++ b) = sym (length-append p b ∙ ap (λ k. length p + k) l) in
+    let e : s ≡ p ++ (b ++ (lay ws xs ++ q)) = ap (λ t. p ++ t) (append-assoc b (lay ws xs) q) in
+    let f : s ≡ (p ++ b) ++ (lay ws xs ++ q) = e ∙ sym (append-assoc p b (lay ws xs ++ q)) in
+    let g : part w (length p) s ≡ b =
+    ap (part w (length p)) e ∙ ap (λ k. part k (length p) (p ++ (b ++ (lay ws xs ++ q)))) (sym l) ∙ part-middle p b (lay ws xs ++ q) in
+    ap (λ y. y ∷ cut ws (length p + w) s) (ap numberOf g ∙ wide-back w x (h .0))
+    ∙ ap (λ k. x ∷ cut ws k s) m
+    ∙ ap (λ t. x ∷ cut ws (length (p ++ b)) t) f
+    ∙ ap (λ t. x ∷ t) (cut-lay ws xs (p ++ b) q (h .1) (omega arith))

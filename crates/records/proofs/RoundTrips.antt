@@ -64,10 +64,10 @@ module _ (k : Kind) (s : List ℕ) (b : byteOf k ≡ getD s 0 0) (n : length s �
       ∙ ap (λ x. x ∷ part (total (bodyOf k)) 1 s) b
       ∙ sym (part-drop s (suc (total (bodyOf k))) 0 (omega arith))
 
-refused : (n : ℕ) (c : Call) → got.Refused n ≡ got.Call c → ⊥
+pub refused : (n : ℕ) (c : Call) → got.Refused n ≡ got.Call c → ⊥
 refused n c e = let z : _≡_ {A = ℕ} 0 1 = cc in omega arith
 
-same : {c d : Call} → got.Call c ≡ got.Call d → d ≡ c
+pub same : {c d : Call} → got.Call c ≡ got.Call d → d ≡ c
 same e = cc
 
 whole : (k : Kind) (s : List ℕ) (c : Call) → byteOf k ≡ getD s 0 0 → length s ≡ lengthOf k → Bytes s

@@ -54,3 +54,8 @@ Fits [] [] = Unit {0}
 Fits [] (x ∷ xs) = ⊥
 Fits (w ∷ ws) [] = ⊥
 Fits (w ∷ ws) (x ∷ xs) = (x < 256 ^ w) × Fits ws xs
+
+-- each width is one byte at least
+abbrev pub Wide : List ℕ → Type 0
+Wide [] = Unit {0}
+Wide (w ∷ ws) = (0 < w) × Wide ws

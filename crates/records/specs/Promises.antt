@@ -1,16 +1,18 @@
--- What is promised of the definitions: both round trips, when each number is given, one outcome for each contract.
+-- What is promised of the definitions: both round trips, when each number is given, one outcome for each contract,
+-- and which of some refusals gives its number.
 use Prim.Native.Nat.{ℕ, _<_, _^_}
 use mathlib.Core.Path.{_≡_}
 use mathlib.Core.Logic.{_↔_, _≢_, _⊎_}
 use mathlib.Core.Bool.{Bool}
-use mathlib.Core.List.{List}
+use mathlib.Core.List.{List, _++_}
 use lib.ListN.{length}
-use Rattle.records.specs.Numbers.{Bytes, numberOf, bytesIn}
-use Rattle.records.specs.Kinds.{lengthOf, KindIs, LengthIs, CallIs}
-use Rattle.records.specs.Calls.{GotInRange}
+use Rattle.records.specs.Numbers.{Bytes, numberOf, bytesIn, part, total, lay, cut, Wide}
+use Rattle.records.specs.Kinds.{bodyOf, lengthOf, KindIs, LengthIs, CallIs}
+use Rattle.records.specs.Calls.{kindOfCall, fieldsOf, gotOf, GotInRange}
 use Rattle.records.specs.Reading.{firstKind, readOf, Reads, readNumber}
 use Rattle.records.specs.Writing.{bytesOf, writtenOf, Writes, writeNumber}
 use Rattle.records.specs.Trips.{ComesBack, WritesAgain}
+use Rattle.records.specs.Firsts.{Refusal, firstOf, Decides, Never}
 use Rattle.records.specs.declared.Kind.{Kind}
 use Rattle.records.specs.declared.Kind.the-variants as kind
 use Rattle.records.specs.declared.Call.{Call}
@@ -47,3 +49,15 @@ pub record Promises : Type 0 where
   pub there-determined : (c : Call) (x y : Got) → ComesBack c x → ComesBack c y → x ≡ y
   pub back-determined : (s o p q : List ℕ) (x y : Written) → WritesAgain s o p x → WritesAgain s o q y
       → (p ≡ q) × (x ≡ y)
+  -- where no refusal of a list has the number 0, the first's number decides; a number that none of them has is not given
+  pub first-decides : (rs : List Refusal) → Never 0 rs → Decides rs (firstOf rs)
+  pub first-not : (m : ℕ) (rs : List Refusal) → m ≢ 0 → Never m rs → firstOf rs ≢ m
+  -- numbers that are laid by some widths, cut out again by the same: the same numbers, whatever stands around them; and
+  -- the other way round
+  pub cut-lay : (ws xs p q : List ℕ) → Wide ws → length xs ≡ length ws → cut ws (length p) (p ++ (lay ws xs ++ q)) ≡ xs
+  pub lay-cut : (s : List ℕ) → Bytes s → (ws : List ℕ) (i : ℕ) → lay ws (cut ws i s) ≡ part (total ws) i s
+  pub lay-length : (ws xs : List ℕ) → length xs ≡ length ws → length (lay ws xs) ≡ total ws
+  -- a call is of its kind and its numbers, and a kind with some numbers is a call of that kind with these numbers
+  pub call-whole : (c : Call) → gotOf (kindOfCall c) (fieldsOf c) ≡ got.Call c
+  pub call-parts : (k : Kind) (xs : List ℕ) (c : Call) → length xs ≡ length (bodyOf k) → gotOf k xs ≡ got.Call c
+      → (kindOfCall c ≡ k) × (fieldsOf c ≡ xs)

@@ -7,6 +7,7 @@ use native.Mathlib.Omega.{arith}
 use borrow.Author.Tests.{eqb-true, eq-eqb}
 use lib.Dec.{eqb}
 use lib.ListN.{length, getD}
+use Rattle.records.specs.Firsts.{firstOf}
 use Rattle.records.specs.declared.Kind.{Kind}
 use Rattle.records.specs.declared.Kind.the-variants as kind
 use Rattle.records.specs.declared.Call.{Call}
@@ -28,7 +29,7 @@ use Rattle.executive.specs.Places.{taskAt}
 use Rattle.executive.specs.Plans.{caller, stateAt, requestOf}
 use Rattle.executive.specs.States.{isDormant}
 use Rattle.executive.specs.WellFormed.{WellFormed}
-use Rattle.executive.specs.Refusals.{kindOfRecord, calledBy, callIn, refusals, firstOf}
+use Rattle.executive.specs.Refusals.{kindOfRecord, calledBy, callIn, refusals}
 use Rattle.executive.specs.Sheet.{marksOf}
 use Rattle.executive.specs.Step.{accepted, stepOf}
 use Rattle.executive.specs.Promises.EveryStart.{Asked, Book, other, starts, waits, turnOf, turnIn, firstFor, Agrees, asks05, begins?}

@@ -9,6 +9,7 @@ use borrow.Author.Tests.{ltb-true, ltb-false, eqb-true, eqb-false, eq-eqb}
 use lib.Dec.{ltb, eqb}
 use lib.ListN.{length, getD, drop-of-length-le}
 use lib.Seq.{take-all}
+use Rattle.records.specs.Firsts.{firstOf}
 use Rattle.records.specs.declared.TaskNo.{TaskNo}
 use Rattle.records.specs.declared.Call.{Call}
 use Rattle.records.specs.declared.Call.the-variants as call
@@ -28,7 +29,7 @@ use Rattle.executive.specs.Flags.{met, modeOf}
 use Rattle.executive.specs.States.{dormant, is, isDormant, isPaused}
 use Rattle.executive.specs.WellFormed.{targetsOf, WellFormed}
 use Rattle.executive.specs.Sheet.{planOf}
-use Rattle.executive.specs.Refusals.{callIn, callRefusals, refusals, firstOf}
+use Rattle.executive.specs.Refusals.{callIn, callRefusals, refusals}
 use Rattle.executive.specs.Step.{stepOf}
 use Rattle.executive.specs.Promises.Demands.{planOfRecord}
 use Rattle.executive.specs.Promises.EveryStart.{entry, Turn, other, starts, waits, ends, turnOf, turnIn, Begun}

@@ -1,5 +1,6 @@
 -- The history of starts, computed.
 use mathlib.Core.Path.{refl}
+use Rattle.records.specs.Firsts.{firstOf}
 use Rattle.records.specs.Kinds.{kindOf}
 use Rattle.records.specs.Reading.{readAs, readOf}
 use Rattle.executive.specs.Queue.{behind, count}
@@ -11,7 +12,7 @@ use Rattle.executive.specs.Pool.{placeOf}
 use Rattle.executive.specs.Plans.{waking, terminatePlan, restartPlan, pausePlan, priorityOf, waitOf, argumentOf, startNowPlan, queueRequestPlan, requestOf, startOrQueuePlan}
 use Rattle.executive.specs.Check.{numbersRight, falls, exactAt, queueRight, timesRight, startedRight, masksRight, busyRight, waitersAt, waitersRight, dormantRight, poolRight, isWellFormed}
 use Rattle.executive.specs.Sheet.{planOf, marksOf}
-use Rattle.executive.specs.Refusals.{nobodyActive, badBody, namesCaller, alarmRunning, poolFull, endsTime, overfills, refusals, firstOf}
+use Rattle.executive.specs.Refusals.{nobodyActive, badBody, namesCaller, alarmRunning, poolFull, endsTime, overfills, refusals}
 use Rattle.executive.specs.Step.{accepted, refused, stepOf}
 use Rattle.executive.specs.Configuration.{tasksFrom, tasksIn, configurationIn, taskRight, isConfiguration, sleepers, dormantTable, markedStart, starters, freshTable, freshOf}
 use Rattle.executive.specs.Promises.Worked.{along}

@@ -1,6 +1,7 @@
 -- The bench cards hold, and the law of the fresh table: what is concrete is computed.
 use mathlib.Core.Path.{refl}
 use Prim.Native.Nat.{_-_, _^_}
+use Rattle.records.specs.Firsts.{firstOf}
 use Rattle.records.specs.Kinds.{kindOf}
 use Rattle.records.specs.Reading.{readAs, readOf}
 use Rattle.executive.specs.Queue.{behind}
@@ -12,7 +13,7 @@ use Rattle.executive.specs.Pool.{placeOf}
 use Rattle.executive.specs.Flags.{isSet}
 use Rattle.executive.specs.Plans.{waking, terminatePlan, restartPlan, pausePlan, cancelPausePlan, priorityOf, waitOf, argumentOf, startNowPlan, queueRequestPlan, startIfDormantPlan, requestOf, startOrQueuePlan, rises, risers, setPlan, resetPlan, flagPlan, waitPlan, alarmPlan, tickPlan}
 use Rattle.executive.specs.Sheet.{planOf, marksOf}
-use Rattle.executive.specs.Refusals.{nobodyActive, badBody, namesCaller, alarmRunning, poolFull, endsTime, overfills, refusals, firstOf}
+use Rattle.executive.specs.Refusals.{nobodyActive, badBody, namesCaller, alarmRunning, poolFull, endsTime, overfills, refusals}
 use Rattle.executive.specs.Step.{accepted, refused, stepOf}
 use Rattle.executive.specs.Check.{numbersRight, falls, exactAt, queueRight, timesRight, startedRight, masksRight, busyRight, waitersAt, waitersRight, dormantRight, poolRight, isWellFormed}
 use Rattle.executive.specs.Configuration.{tasksFrom, tasksIn, configurationIn, taskRight, isConfiguration, sleepers, dormantTable, markedStart, starters, freshTable, freshOf}

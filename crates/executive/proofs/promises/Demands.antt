@@ -8,6 +8,7 @@ use native.Mathlib.Omega.{arith}
 use borrow.Author.Tests.{le-leb, lt-ltb, eq-eqb}
 use lib.Dec.{eqb}
 use lib.ListN.{length, getD}
+use Rattle.records.specs.Firsts.{firstOf}
 use Rattle.records.specs.declared.TaskNo.{TaskNo}
 use Rattle.records.specs.Numbers.{Bytes}
 use Rattle.records.specs.Kinds.{kindOf}
@@ -27,7 +28,7 @@ use Rattle.executive.specs.Clock.{aimAt}
 use Rattle.executive.specs.Plans.{caller, endWaiter, waking, terminatePlan, restartPlan}
 use Rattle.executive.specs.WellFormed.{WellFormed}
 use Rattle.executive.specs.Sheet.{planOf}
-use Rattle.executive.specs.Refusals.{callIn, refusals, firstOf, refusalBefore11}
+use Rattle.executive.specs.Refusals.{callIn, refusals, refusalBefore11}
 use Rattle.executive.specs.Step.{stepOf}
 use Rattle.executive.specs.Promises.Demands.{planOfRecord, after, history, AllBytes, IsReady, Dispatched, NotYet, Overtaking, departedOf, enteredOf, Restarts, RestartsBy, Demands}
 use Rattle.executive.proofs.Lists.Tests.{eqb-self, not-zero}

@@ -8,6 +8,7 @@ use native.Mathlib.Nat.{div-add-mod', mod-lt, add-mul, mul-le-mul-right, le-div-
 use native.Mathlib.Omega.{arith}
 use borrow.Author.Tests.{eq-eqb, ne-eqb, le-ltb, lt-ltb, lt-leb, eqb-true, ltb-true, ltb-false}
 use lib.Dec.{eqb, ltb}
+use Rattle.records.specs.Firsts.{firstOf}
 use Rattle.records.specs.declared.Call.{Call}
 use Rattle.records.specs.Kinds.{kindOf}
 use Rattle.records.specs.Numbers.{Bytes}
@@ -28,7 +29,7 @@ use Rattle.executive.specs.Plans.{caller, endWaiter, waking, restartPlan
 use Rattle.executive.specs.WellFormed.{WellFormed}
 use Rattle.executive.specs.Check.{isWellFormed, numbersRight, falls, exactAt, queueRight, timesRight, startedRight, masksRight, busyRight, waitersAt, waitersRight, dormantRight, poolRight}
 use Rattle.executive.specs.Sheet.{planOf, marksOf, marks}
-use Rattle.executive.specs.Refusals.{nobodyActive, badBody, namesCaller, alarmRunning, poolFull, endsTime, overfills, refusals, firstOf, callIn}
+use Rattle.executive.specs.Refusals.{nobodyActive, badBody, namesCaller, alarmRunning, poolFull, endsTime, overfills, refusals, callIn}
 use Rattle.executive.specs.Step.{accepted, refused, outcomeOf, stepOf, noTable, answerOf, hasV}
 use Rattle.executive.specs.Promises.Demands.{planOfRecord, after}
 use Rattle.executive.specs.Promises.Skipping.{NextOnGrid, Skip, DueNext, Skips, Skipping}

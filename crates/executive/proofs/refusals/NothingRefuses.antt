@@ -6,6 +6,7 @@ use mathlib.Core.List.{List, [], _∷_}
 use native.Mathlib.Omega.{arith}
 use borrow.Author.Tests.{ltb-false, leb-false, eqb-false}
 use lib.Dec.{ltb}
+use Rattle.records.specs.Firsts.{Refusal, when, firstOf}
 use Rattle.records.specs.declared.TaskNo.{TaskNo}
 use Rattle.records.specs.declared.FlagNo.{FlagNo}
 use Rattle.records.specs.declared.Call.{Call}
@@ -16,7 +17,7 @@ use Rattle.executive.specs.Table.{ArraysInOrder, TimesInOrder}
 use Rattle.executive.specs.States.{isDormant}
 use Rattle.executive.specs.Plans.{stateAt}
 use Rattle.executive.specs.WellFormed.{WellFormed, Times}
-use Rattle.executive.specs.Refusals.{isTick, nobodyActive, badBody, namesCaller, alarmRunning, poolFull, endsTime, Refusal, when, callRefusals, firstOf, butLast, refusalBefore11}
+use Rattle.executive.specs.Refusals.{isTick, nobodyActive, badBody, namesCaller, alarmRunning, poolFull, endsTime, callRefusals, butLast, refusalBefore11}
 use Rattle.executive.proofs.Lists.Tests.{false-not-true}
 use Rattle.executive.proofs.calls.InOrder.{fit-of, standing-of}
 

@@ -7,6 +7,7 @@ use native.Mathlib.Omega.{arith}
 use borrow.Author.Tests.{ne-eqb}
 use lib.Dec.{eqb}
 use lib.ListN.{length}
+use Rattle.records.specs.Firsts.{firstOf}
 use Rattle.records.specs.declared.Kind.{Kind}
 use Rattle.records.specs.declared.Kind.the-variants as kind
 use Rattle.records.specs.declared.Call.{Call}
@@ -22,7 +23,7 @@ use Rattle.executive.specs.declared.Table.{Table}
 use Rattle.executive.specs.Table.{applyInFlight}
 use Rattle.executive.specs.Check.{isWellFormed}
 use Rattle.executive.specs.Sheet.{planOf}
-use Rattle.executive.specs.Refusals.{kindOfRecord, calledBy, callIn, nobodyActive, badBody, namesCaller, alarmRunning, poolFull, endsTime, overfills, callRefusals, refusals, firstOf, refusalBefore11}
+use Rattle.executive.specs.Refusals.{kindOfRecord, calledBy, callIn, nobodyActive, badBody, namesCaller, alarmRunning, poolFull, endsTime, overfills, callRefusals, refusals, refusalBefore11}
 use Rattle.executive.specs.Step.{isStep, accepted, refused, performed, stepOf}
 
 -- ---- the first number is an early one, or 11, or 0

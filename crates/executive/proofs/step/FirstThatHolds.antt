@@ -8,80 +8,21 @@ use native.Mathlib.Omega.{arith}
 use borrow.Author.Tests.{eqb-true, ne-eqb}
 use lib.Dec.{eqb}
 use lib.ListN.{getD}
+use Rattle.records.specs.Firsts.{Refusal, firstOf, Decides, Never}
 use Rattle.records.specs.declared.Call.{Call}
+use Rattle.records.proofs.Assured.{promises}
 use Rattle.executive.specs.declared.Table.{Table}
 use Rattle.executive.specs.declared.Outcome.{Outcome}
 use Rattle.executive.specs.Plans.{caller}
 use Rattle.executive.specs.WellFormed.{WellFormed}
 use Rattle.executive.specs.Check.{isWellFormed}
-use Rattle.executive.specs.Refusals.{Refusal, when, callIn, refusals, firstOf}
+use Rattle.executive.specs.Refusals.{callIn, refusals}
 use Rattle.executive.specs.Sheet.{marks}
 use Rattle.executive.specs.Step.{noTable, answerOf, hasV, accepted, refused, outcomeOf, stepOf}
-use Rattle.executive.specs.Promises.Demands.{FirstAt, Decides}
 use Rattle.executive.proofs.Lists.Tests.{false-not-true}
 use Rattle.executive.proofs.refusals.NothingRefuses.{first-none}
 use Rattle.executive.proofs.check.Decides.{well-formed-iff}
 use Rattle.executive.proofs.step.StepIsPlan.{refused-table}
-
--- ---- the first of a list
-abbrev blank : Refusal
-blank = when 0 false
-
--- no number in the list is m
-abbrev Never : ℕ → List Refusal → Type 0
-Never m [] = Unit {0}
-Never m (r ∷ rs) = (r .number ≢ m) × Never m rs
-
-first-not : (m : ℕ) (rs : List Refusal) → m ≢ 0 → Never m rs → firstOf rs ≢ m
-unfolding firstOf
-first-not m [] z n e = z (sym e)
-first-not m (r ∷ rs) z n e = go (r .given) e (first-not m rs z (n .1))
-  where
-    go : (b : Bool) → cond b (r .number) (firstOf rs) ≡ m → firstOf rs ≢ m → ⊥
-    go true e ih = n .0 e
-    go false e ih = ih e
-
-none-given : (rs : List Refusal) → Never 0 rs → firstOf rs ≡ 0 → (i : ℕ) → getD rs i blank .given ≡ false
-unfolding firstOf
-none-given [] n e i = refl
-none-given (r ∷ rs) n e i = go (r .given) refl e i (none-given rs (n .1))
-  where
-    go : (b : Bool) → r .given ≡ b → cond b (r .number) (firstOf rs) ≡ 0 → (i : ℕ) → (firstOf rs ≡ 0 → (i : ℕ) → getD rs i blank .given ≡ false) → getD (r ∷ rs) i blank .given ≡ false
-    go true f e i ih = absurd (n .0 e)
-    go false f e zero ih = f
-    go false f e (suc i) ih = ih e i
-
-none-first : (rs : List Refusal) → ((i : ℕ) → getD rs i blank .given ≡ false) → firstOf rs ≡ 0
-unfolding firstOf
-none-first [] h = refl
-none-first (r ∷ rs) h = ap (λ (b : Bool). cond b (r .number) (firstOf rs)) (h 0) ∙ none-first rs (λ i. h (suc i))
-
-first-at : (rs : List Refusal) (i : ℕ) → FirstAt rs i → firstOf rs ≡ getD rs i blank .number
-unfolding firstOf
-first-at [] i f = absurd (omega (arith, f .there))
-first-at (r ∷ rs) zero f = ap (λ (b : Bool). cond b (r .number) (firstOf rs)) (f .holds)
-first-at (r ∷ rs) (suc i) f =
-    ap (λ (b : Bool). cond b (r .number) (firstOf rs)) (f .before 0 (omega arith))
-    ∙ first-at rs i (record { there = omega (arith, f .there); holds = f .holds; before = λ j h. f .before (suc j) (omega arith) })
-
-some-first : (rs : List Refusal) → firstOf rs ≢ 0 → (i : ℕ) × FirstAt rs i
-unfolding firstOf
-some-first [] n = absurd (n refl)
-some-first (r ∷ rs) n = go (r .given) refl n (some-first rs)
-  where
-    go : (b : Bool) → r .given ≡ b → cond b (r .number) (firstOf rs) ≢ 0 → (firstOf rs ≢ 0 → (i : ℕ) × FirstAt rs i) → (i : ℕ) × FirstAt (r ∷ rs) i
-    go true f n ih = (0, record { there = omega arith; holds = f; before = λ j h. absurd (omega arith) })
-    go false f n ih = later (ih n)
-      where
-        behind : (i : ℕ) → FirstAt rs i → (j : ℕ) → j < suc i → getD (r ∷ rs) j blank .given ≡ false
-        behind i x zero h = f
-        behind i x (suc j) h = x .before j (omega arith)
-
-        later : (i : ℕ) × FirstAt rs i → (i : ℕ) × FirstAt (r ∷ rs) i
-        later x = (suc (x .0), record { there = omega (arith, x .1 .there); holds = x .1 .holds; before = behind (x .0) (x .1) })
-
-first-decides : (rs : List Refusal) → Never 0 rs → Decides rs (firstOf rs)
-first-decides rs n = record { accepted = (none-given rs n, none-first rs); refused = first-at rs; some = some-first rs }
 
 -- ---- the answer's number
 pub number-is : (t : Table) (n : ℕ) (c : Call) → outcomeOf t n c .answer .number ≡ n
@@ -107,7 +48,7 @@ step-number t s = number-is t (firstOf (refusals t s)) (callIn s)
 
 pub number-decided : (t : Table) (s : List ℕ) → Decides (refusals t s) (stepOf t s .answer .number)
 unfolding stepOf
-number-decided t s = rw (number-is t (firstOf (refusals t s)) (callIn s)) (first-decides (refusals t s) (numbers t s))
+number-decided t s = rw (number-is t (firstOf (refusals t s)) (callIn s)) (promises .first-decides (refusals t s) (numbers t s))
 
 -- accepted: no condition holds, and the table is well formed
 pub allowed : (t : Table) (s : List ℕ) → stepOf t s .answer .number ≡ 0 → firstOf (refusals t s) ≡ 0
@@ -144,7 +85,7 @@ active-is t n c z = rw (ne-eqb n 1 z) (go (eqb n 0))
 
 not-one : (t : Table) (s : List ℕ) → isWellFormed t ≡ true → firstOf (refusals t s) ≢ 1
 unfolding refusals firstOf
-not-one t s w = rw w (first-not 1 (tail (refusals t s)) (λ e. omega arith)
+not-one t s w = rw w (promises .first-not 1 (tail (refusals t s)) (λ e. omega arith)
     (λ e. omega arith, (λ e. omega arith, (λ e. omega arith, (λ e. omega arith, (λ e. omega arith, (λ e. omega arith, (λ e. omega arith, (λ e. omega arith, (λ e. omega arith, (λ e. omega arith, tt)))))))))))
 
 pub answers-active : (t : Table) (s : List ℕ) → isWellFormed t ≡ true → stepOf t s .answer .active ≡ caller (stepOf t s .table)

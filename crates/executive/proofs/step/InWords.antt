@@ -9,6 +9,7 @@ use native.Mathlib.Nat.{div-div-eq-div-mul}
 use borrow.Author.Tests.{ltb-true, lt-ltb, leb-true, le-leb, eqb-true, eqb-false, eq-eqb, ne-eqb}
 use lib.Dec.{leb, ltb, eqb}
 use lib.ListN.{length, getD}
+use Rattle.records.specs.Firsts.{Refusal, firstOf}
 use Rattle.records.specs.declared.TaskNo.{TaskNo}
 use Rattle.records.specs.declared.FlagNo.{FlagNo}
 use Rattle.records.specs.declared.Kind.{Kind}
@@ -27,7 +28,7 @@ use Rattle.executive.specs.Plans.{caller, stateAt}
 use Rattle.executive.specs.States.{isDormant}
 use Rattle.executive.specs.Check.{isWellFormed}
 use Rattle.executive.specs.Sheet.{noSuchTask, planOf}
-use Rattle.executive.specs.Refusals.{kindOfRecord, callIn, isTick, nobodyActive, badBody, namesCaller, alarmRunning, poolFull, endsTime, overfills, Refusal, refusals, firstOf}
+use Rattle.executive.specs.Refusals.{kindOfRecord, callIn, isTick, nobodyActive, badBody, namesCaller, alarmRunning, poolFull, endsTime, overfills, refusals}
 use Rattle.executive.specs.Step.{stepOf}
 use Rattle.executive.specs.Promises.InWords.{Bit, NoCall, NoTask, BadBody, NamesCaller, AlarmRunning, PoolFull, Case, cases, First, Given}
 use Rattle.executive.proofs.Lists.Tests.{false-not-true}

@@ -6,6 +6,7 @@ use Prim.Native.Nat.{ℕ, _/_, _%_, _≤_, _<_}
 use native.Mathlib.Omega.{arith}
 use borrow.Author.Tests.{eqb-true, eqb-false, ltb-false, leb-false}
 use lib.Dec.{leb, ltb, eqb}
+use Rattle.records.specs.Firsts.{firstOf}
 use Rattle.records.specs.declared.TaskNo.{TaskNo}
 use Rattle.records.specs.declared.Call.{Call}
 use Rattle.records.specs.declared.Call.the-variants as call
@@ -24,7 +25,7 @@ use Rattle.executive.specs.States.{isDormant}
 use Rattle.executive.specs.Plans.{stateAt, nothing}
 use Rattle.executive.specs.WellFormed.{WellFormed}
 use Rattle.executive.specs.Sheet.{planOf, noSuchTask, marks}
-use Rattle.executive.specs.Refusals.{nobodyActive, badBody, namesCaller, poolFull, endsTime, overfills, callRefusals, refusals, firstOf, calledBy, callIn}
+use Rattle.executive.specs.Refusals.{nobodyActive, badBody, namesCaller, poolFull, endsTime, overfills, callRefusals, refusals, calledBy, callIn}
 use Rattle.executive.specs.Step.{noTable, answerOf, hasV, accepted, refused, outcomeOf, performed, stepOf}
 use Rattle.executive.specs.Promises.Demands.{planFor, planOfCall, planOfRecord}
 use Rattle.executive.proofs.Lists.Tests.{false-not-true}

@@ -8,6 +8,7 @@ use mathlib.Core.List.{List, [], _∷_, map}
 use Prim.Native.Nat.{ℕ, _+_, _≤_, _<_}
 use lib.Dec.{eqb}
 use lib.ListN.{length, getD}
+use Rattle.records.specs.Firsts.{Refusal, firstOf, Decides}
 use Rattle.records.specs.declared.Call.{Call}
 use Rattle.records.specs.Numbers.{Bytes}
 use Rattle.executive.specs.declared.State.the-variants.{Ready}
@@ -24,7 +25,7 @@ use Rattle.executive.specs.Clock.{aimAt}
 use Rattle.executive.specs.Plans.{caller, nothing, terminatePlan, restartPlan}
 use Rattle.executive.specs.WellFormed.{WellFormed}
 use Rattle.executive.specs.Check.{Checked}
-use Rattle.executive.specs.Refusals.{Refusal, when, callIn, callRefusals, refusals, firstOf}
+use Rattle.executive.specs.Refusals.{callIn, callRefusals, refusals}
 use Rattle.executive.specs.Sheet.{planOf}
 use Rattle.executive.specs.Promises.InWords.{Given}
 use Rattle.executive.specs.Step.{stepOf, IsNoTable, Steps, StepsCall}
@@ -53,19 +54,6 @@ history t (s ∷ ss) = movesOf (planOfRecord t s) t ∷ history (stepOf t s .tab
 abbrev pub AllBytes : List (List ℕ) → Type 0
 AllBytes [] = Unit {0}
 AllBytes (s ∷ ss) = Bytes s × AllBytes ss
-
--- ---- demand 1: when a number is given
--- the condition at place i holds, and none before it
-pub record FirstAt (rs : List Refusal) (i : ℕ) : Type 0 where
-  pub there : i < length rs
-  pub holds : getD rs i (when 0 false) .given ≡ true
-  pub before : (j : ℕ) → j < i → getD rs j (when 0 false) .given ≡ false
-
--- the number n is that of the first place whose condition holds, and 0 exactly if none holds
-pub record Decides (rs : List Refusal) (n : ℕ) : Type 0 where
-  pub accepted : (n ≡ 0) ↔ ((i : ℕ) → getD rs i (when 0 false) .given ≡ false)
-  pub refused : (i : ℕ) → FirstAt rs i → n ≡ getD rs i (when 0 false) .number
-  pub some : n ≢ 0 → (i : ℕ) × FirstAt rs i
 
 -- task k is ready, by its entry's state
 abbrev pub IsReady : Table → ℕ → Type 0

@@ -1,5 +1,6 @@
 use mathlib.Core.Path.{refl}
-use Rattle.executive.specs.Refusals.{refusalBefore11, firstOf}
+use Rattle.records.specs.Firsts.{firstOf}
+use Rattle.executive.specs.Refusals.{refusalBefore11}
 use borrow.Author.Needs.{needs}
 use Rattle.executive.proofs.Table.refusal.Statement.{statement}
 use Rattle.executive.proofs.Table.refusal.Tie as tie
