@@ -17,20 +17,47 @@ kit_tools() {
     printf '%s/on/%s/toolchain\n' "$(kit_home)" "$machine"
 }
 
+# emulator: sets parts to the folder that has the kit's emulator, or says in one sentence what is missing.
+emulator() {
+    if [ -z "${RATTLE_HOME-}" ] && ! command -v rt >/dev/null 2>&1; then
+        echo "Please put the Rattle kit's command rt on the PATH: the kit's emulator runs x86-64 programs here." >&2
+        return 1
+    fi
+    parts=$(kit_tools)
+    [ -x "$parts/bin/qemu-x86_64" ] && return 0
+    echo "This machine ($machine) is no x86-64, and the Rattle kit's emulator is not at '$parts/bin'." >&2
+    return 1
+}
+
+# run_built PROGRAM [WORDS..]: runs this x86-64 program here, by itself or by the emulator.
+run_built() {
+    if [ $emulated = yes ]; then
+        emulator || return 1
+        set -- "$parts/bin/qemu-x86_64" "$parts/lib/ld-linux-x86-64.so.2" --library-path "$parts/lib" "$@"
+    fi
+    "$@"
+}
+
+# quoted TEXT: prints it as one word of a shell's script, whatever it holds.
+quoted() {
+    printf "'%s'" "$(printf '%s\n' "$1" | sed "s/'/'\\\\''/g")"
+}
+
 # runnable PROGRAM: prints what runs this x86-64 program here: itself, or a script beside it that calls the emulator.
+# The script is put there whole, and only where it is missing or another: whoever runs it meanwhile is not disturbed.
 runnable() {
     [ $emulated = yes ] || {
         printf '%s\n' "$1"
         return
     }
-    parts=$(kit_tools)
-    if [ ! -x "$parts/bin/qemu-x86_64" ]; then
-        echo "This machine ($machine) is no x86-64, and the Rattle kit's emulator is not at '$parts/bin'." >&2
-        return 1
+    emulator || return 1
+    script=$(printf '#!/bin/sh\nexec %s %s --library-path %s %s "$@"' "$(quoted "$parts/bin/qemu-x86_64")" \
+        "$(quoted "$parts/lib/ld-linux-x86-64.so.2")" "$(quoted "$parts/lib")" "$(quoted "$1")")
+    if [ ! -x "$1.emulated" ] || [ "$(cat "$1.emulated")" != "$script" ]; then
+        printf '%s\n' "$script" >"$1.emulated.$$" && chmod +x "$1.emulated.$$" &&
+            mv -f "$1.emulated.$$" "$1.emulated" || return 1
     fi
-    printf '#!/bin/sh\nexec "%s" "%s" --library-path "%s" "%s" "$@"\n' \
-        "$parts/bin/qemu-x86_64" "$parts/lib/ld-linux-x86-64.so.2" "$parts/lib" "$1" >"$1.emulated" &&
-        chmod +x "$1.emulated" && printf '%s\n' "$1.emulated"
+    printf '%s\n' "$1.emulated"
 }
 
 # add_packages PACKAGE..: from the distribution's packages, where this user may.
