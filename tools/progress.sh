@@ -41,7 +41,8 @@ proving() {
             how = /NOT PROVED/ ? "NOT PROVED" : "proved"
             print who ": " $2 " " how took ", " ++i " of " n next_is(i)
             fflush()
-        }' >&2; } 3>&1)
+        }
+        /^rt: target.staticlib/ { print who ": the library is proved and built, " ++i " of " n }' >&2; } 3>&1)
     return "$ended"
 }
 
