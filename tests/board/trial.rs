@@ -5,6 +5,7 @@ mod answer;
 mod book;
 mod counts;
 mod image;
+mod images;
 mod library;
 mod linked;
 mod listing;
@@ -30,6 +31,7 @@ const USAGE: &str = "usage: trial [--steps N] [--seed S] [--fault NAME]
        trial --account [--steps N] [--seed S] [--fault NAME]
        trial --instructions [--steps N] [--seed S]
        trial --listing < input
+       trial --images N
        trial --passes WAY MIX N
        trial --speed [--rounds N]";
 
@@ -83,6 +85,7 @@ fn asked(library: &mut Library, words: &[&str]) -> Option<bool> {
             passes.parse().ok().and_then(|passes| speed::passes(library, way, mix, passes))
         }
         ["--listing"] => Some(listing::listing(library)),
+        ["--images", many] => many.parse().ok().map(|many| images::images(library, many)),
         // a part of a trial, too short to meet everything
         ["--part", options @ ..] => options_of(options)
             .map(|(steps, seed, wrong)| walked(&mut Trial::new(library, seed, wrong), steps).is_some()),

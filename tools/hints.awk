@@ -1,5 +1,5 @@
 # What is wrong with a configuration that gave 'stop 2': its bytes as numbers (od -An -v -tu1), to one sentence.
-# The file's name is in the environment, as bench_file.
+# The file's name is in the environment, as named.
 
 function tell(words) {
     printf "bench: %s\n", words
@@ -41,6 +41,6 @@ function judge(    i, tasks) {
 
 END {
     if (looks_like_hex())
-        tell("\047" ENVIRON["bench_file"] "\047 looks like hex, and was taken as it is; say --hex, or name it .hex.")
+        tell("\047" ENVIRON["named"] "\047 looks like hex, and was taken as it is; say --hex, or name it .hex.")
     judge()
 }

@@ -1,9 +1,9 @@
 # Hex with comments, its bytes as numbers (od -An -v -tu1), to printf formats in octal, 64 bytes a line.
 # A line ends with LF, CR or both. What is no hex is told on standard error with its line, and the status is 1.
-# name: the file's name in the environment, as bench_file.
+# Who reads which file stands in the environment, as who and named.
 
 function stop(why) {
-    printf "bench: \047%s\047, line %d: %s.\n", ENVIRON["bench_file"], line, why | "cat >&2"
+    printf "%s: \047%s\047, line %d: %s.\n", ENVIRON["who"], ENVIRON["named"], line, why | "cat >&2"
     failed = 1
     exit 1
 }

@@ -1,0 +1,142 @@
+//! A table, read from its image; any bytes are read, and what they break is for the rules to tell.
+
+use crate::places::*;
+
+/// What a task is doing. A state byte that no table has is kept as it is.
+#[derive(Clone, Copy, PartialEq, Eq)]
+pub enum State {
+    Dormant,
+    Ready,
+    Paused(u64),
+    Due(u64),
+    Any(u32),
+    All(u32),
+    AwaitStart,
+    AwaitEnd,
+    Stray(u8),
+}
+
+/// A task's entry; time and mask also where its state has none.
+#[derive(Clone)]
+pub struct Task {
+    pub own: u8,
+    pub state: State,
+    pub time: u64,
+    pub mask: u32,
+    pub priority: u8,
+    pub argument: u16,
+    pub start: u64,
+    pub end_waiter: u8,
+}
+
+/// A place of the pool.
+#[derive(Clone)]
+pub struct Request {
+    pub target: u8,
+    pub priority: u8,
+    pub argument: u16,
+    pub start_waiter: u8,
+    pub end_waiter: u8,
+}
+
+/// The whole table: all entries, places and alarms, also those that are free.
+#[derive(Clone)]
+pub struct Table {
+    pub tasks: Vec<Task>,
+    pub queue: Vec<u8>,
+    pub ready: u8,
+    pub count: u8,
+    pub granule: u8,
+    pub queued: u8,
+    pub clock: u64,
+    pub flags: u32,
+    pub alarms: Vec<u64>,
+    pub pool: Vec<Request>,
+}
+
+pub fn read(image: &[u8]) -> Table {
+    Table {
+        tasks: (0..ENTRIES.many).map(|i| task(image, i)).collect(),
+        queue: (0..QUEUE.many).map(|i| QUEUE.part(i, QUEUE_TASK).byte(image)).collect(),
+        ready: READY.byte(image),
+        count: COUNT.byte(image),
+        granule: GRANULE.byte(image),
+        queued: QUEUED.byte(image),
+        clock: CLOCK.number(image),
+        flags: FLAGS.number(image) as u32,
+        alarms: (0..ALARMS.many).map(|i| ALARMS.part(i, ALARM_TIME).number(image)).collect(),
+        pool: (0..POOL.many).map(|i| request(image, i)).collect(),
+    }
+}
+
+fn task(image: &[u8], i: usize) -> Task {
+    let number = |part| ENTRIES.part(i, part).number(image);
+    let (time, mask) = (number(TIME), number(MASK) as u32);
+    Task {
+        own: number(OWN) as u8,
+        state: state(number(STATE) as u8, time, mask),
+        time,
+        mask,
+        priority: number(PRIORITY) as u8,
+        argument: number(ARGUMENT) as u16,
+        start: number(START),
+        end_waiter: number(END_WAITER) as u8,
+    }
+}
+
+fn state(byte: u8, time: u64, mask: u32) -> State {
+    match byte {
+        0 => State::Dormant,
+        1 => State::Ready,
+        2 => State::Paused(time),
+        3 => State::Due(time),
+        4 => State::Any(mask),
+        5 => State::All(mask),
+        6 => State::AwaitStart,
+        7 => State::AwaitEnd,
+        stray => State::Stray(stray),
+    }
+}
+
+fn request(image: &[u8], i: usize) -> Request {
+    let number = |part| POOL.part(i, part).number(image);
+    Request {
+        target: number(TARGET) as u8,
+        priority: number(RUN_PRIORITY) as u8,
+        argument: number(RUN_ARGUMENT) as u16,
+        start_waiter: number(START_WAITER) as u8,
+        end_waiter: number(RUN_END_WAITER) as u8,
+    }
+}
+
+impl Table {
+    /// The entry of a task, where the number is one.
+    pub fn task(&self, number: u8) -> Option<&Task> {
+        self.tasks.get(usize::from(number).checked_sub(1)?)
+    }
+
+    /// The state of a task; that of no task is dormant.
+    pub fn state(&self, number: u8) -> State {
+        self.task(number).map_or(State::Dormant, |task| task.state)
+    }
+
+    /// The tasks' numbers.
+    pub fn numbers(&self) -> std::ops::RangeInclusive<u8> {
+        1..=self.count.min(ENTRIES.many as u8)
+    }
+
+    /// The ready queue, head first.
+    pub fn line(&self) -> &[u8] {
+        &self.queue[..usize::from(self.ready).min(QUEUE.many)]
+    }
+
+    /// The queued requests, in the order of asking.
+    pub fn requests(&self) -> &[Request] {
+        &self.pool[..usize::from(self.queued).min(POOL.many)]
+    }
+
+    /// The active task, 0 when idle.
+    pub fn active(&self) -> u8 {
+        self.line().first().copied().unwrap_or(0)
+    }
+}

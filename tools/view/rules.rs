@@ -1,0 +1,260 @@
+//! The rules of a table (docs/TABLE.md): which of them some bytes break, and where.
+
+use crate::image::{Request, State, Table, Task};
+use crate::places::*;
+
+/// The rules, in document 01's order; before them what makes bytes an image at all.
+pub const RULES: [&str; 10] = [
+    "an image has no byte that no stored table has there",
+    "every number is in range",
+    "the ready queue holds exactly the ready tasks, once each, in descending priority",
+    "every stored time is after the clock, and at most 22,032,000,000 ms after it",
+    "every last scheduled start is at or before the clock",
+    "a wait's mask is not 0, and its condition is false now",
+    "queued requests name busy tasks only",
+    "a waiter that is named is another task in the matching state, and each such state is named once",
+    "a dormant task holds zeros but for its own priority",
+    "entries past the task count and free places are zero",
+];
+
+/// A rule that is broken, the first byte of the number that breaks it, and how.
+pub struct Broken {
+    pub rule: usize,
+    pub at: usize,
+    pub why: String,
+}
+
+/// All that is broken, in the order of the rules.
+pub fn broken(table: &Table) -> Vec<Broken> {
+    let mut found = Found { table, list: Vec::new() };
+    found.strays();
+    found.numbers();
+    found.requests_in_range();
+    found.queue();
+    found.times();
+    found.starts();
+    found.waits();
+    found.targets();
+    found.links();
+    found.dormant();
+    found.free();
+    found.list
+}
+
+struct Found<'a> {
+    table: &'a Table,
+    list: Vec<Broken>,
+}
+
+impl Found<'_> {
+    /// Notes that a rule is broken, unless it is right.
+    fn rule(&mut self, rule: usize, right: bool, at: Place, why: impl Fn() -> String) {
+        if !right {
+            self.list.push(Broken { rule, at: at.from, why: why() });
+        }
+    }
+
+    fn is_task(&self, number: u8) -> bool {
+        self.table.numbers().contains(&number)
+    }
+
+    /// The entries with their places and numbers.
+    fn entries(&self) -> Vec<(usize, u8, Task)> {
+        self.table.tasks.iter().cloned().enumerate().map(|(i, task)| (i, i as u8 + 1, task)).collect()
+    }
+
+    fn strays(&mut self) {
+        for (i, k, task) in self.entries() {
+            if let State::Stray(byte) = task.state {
+                self.rule(0, false, ENTRIES.part(i, STATE), || format!("task {k} has the state {byte}, which is none"));
+            }
+            let timed = matches!(task.state, State::Paused(_) | State::Due(_));
+            let time = task.time;
+            self.rule(0, timed || time == 0, ENTRIES.part(i, TIME), || {
+                format!("task {k} is neither paused nor due, and has the time {time}")
+            });
+            let waits = matches!(task.state, State::Any(_) | State::All(_));
+            let mask = task.mask;
+            self.rule(0, waits || mask == 0, ENTRIES.part(i, MASK), || {
+                format!("task {k} waits for no flags, and has the mask {mask:08X}")
+            });
+        }
+    }
+
+    fn numbers(&mut self) {
+        let (count, granule, clock) = (self.table.count, self.table.granule, self.table.clock);
+        let (ready, queued) = (usize::from(self.table.ready), usize::from(self.table.queued));
+        let counted = (1..=ENTRIES.many).contains(&usize::from(count));
+        self.rule(1, counted, COUNT, || format!("the task count is {count}, and not 1 to 16"));
+        self.rule(1, granule > 0, GRANULE, || "the granule is 0".to_string());
+        self.rule(1, clock <= END_OF_TIME, CLOCK, || format!("the clock is {clock} ms, past 2^40"));
+        self.rule(1, ready <= QUEUE.many, READY, || format!("{ready} places of the queue are taken, of 16"));
+        self.rule(1, queued <= POOL.many, QUEUED, || format!("{queued} places of the pool are taken, of 32"));
+        for (i, k, task) in self.entries() {
+            let (own, priority, waiter) = (task.own, task.priority, task.end_waiter);
+            self.rule(1, own <= HIGHEST, ENTRIES.part(i, OWN), || format!("task {k} has the own priority {own}"));
+            self.rule(1, priority <= HIGHEST, ENTRIES.part(i, PRIORITY), || {
+                format!("task {k} runs at priority {priority}")
+            });
+            self.rule(1, waiter == 0 || self.is_task(waiter), ENTRIES.part(i, END_WAITER), || {
+                format!("task {waiter}, which is none, waits for the end of task {k}'s run")
+            });
+        }
+    }
+
+    /// The queued requests, with their places.
+    fn requests(&self) -> Vec<(usize, Request)> {
+        self.table.requests().iter().cloned().enumerate().collect()
+    }
+
+    fn requests_in_range(&mut self) {
+        for (i, request) in self.requests() {
+            let (n, target, priority) = (i + 1, request.target, request.priority);
+            self.rule(1, self.is_task(target), POOL.part(i, TARGET), || {
+                format!("request {n} is for task {target}, which is none")
+            });
+            self.rule(1, priority <= HIGHEST, POOL.part(i, RUN_PRIORITY), || {
+                format!("request {n} has the priority {priority}")
+            });
+            for (waiter, part) in [(request.start_waiter, START_WAITER), (request.end_waiter, RUN_END_WAITER)] {
+                self.rule(1, waiter == 0 || self.is_task(waiter), POOL.part(i, part), || {
+                    format!("request {n} names task {waiter}, which is none, as its waiter")
+                });
+            }
+        }
+    }
+
+    fn queue(&mut self) {
+        let line = self.table.line().to_vec();
+        for (i, &k) in line.iter().enumerate() {
+            let at = QUEUE.part(i, QUEUE_TASK);
+            self.rule(2, self.is_task(k), at, || format!("place {} of the queue holds {k}, which is no task", i + 1));
+            self.rule(2, !self.is_task(k) || self.table.state(k) == State::Ready, at, || {
+                format!("task {k} stands in the queue and is not ready")
+            });
+            self.rule(2, !line[..i].contains(&k), at, || format!("task {k} stands in the queue twice"));
+            let level = |k: u8| self.table.task(k).map_or(0, |task| task.priority);
+            let rises = i > 0 && level(line[i - 1]) < level(k);
+            self.rule(2, !rises, at, || format!("task {k} stands behind one of lower priority"));
+        }
+        for (i, k, task) in self.entries() {
+            self.rule(2, task.state != State::Ready || line.contains(&k), ENTRIES.part(i, STATE), || {
+                format!("task {k} is ready and does not stand in the queue")
+            });
+        }
+    }
+
+    fn times(&mut self) {
+        let clock = self.table.clock;
+        let ahead = |time: u64| time > clock && time - clock <= LONGEST;
+        for (i, k, task) in self.entries() {
+            if let State::Paused(time) | State::Due(time) = task.state {
+                self.rule(3, ahead(time), ENTRIES.part(i, TIME), || {
+                    format!("task {k} is paused or due until {time} ms, and the clock is {clock} ms")
+                });
+            }
+        }
+        for (n, time) in self.table.alarms.clone().into_iter().enumerate() {
+            self.rule(3, time == 0 || ahead(time), ALARMS.part(n, ALARM_TIME), || {
+                format!("the alarm of flag {n} is for {time} ms, and the clock is {clock} ms")
+            });
+        }
+    }
+
+    fn starts(&mut self) {
+        let clock = self.table.clock;
+        for (i, k, task) in self.entries() {
+            self.rule(4, task.start <= clock, ENTRIES.part(i, START), || {
+                format!("task {k}'s last scheduled start is {} ms, and the clock is {clock} ms", task.start)
+            });
+        }
+    }
+
+    fn waits(&mut self) {
+        let flags = self.table.flags;
+        for (i, k, task) in self.entries() {
+            let (mask, met) = match task.state {
+                State::Any(mask) => (mask, flags & mask != 0),
+                State::All(mask) => (mask, flags & mask == mask),
+                _ => continue,
+            };
+            let at = ENTRIES.part(i, MASK);
+            self.rule(5, mask != 0, at, || format!("task {k} waits for flags, and for none"));
+            self.rule(5, mask == 0 || !met, at, || format!("task {k} waits for flags that are set: {mask:08X}"));
+        }
+    }
+
+    fn targets(&mut self) {
+        for (i, request) in self.requests() {
+            let dormant = self.is_task(request.target) && self.table.state(request.target) == State::Dormant;
+            self.rule(6, !dormant, POOL.part(i, TARGET), || {
+                format!("request {} is for task {}, which is dormant", i + 1, request.target)
+            });
+        }
+    }
+
+    /// Every link: who holds it, which waiter it names, where it stands and the state it asks for.
+    fn all_links(&self) -> Vec<(u8, u8, Place, State)> {
+        let runs = self.entries().into_iter();
+        let runs = runs.map(|(i, k, task)| (k, task.end_waiter, ENTRIES.part(i, END_WAITER), State::AwaitEnd));
+        let requests = self.requests().into_iter().flat_map(|(i, request)| {
+            [
+                (request.target, request.start_waiter, POOL.part(i, START_WAITER), State::AwaitStart),
+                (request.target, request.end_waiter, POOL.part(i, RUN_END_WAITER), State::AwaitEnd),
+            ]
+        });
+        runs.chain(requests).filter(|(_, waiter, ..)| *waiter != 0).collect()
+    }
+
+    fn links(&mut self) {
+        let links = self.all_links();
+        for (i, &(holder, waiter, at, state)) in links.iter().enumerate() {
+            self.rule(7, waiter != holder, at, || format!("task {waiter} is named as its own waiter"));
+            self.rule(7, !self.is_task(waiter) || self.table.state(waiter) == state, at, || {
+                format!("task {waiter} is named as a waiter, and does not wait so")
+            });
+            let before = links[..i].iter().any(|link| link.1 == waiter);
+            self.rule(7, !before, at, || format!("task {waiter} is named as a waiter twice"));
+        }
+        for (i, request) in self.requests() {
+            let one = request.start_waiter == 0 || request.end_waiter == 0;
+            self.rule(7, one, POOL.part(i, START_WAITER), || format!("request {} names two waiters", i + 1));
+        }
+        for (i, k, task) in self.entries() {
+            let waits = matches!(task.state, State::AwaitStart | State::AwaitEnd);
+            let named = links.iter().any(|link| link.1 == k);
+            self.rule(7, !waits || named, ENTRIES.part(i, STATE), || {
+                format!("task {k} waits for a start or an end, and nobody names it")
+            });
+        }
+    }
+
+    fn dormant(&mut self) {
+        for (i, k, task) in self.entries() {
+            let zero = task.priority == 0 && task.argument == 0 && task.start == 0 && task.end_waiter == 0;
+            self.rule(8, task.state != State::Dormant || zero, ENTRIES.part(i, PRIORITY), || {
+                format!("task {k} is dormant, and its entry holds more than its own priority")
+            });
+        }
+    }
+
+    fn free(&mut self) {
+        for (i, k, task) in self.entries().into_iter().skip(usize::from(self.table.count)) {
+            self.rule(9, task.state == State::Dormant && task.own == 0, ENTRIES.part(i, OWN), || {
+                format!("there is no task {k}, and its entry is not zero")
+            });
+        }
+        for (i, k) in self.table.queue.clone().into_iter().enumerate().skip(usize::from(self.table.ready)) {
+            self.rule(9, k == 0, QUEUE.part(i, QUEUE_TASK), || {
+                format!("place {} of the queue is free, and not 0", i + 1)
+            });
+        }
+        let pool = self.table.pool.clone().into_iter().enumerate();
+        for (i, place) in pool.skip(usize::from(self.table.queued)) {
+            let parts = [place.target, place.priority, place.start_waiter, place.end_waiter];
+            self.rule(9, parts == [0; 4] && place.argument == 0, POOL.part(i, TARGET), || {
+                format!("place {} of the pool is free, and not zero", i + 1)
+            });
+        }
+    }
+}

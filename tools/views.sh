@@ -1,0 +1,39 @@
+# The programs that tell of tables and runs (tools/view): sourced by ./table, ./bench and their tests. Whoever sources it
+# has sourced tools/setup.sh and tools/targets.sh, and has the repository's folder in root.
+
+# newer_than FILE PATH..: true where the file is missing, or something under the paths is newer.
+newer_than() (
+    file=$1
+    shift
+    [ ! -x "$file" ] || [ -n "$(find "$@" -type f -newer "$file")" ]
+)
+
+# room_for FOLDER: makes it, or says in one sentence that it cannot be.
+room_for() {
+    { mkdir -p "$1" && [ -w "$1" ]; } 2>/dev/null && return 0
+    echo "The folder '$1' cannot be written to, and something must be built there." >&2
+    return 1
+}
+
+# view_program: builds the program that tells, in seconds, where it is missing or older; prints where it is.
+view_program() (
+    program=$root/target/view/view
+    if newer_than "$program" "$root/tools/view"; then
+        need rustc rustc && room_for "$root/target/view" && rust rustc -O --edition 2021 -D warnings \
+            -o "$program.$$" "$root/tools/view/main.rs" && mv -f "$program.$$" "$program" || return 1
+    fi >&2
+    printf '%s\n' "$program"
+)
+
+# calls_program: proves the board library where that is to be done, and builds the program that calls it for the one that
+# tells; prints where it is.
+calls_program() (
+    program=$root/target/view/calls
+    cd "$root" && room_for target/view && tools/module board >&2 || return 1
+    if newer_than "$program" target/module/board.ll tests/board include; then
+        need cc gcc && library=$(native_library) &&
+            cc -O2 -Iinclude -o "$program.$$" tests/board/calls.c tests/board/stdio.c "$library/libboard.a" &&
+            mv -f "$program.$$" "$program" || return 1
+    fi >&2
+    printf '%s\n' "$program"
+)
