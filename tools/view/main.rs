@@ -3,12 +3,15 @@
 mod image;
 mod judge;
 mod library;
+mod picture;
 mod places;
 mod records;
 mod rules;
 mod run;
+mod svg;
 mod table;
 mod trace;
+mod tracks;
 mod words;
 
 use library::Library;
@@ -20,6 +23,7 @@ use words::Names;
 const USAGE: &str = "usage: view table NAMES < image
        view judge < images
        view trace NAMES < input
+       view picture TITLE < trace
        view image STEP < input";
 
 fn main() -> ExitCode {
@@ -46,6 +50,7 @@ fn told(words: &[&str]) -> Result<(Vec<u8>, bool), String> {
         ["table", names] => table::table(&input()?, &Names::new(names)).map(|(text, right)| (text.into(), right)),
         ["judge"] => judge::judge(&input()?).map(|text| (text.into(), true)),
         ["trace", names] => Ok((trace::trace(&run()?, &Names::new(names)).into(), true)),
+        ["picture", title] => picture_of(&input()?, title).map(|picture| (picture.into(), true)),
         ["image", step] => image_after(&run()?, step).map(|image| (image, true)),
         _ => Err(USAGE.to_string()),
     }
@@ -59,6 +64,12 @@ fn input() -> Result<Vec<u8>, String> {
 
 fn run() -> Result<Run, String> {
     Run::of(&input()?, &mut Library::open()?)
+}
+
+/// The picture of a trace.
+fn picture_of(trace: &[u8], title: &str) -> Result<String, String> {
+    let text = std::str::from_utf8(trace).map_err(|_| "the trace is no text.".to_string())?;
+    Ok(picture::picture(&tracks::tracks(text)?, title))
 }
 
 /// The image after a step; after step 0 the fresh one.

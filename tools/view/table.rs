@@ -116,7 +116,7 @@ pub fn state(table: &Table, k: u8, state: State, names: &Names) -> String {
 
 /// Whose start or end a task waits for: of a run, or of the run that a queued request begins.
 fn awaited(table: &Table, k: u8, what: &str, names: &Names) -> String {
-    let run = table.numbers().find(|other| table.task(*other).map_or(false, |task| task.end_waiter == k));
+    let run = (1..).zip(&table.tasks).find(|(_, task)| task.end_waiter == k).map(|(other, _)| other);
     let asked = table.requests().iter().position(|request| request.start_waiter == k || request.end_waiter == k);
     match (run, asked) {
         (Some(other), _) if what == "end" => format!("waits for the end of {}'s run", names.task(other)),
