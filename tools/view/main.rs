@@ -1,10 +1,13 @@
 //! Tables and runs for people: an image in words, a run's trace, the run explained, a picture of it.
 
+mod calls;
+mod explain;
 mod image;
 mod judge;
 mod library;
 mod picture;
 mod places;
+mod reasons;
 mod records;
 mod rules;
 mod run;
@@ -23,6 +26,7 @@ use words::Names;
 const USAGE: &str = "usage: view table NAMES < image
        view judge < images
        view trace NAMES < input
+       view explain NAMES < input
        view picture TITLE < trace
        view image STEP < input";
 
@@ -50,6 +54,7 @@ fn told(words: &[&str]) -> Result<(Vec<u8>, bool), String> {
         ["table", names] => table::table(&input()?, &Names::new(names)).map(|(text, right)| (text.into(), right)),
         ["judge"] => judge::judge(&input()?).map(|text| (text.into(), true)),
         ["trace", names] => Ok((trace::trace(&run()?, &Names::new(names)).into(), true)),
+        ["explain", names] => Ok((explain::explain(&run()?, &Names::new(names)).into(), true)),
         ["picture", title] => picture_of(&input()?, title).map(|picture| (picture.into(), true)),
         ["image", step] => image_after(&run()?, step).map(|image| (image, true)),
         _ => Err(USAGE.to_string()),

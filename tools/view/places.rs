@@ -67,6 +67,7 @@ pub const NUMBER: Place = place(0, 1);
 pub const Z: Place = place(1, 1);
 pub const V: Place = place(2, 1);
 pub const C: Place = place(3, 1);
+pub const SKIPPED: Place = place(8, 8);
 
 /// The bounds of the numbers.
 pub const HIGHEST: u8 = 15;

@@ -2,7 +2,7 @@
 
 use crate::image::{read, Table};
 use crate::library::Library;
-use crate::places::{C, NUMBER, V, Z};
+use crate::places::{C, NUMBER, SKIPPED, V, Z};
 use crate::records::{configuration, cut};
 
 /// The longest input that the bench takes.
@@ -15,6 +15,7 @@ pub struct Step {
     pub z: bool,
     pub v: bool,
     pub c: bool,
+    pub skipped: u64,
     pub image: Vec<u8>,
     pub table: Table,
 }
@@ -51,11 +52,18 @@ impl Run {
                 z: Z.byte(&answer) != 0,
                 v: V.byte(&answer) != 0,
                 c: C.byte(&answer) != 0,
+                skipped: SKIPPED.number(&answer),
                 image: image.clone(),
                 table: read(&image),
             });
             rest = more;
         }
         Ok(run)
+    }
+
+    /// The steps, each with the table before it.
+    pub fn steps(&self) -> Vec<(Table, &Step)> {
+        let before = std::iter::once(read(&self.fresh)).chain(self.steps.iter().map(|step| step.table.clone()));
+        before.zip(&self.steps).collect()
     }
 }

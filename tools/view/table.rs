@@ -94,8 +94,8 @@ fn in_words(table: &Table, k: u8, task: &Task, names: &Names) -> String {
     words
 }
 
-/// What a task is doing, in words that follow its name and `is` or a colon.
-pub fn state(table: &Table, k: u8, state: State, names: &Names) -> String {
+/// What a task is doing.
+fn state(table: &Table, k: u8, state: State, names: &Names) -> String {
     match state {
         State::Dormant => "dormant".to_string(),
         State::Ready if table.active() == k => "active".to_string(),

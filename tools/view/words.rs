@@ -63,8 +63,11 @@ pub fn listed(words: impl Iterator<Item = String>) -> String {
     words.collect::<Vec<_>>().join(", ")
 }
 
-/// Milliseconds as a person says them: `0.25 s`, `1 min 5 s`, `30 d`.
+/// Milliseconds as a person says them: `15 ms`, `0.25 s`, `1 min 5 s`, `30 d`.
 pub fn time(ms: u64) -> String {
+    if (1..100).contains(&ms) {
+        return format!("{ms} ms");
+    }
     let parts = [(86_400_000, "d"), (3_600_000, "h"), (60_000, "min")];
     let mut rest = ms;
     let mut said = Vec::new();
