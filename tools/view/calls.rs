@@ -27,7 +27,7 @@ pub fn call(record: &[u8], start: u64, names: &Names) -> String {
         0x00 => "ends its run".to_string(),
         0x01 => restart(body[0], body[1], start),
         0x02 => format!("pauses for {}", interval(body[0], body[1])),
-        0x03 => format!("cuts the pause of {} short", names.task(body[0])),
+        0x03 => format!("cancels the pause of {}", names.task(body[0])),
         0x04 => format!("starts {} at {}", names.task(body[1]), priority(body[0])),
         0x05 => request(body, names),
         0x09 => format!("{} {}", operation(body[0]), names.flag(body[1])),

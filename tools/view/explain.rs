@@ -65,10 +65,13 @@ fn came(before: &Table, step: &Step, names: &Names) -> Vec<String> {
         0x09 => flagged(step.c, body[0] != 2 && step.z),
         0x0A if step.z => vec!["that is so already, so there is no wait".to_string()],
         0x0B if body[1] == 0 => flagged(step.c, step.z),
-        0x0B => vec![format!("its alarm is set for {}", time(step.table.alarms[usize::from(body[2])]))],
+        0x0B => {
+            let already = if step.c { ", and it is set already" } else { "" };
+            vec![format!("its alarm is set for {}{already}", time(step.table.alarms[usize::from(body[2])]))]
+        }
         0x80 => {
             let risen = step.table.flags & !before.flags;
-            let risen = if risen == 0 { None } else { Some(format!("{} set by an alarm", names.flags(risen))) };
+            let risen = if risen == 0 { None } else { Some(format!("set by an alarm: {}", names.flags(risen))) };
             risen.into_iter().collect()
         }
         _ => Vec::new(),
@@ -91,7 +94,8 @@ fn restarted(before: &Table, step: &Step, names: &Names) -> Vec<String> {
     let caller = before.active();
     let mut words = Vec::new();
     if step.skipped > 0 {
-        words.push(format!("{} missed starts are passed over", grouped(step.skipped)));
+        let (missed, are) = if step.skipped == 1 { ("start", "is") } else { ("starts", "are") };
+        words.push(format!("{} missed {missed} {are} passed over", grouped(step.skipped)));
     }
     if let (State::Ready, Some(task)) = (step.table.state(caller), step.table.task(caller)) {
         words.push(match step.v {
