@@ -15,11 +15,12 @@ room_for() {
     return 1
 }
 
-# view_program: builds the program that tells, in seconds, where it is missing or older; prints where it is.
+# view_program: builds the program that tells where it is missing or older; prints where it is. It is not optimised:
+# that would take four times as long, for whoever waits for a table.
 view_program() (
     program=$root/target/view/view
     if newer_than "$program" "$root/tools/view"; then
-        need rustc rustc && room_for "$root/target/view" && rust rustc -O --edition 2021 -D warnings \
+        need rustc rustc && room_for "$root/target/view" && rust rustc --edition 2021 -D warnings \
             -o "$program.$$" "$root/tools/view/main.rs" && mv -f "$program.$$" "$program" || return 1
     fi >&2
     printf '%s\n' "$program"

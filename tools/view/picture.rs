@@ -22,6 +22,8 @@ const FLAG: f64 = 14.0;
 /// The widths of a column, of a tick and of a call, before they are scaled.
 const TICK: f64 = 6.0;
 const CALL: f64 = 12.0;
+/// As many quiet ticks in a row have their full width.
+const QUIET: f64 = 24.0;
 /// The width that a short run is scaled to.
 const WHOLE: f64 = 470.0;
 const MARGIN: f64 = 8.0;
@@ -63,8 +65,8 @@ fn columns(tracks: &Tracks, flags: &[u8]) -> Vec<f64> {
     let tasks = tracks.tasks.iter().map(|name| width(name, 10.0));
     let names = tasks.chain(flags.iter().map(|n| width(&tracks.flag(*n), 9.0))).chain([width(REQUESTS, 9.0)]);
     let left = names.fold(0.0, f64::max) + 2.0 * MARGIN;
-    let widths = tracks.lines.iter().map(|line| if line.is_tick() { TICK } else { CALL });
-    let sum: f64 = widths.clone().sum();
+    let widths = widths(&tracks.lines);
+    let sum: f64 = widths.iter().sum();
     let scale = ((WHOLE - left - MARGIN) / sum).clamp(0.9, 2.0);
     let mut at = left;
     let mut columns = vec![left];
@@ -73,6 +75,23 @@ fn columns(tracks: &Tracks, flags: &[u8]) -> Vec<f64> {
         columns.push(at);
     }
     columns
+}
+
+/// The width of each column, before it is scaled. Many ticks in a row that change nothing are drawn closer together.
+fn widths(lines: &[Line]) -> Vec<f64> {
+    let quiet = |i: usize| i > 0 && lines[i].is_tick() && lines[i].shows_as(&lines[i - 1]);
+    let mut widths = Vec::with_capacity(lines.len());
+    while widths.len() < lines.len() {
+        let from = widths.len();
+        let many = (from..lines.len()).take_while(|i| quiet(*i)).count();
+        if many > 0 {
+            let width = TICK * f64::min(1.0, QUIET / many as f64);
+            widths.resize(from + many, width);
+        } else {
+            widths.push(if lines[from].is_tick() { TICK } else { CALL });
+        }
+    }
+    widths
 }
 
 impl Picture<'_> {
@@ -92,9 +111,14 @@ impl Picture<'_> {
     /// Shades the ticks, and writes the time above as often as it fits.
     fn ticks(&mut self) {
         let lines = &self.tracks.lines;
-        for (i, _) in lines.iter().enumerate().filter(|(_, line)| line.is_tick()) {
-            let size = (self.columns[i + 1] - self.columns[i], self.bottom() - TOP + 4.0);
-            self.svg.rect((self.columns[i], TOP - 4.0), size, "class=\"tick\"", "");
+        let mut from = 0;
+        while from < lines.len() {
+            let many = lines[from..].iter().take_while(|line| line.is_tick()).count();
+            if many > 0 {
+                let size = (self.columns[from + many] - self.columns[from], self.bottom() - TOP + 4.0);
+                self.svg.rect((self.columns[from], TOP - 4.0), size, "class=\"tick\"", "");
+            }
+            from += many.max(1);
         }
         let labels = labels(lines, &self.columns);
         for (x, label) in labels {
@@ -242,7 +266,8 @@ impl Picture<'_> {
             x += long;
         }
         let refused = self.tracks.lines.iter().any(|line| line.number != 0 && !line.is_tick());
-        let dots = [(true, "class=\"dot\"", "a call"), (refused, REFUSED, "a refused call, with its number")];
+        let called = self.tracks.lines.iter().any(|line| line.number == 0 && !line.is_tick());
+        let dots = [(called, "class=\"dot\"", "a call"), (refused, REFUSED, "a refused call, with its number")];
         for (_, look, words) in dots.into_iter().filter(|(met, ..)| *met) {
             let long = 13.0 + width(words, 9.0) + 7.0;
             if x + long > whole {

@@ -119,4 +119,9 @@ impl Line {
     pub fn is_tick(&self) -> bool {
         matches!(self.record.first(), None | Some(0x80))
     }
+
+    /// Whether it is seen to be as another: nobody's state, no flag and no request has changed.
+    pub fn shows_as(&self, other: &Line) -> bool {
+        self.looks == other.looks && self.flags == other.flags && self.queued == other.queued
+    }
 }
