@@ -1,5 +1,5 @@
-# How a command reads its file: sourced by ./bench and ./table. Whoever sources it has refuse, the repository's folder in
-# root, and what it is called in who.
+# How a command reads its file: sourced by ./bench and ./table. Whoever sources it has refuse, the repository's folder
+# in root, and what it is called in who.
 
 # work_folder: makes work, a temporary folder, which is gone when the command ends.
 work_folder() {
@@ -20,8 +20,8 @@ bytes_of() {
 most=65537 # a byte more than the bench takes
 
 # read_input FILE HEX: the bytes of a file, or of standard input (-), in work/input: of hex where HEX is yes or its name
-# ends so, else as they are. They pass through a file, so that a read that fails is seen. Sets named, the file's name for
-# a sentence.
+# ends so, else as they are. They pass through a file, so that a read that fails is seen. Sets named, the file's name
+# for a sentence.
 read_input() {
     named=$1 hex=$2
     case $1 in

@@ -46,8 +46,8 @@ proving() {
     return "$ended"
 }
 
-# counted TOTAL: what rt says, as it comes; each crate and each must-fail edit that is done is counted. A tally is marked
-# as rt's own.
+# counted TOTAL: what rt says, as it comes; each crate and each must-fail edit that is done is counted. A tally is
+# marked as rt's own.
 counted() {
     awk -v total="$1" '
         /^[0-9]+ passed, [0-9]+ failed$/ { $0 = "rt: " $0 }

@@ -86,12 +86,13 @@ make_library() (
         awk '$1 == "stack" { print toupper($2) "_STACK = " $3 ";" }' "$out/figures" >"$out/quermanic-stack.ld"
 )
 
-# native_library: prints the folder of the board library for this machine: the kit's own, or the same module compiled
-# for it.
+# native_library [FOLDER]: prints the folder of the board library for this machine: the kit's own, or the same module
+# compiled for it, in FOLDER or among the targets.
 native_library() (
+    out=${1-target/targets/aarch64-linux}
     case $machine in
     x86_64 | amd64) echo target/staticlib ;;
-    aarch64) make_library aarch64-linux target/targets/aarch64-linux >&2 && echo target/targets/aarch64-linux ;;
+    aarch64) make_library aarch64-linux "$out" >&2 && echo "$out" ;;
     *) echo "There is no target for this machine, $machine." >&2 && return 1 ;;
     esac
 )

@@ -1,5 +1,5 @@
-# The programs that tell of tables and runs (tools/view): sourced by ./table, ./bench and their tests. Whoever sources it
-# has sourced tools/setup.sh and tools/targets.sh, and has the repository's folder in root.
+# The programs that tell of tables and runs (tools/view): sourced by ./table, ./bench and their tests. Whoever sources
+# it has sourced tools/setup.sh and tools/targets.sh, and has the repository's folder in root.
 
 # newer_than FILE PATH..: true where the file is missing, or something under the paths is newer.
 newer_than() (
@@ -26,15 +26,19 @@ view_program() (
     printf '%s\n' "$program"
 )
 
-# calls_program: proves the board library where that is to be done, and builds the program that calls it for the one that
-# tells; prints where it is.
+# calls_program: proves the board library where that is to be done, and builds the program that calls it for the one
+# that tells; prints where it is. The library is compiled in a folder of its own, so that no test is disturbed.
 calls_program() (
     program=$root/target/view/calls
     cd "$root" && room_for target/view && tools/module board >&2 || return 1
-    if newer_than "$program" target/module/board.ll tests/board include; then
-        need cc gcc && library=$(native_library) &&
-            cc -O2 -Iinclude -o "$program.$$" tests/board/calls.c tests/board/stdio.c "$library/libboard.a" &&
-            mv -f "$program.$$" "$program" || return 1
+    set -- tests/board/calls.c tests/board/stdio.c
+    if newer_than "$program" target/module/board.ll tests/board/pipe.h include "$@"; then
+        need cc gcc && library=$(native_library target/view/library 2>target/view/calls.log) &&
+            cc -O2 -Iinclude -o "$program.$$" "$@" "$library/libboard.a" 2>>target/view/calls.log &&
+            mv -f "$program.$$" "$program" || {
+            cat target/view/calls.log
+            return 1
+        }
     fi >&2
     printf '%s\n' "$program"
 )

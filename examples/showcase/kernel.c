@@ -75,10 +75,34 @@ static void renew(uint32_t k) {
     contexts[k].is_new = 1;
 }
 
+#ifdef KERNEL_RECORDS
+/* Says bytes in hex behind an @: what is said so, from the configuration on, is an input of the bench. */
+static void note(const uint8_t *bytes, quermanic_length length) {
+    static const char digits[] = "0123456789ABCDEF";
+    char text[3 * QUERMANIC_LONGEST_CONFIGURATION + 3], *to = put_text(text, "@");
+    uint32_t i;
+
+    for (i = 0; i < length && i < QUERMANIC_LONGEST_CONFIGURATION; i++) {
+        *to++ = ' ';
+        *to++ = digits[bytes[i] >> 4];
+        *to++ = digits[bytes[i] & 15];
+    }
+    put_text(to, "\n");
+    say(text);
+}
+#else
+static inline void note(const uint8_t *bytes, quermanic_length length) {
+    (void)bytes;
+    (void)length;
+}
+#endif
+
 /* Takes a step. A table that is not well formed, and a tick that is refused for whatever reason, stop the program. */
 static uint32_t step(const uint8_t *record, quermanic_length length, uint8_t *answer) {
-    const uint32_t number = quermanic_step(image, sizeof image, record, length, answer, QUERMANIC_ANSWER_LENGTH);
+    uint32_t number;
 
+    note(record, length);
+    number = quermanic_step(image, sizeof image, record, length, answer, QUERMANIC_ANSWER_LENGTH);
     if (number == QUERMANIC_NOT_WELL_FORMED) {
         kernel_stop("the table is damaged");
     }
@@ -174,6 +198,7 @@ _Noreturn void kernel_run(const struct program *given) {
     if (quermanic_fresh(program->config, program->config_length, image, sizeof image) != QUERMANIC_ACCEPTED) {
         kernel_stop("the configuration is none");
     }
+    note(program->config, program->config_length);
     __asm__ volatile("cpsid i" ::: "memory"); /* no tick before the idle loop stands on its own stack */
     SVC_PRIORITY = LOWEST;
     SYSTICK_PRIORITY = LOWEST;

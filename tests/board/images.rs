@@ -1,4 +1,4 @@
-//! Images for whoever judges them: sound, damaged and broken ones, each with the number of the library's check behind it.
+//! Images for whoever judges them: sound, damaged and broken ones, each with the number of the library's check.
 
 use crate::image::encode;
 use crate::library::Library;

@@ -284,9 +284,11 @@ impl Picture<'_> {
 /// The times above: at the ticks, and as often as their words fit side by side.
 fn labels(lines: &[Line], columns: &[f64]) -> Vec<(f64, String)> {
     let units = [1, 10, 20, 50, 100, 200, 250, 500, 1000, 2000, 5000, 10_000, 30_000, 60_000, 600_000, 3_600_000];
+    let end = columns.last().unwrap_or(&0.0) + MARGIN;
     let at = |unit: u64| {
         let ticks = lines.iter().enumerate().filter(move |(_, line)| line.is_tick() && line.clock % unit == 0);
-        ticks.map(|(i, line)| ((columns[i] + columns[i + 1]) / 2.0, time(line.clock))).collect::<Vec<_>>()
+        let labels = ticks.map(|(i, line)| ((columns[i] + columns[i + 1]) / 2.0, time(line.clock)));
+        labels.filter(|(x, label)| x + width(label, 5.0) < end).collect::<Vec<_>>()
     };
     let fits = |list: &Vec<(f64, String)>| {
         list.windows(2).all(|pair| pair[1].0 - pair[0].0 > width(&pair[0].1, 5.0) + width(&pair[1].1, 5.0) + 3.0)

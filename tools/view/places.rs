@@ -1,5 +1,5 @@
-//! Where each thing stands in a table's image (docs/TABLE.md), and the bounds of its numbers. Where an image grows, this
-//! is the table to extend.
+//! Where each thing stands in a table's image (docs/TABLE.md), and the bounds of its numbers. Where an image grows,
+//! this is the table to extend.
 
 /// A number: so many bytes from a place on, the highest first.
 #[derive(Clone, Copy)]
