@@ -10,13 +10,15 @@ function wrong(place, why) {
     tell(sprintf("the configuration is wrong at byte %d (%02X): %s.", place, byte[place], why))
 }
 
+function is_digit(b) { return b >= 48 && b <= 57 || b >= 65 && b <= 70 || b >= 97 && b <= 102 }
+
 # Whether all that is no comment is hex digits and blanks, and there is some.
 function looks_like_hex(    i, comment, digits) {
     for (i = 1; i <= n; i++) {
         if (byte[i] == 10 || byte[i] == 13) comment = 0
         else if (byte[i] == 35) comment = 1
         else if (comment || byte[i] == 32 || byte[i] == 9) continue
-        else if (index("0123456789ABCDEFabcdef", sprintf("%c", byte[i])) && byte[i] < 128) digits++
+        else if (is_digit(byte[i])) digits++
         else return 0
     }
     return digits > 1
