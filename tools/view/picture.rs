@@ -4,15 +4,16 @@ use crate::svg::{width, Svg};
 use crate::tracks::{Line, Look, Tracks};
 use crate::words::time;
 
-/// Of each look: its words, its letter, its colour and its letter's. They differ in lightness, not in hue alone.
+/// Of each look: its words, its letter, its colour and its letter's. Any two colours are apart by 29 and more (CIE 1976
+/// difference), also as the three kinds of colour-blindness see them.
 const LOOKS: [(Look, &str, &str, &str, &str); 8] = [
     (Look::Active, "active", "A", "#005a9c", "#ffffff"),
     (Look::Ready, "ready, passed over", "R", "#a9d5f5", "#10202c"),
-    (Look::Paused, "paused", "P", "#f4e66b", "#2b2700"),
-    (Look::Due, "due to restart", "D", "#e8a317", "#2b1d00"),
-    (Look::Flags, "waits for flags", "F", "#b8450b", "#ffffff"),
-    (Look::Start, "waits for a start", "S", "#dfa6cb", "#2e1026"),
-    (Look::End, "waits for an end", "E", "#7a4a99", "#ffffff"),
+    (Look::Paused, "paused", "P", "#fff08a", "#2b2700"),
+    (Look::Due, "due to restart", "D", "#e39a10", "#2b1d00"),
+    (Look::Flags, "waits for flags", "F", "#9c3503", "#ffffff"),
+    (Look::Start, "waits for a start", "S", "#969696", "#111111"),
+    (Look::End, "waits for an end", "E", "#363636", "#ffffff"),
     (Look::Dormant, "dormant", "", "none", ""),
 ];
 
@@ -171,7 +172,11 @@ impl Picture<'_> {
         );
         let at = (self.columns[from], y + 2.0);
         let size = (self.columns[to] - self.columns[from], ROW - 4.0);
-        let fill = if look == Look::Dormant { "class=\"edge\"".to_string() } else { format!("fill=\"{colour}\"") };
+        let fill = if look == Look::Dormant {
+            "class=\"edge\"".to_string()
+        } else {
+            format!("class=\"block\" fill=\"{colour}\"")
+        };
         self.svg.rect(at, size, &fill, &title);
         let (a, b) = self.room(k, from, to);
         if b - a >= 9.0 {
@@ -259,7 +264,11 @@ impl Picture<'_> {
             if x + long > whole - MARGIN {
                 (x, y) = (MARGIN, y + 18.0);
             }
-            let fill = if look == Look::Dormant { "class=\"edge\"".to_string() } else { format!("fill=\"{colour}\"") };
+            let fill = if look == Look::Dormant {
+                "class=\"edge\"".to_string()
+            } else {
+                format!("class=\"block\" fill=\"{colour}\"")
+            };
             self.svg.rect((x, y - 10.0), (14.0, 13.0), &fill, "");
             self.svg.words(x + 7.0, y, &format!("class=\"letter\" style=\"fill:{ink}\""), letter);
             self.svg.words(x + 19.0, y, "class=\"small\"", words);

@@ -13,6 +13,7 @@ text { font: 10px 'DejaVu Sans', Verdana, sans-serif; fill: #1a1a1a }
 .back { fill: #ffffff }
 .tick { fill: #eceff3 }
 .edge { stroke: #9aa4ae; fill: none }
+.block { stroke: #8a939c; stroke-width: 0.4 }
 .line { stroke: #9aa4ae; stroke-dasharray: 2 2 }
 .flag { fill: #555b61 }
 .count { fill: #ffffff }
@@ -22,7 +23,8 @@ text { font: 10px 'DejaVu Sans', Verdana, sans-serif; fill: #1a1a1a }
   text { fill: #e6e6e6 }
   .back { fill: #15191e }
   .tick { fill: #242b33 }
-  .edge, .line { stroke: #6b7681 }
+  .edge, .block { stroke: #8a939c; stroke-width: 0.4 }
+.line { stroke: #6b7681 }
   .flag { fill: #b4bcc4 }
   .count { fill: #15191e }
   .bad { fill: #ff8a9b }
