@@ -3,6 +3,7 @@
  *
  * The functions are proved against their definitions (crates/board); docs/EMBEDDING.md says how to link them and what is promised.
  * They keep nothing between calls, allocate nothing, and use no memory but their buffers and their stack.
+ * docs/CALLS.md is the manual of the calls: every record byte by byte, and what each number means.
  *
  * Every pointer must be valid for the length that goes with it, and not NULL, also where that length is 0.
  * No buffer that is written to may overlap another buffer of the same call.

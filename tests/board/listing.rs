@@ -11,8 +11,12 @@ use std::io::{Read, Write};
 /// False where the input cannot be read or the listing not be written.
 pub fn listing(library: &mut Library) -> bool {
     let mut input = Vec::new();
-    std::io::stdin().lock().read_to_end(&mut input).is_ok()
-        && std::io::stdout().lock().write_all(of(library, &input).as_bytes()).is_ok()
+    std::io::stdin().lock().read_to_end(&mut input).is_ok() && written(of(library, &input).as_bytes())
+}
+
+/// Writes bytes to standard output; false where they cannot be.
+pub fn written(bytes: &[u8]) -> bool {
+    std::io::stdout().lock().write_all(bytes).is_ok()
 }
 
 fn of(library: &mut Library, input: &[u8]) -> String {

@@ -22,6 +22,7 @@ use library::Library;
 use model::configuration::fresh_from_start;
 use model::ending::ending;
 use model::records::records_of;
+use model::runs::run;
 use std::process::ExitCode;
 use walk::{walked, Trial, UNWRITTEN};
 use wrong::{wrong_of, Wrong};
@@ -32,6 +33,7 @@ const USAGE: &str = "usage: trial [--steps N] [--seed S] [--fault NAME]
        trial --instructions [--steps N] [--seed S]
        trial --listing < input
        trial --images N
+       trial --run INDEX
        trial --passes WAY MIX N
        trial --speed [--rounds N]";
 
@@ -85,6 +87,7 @@ fn asked(library: &mut Library, words: &[&str]) -> Option<bool> {
             passes.parse().ok().and_then(|passes| speed::passes(library, way, mix, passes))
         }
         ["--listing"] => Some(listing::listing(library)),
+        ["--run", index] => index.parse().ok().map(|index| listing::written(&run(1, index))),
         ["--images", many] => many.parse().ok().map(|many| images::images(library, many)),
         // a part of a trial, too short to meet everything
         ["--part", options @ ..] => options_of(options)

@@ -31,7 +31,7 @@ const USAGE: &str = "usage: view table NAMES < image
        view image STEP < input";
 
 fn main() -> ExitCode {
-    let words: Vec<String> = std::env::args().skip(1).collect();
+    let words: Vec<String> = std::env::args_os().skip(1).map(|word| word.to_string_lossy().into_owned()).collect();
     let words: Vec<&str> = words.iter().map(String::as_str).collect();
     match told(&words) {
         Ok((text, right)) => match std::io::stdout().lock().write_all(&text) {

@@ -79,5 +79,6 @@ pub fn width(words: &str, size: f64) -> f64 {
 }
 
 fn escaped(words: &str) -> String {
+    let words: String = words.chars().filter(|letter| !letter.is_control()).collect();
     words.replace('&', "&amp;").replace('<', "&lt;").replace('>', "&gt;").replace('"', "&quot;")
 }

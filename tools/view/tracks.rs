@@ -51,13 +51,16 @@ pub fn tracks(text: &str) -> Result<Tracks, String> {
         }
     }
     for (number, name) in named {
-        if let Some(task) = tracks.tasks.get_mut(usize::from(number) - 1) {
+        if let Some(task) = tracks.tasks.get_mut(usize::from(number).wrapping_sub(1)) {
             *task = format!("{number} {name}");
         }
     }
-    match tracks.lines.is_empty() {
-        true => Err("the trace has no lines.".to_string()),
-        false => Ok(tracks),
+    if tracks.lines.is_empty() {
+        return Err("the trace has no lines.".to_string());
+    }
+    match tracks.lines.iter().all(|line| line.looks.len() == tracks.tasks.len()) {
+        true => Ok(tracks),
+        false => Err("some line of the trace has more or fewer tasks than its head.".to_string()),
     }
 }
 
