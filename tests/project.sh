@@ -19,3 +19,12 @@ trial_program() (
     export BOARD_LIBRARY BOARD_SUM
     project build --quiet --release --bin trial && echo "$root/target/rust/release/trial"
 )
+
+# blocks_trial: builds the Rust trial of the blocks, over the blocks library for this machine; prints where it is.
+blocks_trial() (
+    library=$(cd "$root" && native_blocks) || return 1
+    BLOCKS_LIBRARY=$root/$library
+    BLOCKS_SUM=$(cksum <"$BLOCKS_LIBRARY/libblocks.a") || return 1
+    export BLOCKS_LIBRARY BLOCKS_SUM
+    project build --quiet --release --bin blocks-trial && echo "$root/target/rust/release/blocks-trial"
+)

@@ -1,11 +1,14 @@
-//! The build's own program: tells the linker where the board library is, in the folder that BOARD_LIBRARY names.
-//! The trial is linked anew where that archive is newer, or its sum in BOARD_SUM is another.
+//! The build's own program: tells the linker where the board library is, in the folder that BOARD_LIBRARY names, and
+//! the blocks library, in the one that BLOCKS_LIBRARY names. A trial is linked anew where its archive is newer, or the
+//! archive's sum, in BOARD_SUM or BLOCKS_SUM, is another.
 
 fn main() {
-    println!("cargo:rerun-if-env-changed=BOARD_LIBRARY");
-    println!("cargo:rerun-if-env-changed=BOARD_SUM");
-    if let Ok(folder) = std::env::var("BOARD_LIBRARY") {
-        println!("cargo:rerun-if-changed={folder}/libboard.a");
-        println!("cargo:rustc-link-search=native={folder}");
+    for (name, archive) in [("BOARD", "libboard.a"), ("BLOCKS", "libblocks.a")] {
+        println!("cargo:rerun-if-env-changed={name}_LIBRARY");
+        println!("cargo:rerun-if-env-changed={name}_SUM");
+        if let Ok(folder) = std::env::var(format!("{name}_LIBRARY")) {
+            println!("cargo:rerun-if-changed={folder}/{archive}");
+            println!("cargo:rustc-link-search=native={folder}");
+        }
     }
 }

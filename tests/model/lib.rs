@@ -1,6 +1,7 @@
 //! The executive of document 01 a second time, written from the paper alone, and what the programs over it share.
 
 pub mod bench;
+pub mod blocks;
 pub mod cards;
 pub mod check;
 pub mod configuration;

@@ -1,0 +1,2 @@
+-- The laws of writing.
+pub mod Laws
