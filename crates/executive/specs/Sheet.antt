@@ -17,7 +17,7 @@ use Rattle.executive.specs.Clock.{skippedOf}
 use Rattle.executive.specs.Flags.{isSet, met, modeOf}
 use Rattle.executive.specs.States.{isDormant, isPaused}
 use Rattle.executive.specs.Plans.{caller, stateAt, nothing, terminatePlan, restartPlan, pausePlan, cancelPausePlan}
-use Rattle.executive.specs.Plans.{startIfDormantPlan, startOrQueuePlan, flagPlan, waitPlan, alarmPlan, tickPlan, caller}
+use Rattle.executive.specs.Plans.{startIfDormantPlan, startOrQueuePlan, flagPlan, waitPlan, alarmPlan, tickPlan}
 
 -- what is said of one call at one table
 pub record Rule : Type 0 where

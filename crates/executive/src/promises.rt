@@ -21,7 +21,7 @@ fn states_told()
     ensures { λ r. ⌜ StatesTold ⌝ }
 {}
 
-// Every fresh table is well formed, and what else specs/FreshLaw says of a configuration.
+// Every fresh table is well formed, and what else specs/Promises/FreshLaw says of a configuration.
 fn fresh_law()
     ensures { λ r. ⌜ FreshLaw ⌝ }
 {}

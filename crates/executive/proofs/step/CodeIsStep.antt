@@ -113,8 +113,8 @@ module _ (t : Table) (s : List ℕ) where
         called kind.Task xs h = refl
         called kind.End xs h = refl
 
-        false-not-true : (j : ℕ) (c : Call) → got.Refused j ≡ got.Call c → ⊥
-        false-not-true j c q = let z : _≡_ {A = ℕ} 0 1 = cc in omega arith
+        refused-not-call : (j : ℕ) (c : Call) → got.Refused j ≡ got.Call c → ⊥
+        refused-not-call j c q = let z : _≡_ {A = ℕ} 0 1 = cc in omega arith
 
         same : (i j : ℕ) → got.Refused i ≡ got.Refused j → i ≡ j
         same i j q = cc
@@ -130,7 +130,7 @@ module _ (t : Table) (s : List ℕ) where
         step-refused j e = go (eqb (length s) (lengthOf (kindOfRecord s))) refl
           where
             go : (b : Bool) → eqb (length s) (lengthOf (kindOfRecord s)) ≡ b → refused t j ≡ stepOf t s
-            go true l = absurd (false-not-true j _ (sym e ∙ read-is true l ∙ called (kindOfRecord s) fields k))
+            go true l = absurd (refused-not-call j _ (sym e ∙ read-is true l ∙ called (kindOfRecord s) fields k))
             go false l = ap (refused t) (same j 3 (sym e ∙ read-is false l)) ∙ step-short l
 
         pub step-read : (c : Call) → readOf s ≡ got.Call c → performed t c ≡ stepOf t s
@@ -138,7 +138,7 @@ module _ (t : Table) (s : List ℕ) where
           where
             go : (b : Bool) → eqb (length s) (lengthOf (kindOfRecord s)) ≡ b → performed t c ≡ stepOf t s
             go true l = ap (λ g. performed t (calledBy g)) (sym e) ∙ step-whole l
-            go false l = absurd (false-not-true 3 c (sym (read-is false l) ∙ e))
+            go false l = absurd (refused-not-call 3 c (sym (read-is false l) ∙ e))
 
 -- ---- the step of a call that was read, as its record's
 some-bytes : (c : Call) → length (bytesOf c) ≡ 0 → ⊥

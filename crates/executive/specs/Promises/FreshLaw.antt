@@ -17,7 +17,8 @@ use Rattle.executive.specs.Lists.{pad}
 use Rattle.executive.specs.Places.{nobody, never, noTask, noRequest}
 use Rattle.executive.specs.Table.{view, begin, enterAllInFlight}
 use Rattle.executive.specs.WellFormed.{WellFormed}
-use Rattle.executive.specs.Configuration.{tasksIn, configurationIn, isConfiguration, zeroTable, dormantAt, dormantTable, starters, freshTable, madeBy, freshOf}
+use Rattle.executive.specs.Configuration.{tasksIn, configurationIn, isConfiguration, zeroTable, dormantAt, dormantTable}
+use Rattle.executive.specs.Configuration.{starters, freshTable, madeBy, freshOf}
 use Rattle.executive.specs.Promises.Demands.{Dispatched}
 
 -- ---- a configuration in 01's words: one 40, then 1 to 16 of 41, then 42, and nothing more
