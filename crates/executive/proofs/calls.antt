@@ -1,3 +1,4 @@
 -- The laws of the calls' code.
-pub mod CodeIsPlan
+pub mod Ending
 pub mod InOrder
+pub mod Ticking

@@ -16,4 +16,5 @@ pub mod Sheet
 pub mod Refusals
 pub mod Step
 pub mod Configuration
+pub mod Decisions
 pub mod Promises

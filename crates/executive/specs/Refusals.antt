@@ -1,11 +1,13 @@
 -- The numbers an answer can carry (01): one list, in 01's order, of each number and when it is given, read off the
 -- sheet. The first whose condition holds is the answer's.
 use Prim.Native.Nat.{ℕ}
+use mathlib.Core.Path.{_≡_}
 use mathlib.Core.Bool.{Bool, not, cond}
 use mathlib.Core.List.{List, [], _∷_}
 use lib.Dec.{eqb}
 use lib.ListN.{length, getD}
 use Rattle.records.specs.Firsts.{Refusal, when, firstOf}
+use Rattle.records.specs.declared.TaskNo.{TaskNo}
 use Rattle.records.specs.declared.Kind.{Kind}
 use Rattle.records.specs.declared.Call.{Call}
 use Rattle.records.specs.declared.Call.the-variants as call
@@ -37,6 +39,10 @@ isTick t c = ruleOf t c .tick
 
 unfoldable pub nobodyActive : Table → Call → Bool
 nobodyActive t c = not (isTick t c) and eqb (t .ready) 0
+
+-- the same for the code, which knows the caller: whatever the table
+abbrev pub Idles : TaskNo → Call → Bool → Type 0
+Idles k c b = (t : Table) → b ≡ (not (isTick t c) and eqb (k .0) 0)
 
 -- ---- 6: a number in the body is out of range
 unfoldable pub badBody : Table → Call → Bool

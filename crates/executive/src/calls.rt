@@ -1,130 +1,162 @@
-// The calls, a method for each kind: who departs, who enters, what becomes of the rest of the table.
+// Kinds 00 to 03 and 80, a function for each: what it decides of a call, as its sheet says.
 use crate::Millis;
+use crate::Request;
 use crate::State;
-use crate::Table;
-use crate::Work;
+use crate::Task;
+use crate::answers;
 use crate::clock;
-use crate::entries;
+use crate::decisions;
+use crate::decisions::Change;
+use crate::decisions::Decision;
+use crate::decisions::Deed;
+use crate::decisions::How;
+use crate::decisions::Leave;
 use crate::places;
 use crate::pool;
 use crate::pool::Found;
+use crate::refusals;
 use crate::states;
+use crate::waking;
 use records::TaskNo;
 ghost use mathlib.Core.Path.{_≡_};
-ghost use Prim.Native.Nat.{_<_, _≤_, _+_};
-ghost use Rattle.executive.specs.Numbers.{lastUnit, endOfTime};
-ghost use Rattle.executive.specs.Table.{ArraysInOrder, TimesInOrder, Out, depart, applyInFlight};
-ghost use Rattle.executive.specs.Entries.{withState};
-ghost use Rattle.executive.specs.Plans.{terminatePlan, restartPlan, pausePlan, cancelPausePlan, tickPlan};
+ghost use mathlib.Core.Bool.{false, not, cond, _||_};
+ghost use Prim.Native.Nat.{_+_, _/_, _%_, _≤_};
+ghost use lib.Dec.{eqb, ltb};
+ghost use lib.ListN.{take};
+ghost use Rattle.executive.specs.Numbers.{lastUnit, mostQueued, endOfTime};
+ghost use Rattle.executive.specs.States.{isPaused};
+ghost use Rattle.executive.specs.Decisions.{AllRests, terminateDeed, restartDeed, pauseDeed, cancelPauseDeed, tickDeed, refusing, doing};
+ghost use Rattle.executive.specs.Sheet.{onlyZ, restartMarks};
 
-impl Table {
-    // The caller departs, in another state.
-    pub(crate) fn depart_as(self, s: State) -> Table
-        requires { ⌜ ArraysInOrder self × (0 < self .ready) ⌝ }
-        ensures { λ r. ⌜ r ≡ depart (Out.leaves (withState s)) self ⌝ }
-    {
-        let queue = self.queue;
-        let tasks = self.tasks;
-        let old = places::task_at(tasks, queue[0]);
-        let e = entries::with_state(old, s);
-        self.depart(e)
-    }
-
-    // Kind 00.
-    pub(crate) fn terminate(mut self) -> Work
-        requires { ⌜ ArraysInOrder self × (0 < self .ready) ⌝ }
-        ensures { λ r. ⌜ r ≡ applyInFlight (terminatePlan self) self ⌝ }
-    {
-        let queue = self.queue;
-        let k = queue[0];
-        let tasks = self.tasks;
-        let old = places::task_at(tasks, k);
-        let waiter = old.end_waiter;
-        let gone = entries::as_dormant(old);
-        let t = self.depart(gone);
-        let w = t.begin();
-        let w1 = w.wake(waiter);
-        let rest = self.rest;
-        let pool = rest.pool;
-        let queued = rest.queued as usize;
-        match pool::first_for(pool, queued, k) {
-            Found::At(i) => {
-                let q = pool[i];
-                let left = rest.without(i);
-                w1.run(k, q, left)
-            }
-            Found::Nothing => w1,
+// Kind 00: whoever waits for the end enters, then the caller with the earliest request for it, then whoever waited for
+// that start.
+pub(crate) fn terminate(tasks: [Task; 16], pool: [Request; 32], queued: u8, c: TaskNo) -> Decision
+    requires { ⌜ queued ≤ mostQueued ⌝ }
+    ensures { λ r. ⌜ r ≡ doing (onlyZ false) (terminateDeed tasks (take queued pool) c) ⌝ }
+{
+    let old = places::task_at(tasks, c);
+    let l = decisions::none();
+    let l1 = l.woken(old.end_waiter);
+    let marks = answers::only_z(false);
+    match pool::first_for(pool, queued as usize, c) {
+        Found::At(i) => {
+            let q = pool[i];
+            let l2 = l1.also(c, How::Begun);
+            let entrants = l2.woken(q.start_waiter);
+            let deed = Deed {
+                leave: Leave::Sleeps,
+                entrants,
+                request: q,
+                change: Change::Taken(i),
+            };
+            decisions::accepted(marks, deed)
+        }
+        Found::Nothing => {
+            let deed = Deed {
+                leave: Leave::Sleeps,
+                entrants: l1,
+                request: pool::NO_REQUEST,
+                change: Change::Same,
+            };
+            decisions::accepted(marks, deed)
         }
     }
+}
 
-    // Kind 01.
-    pub(crate) fn restart(mut self, param: u8, count: u8) -> Work
-        requires { ⌜ TimesInOrder self × (0 < self .ready) ⌝ }
-        ensures { λ r. ⌜ r ≡ applyInFlight (restartPlan self param count) self ⌝ }
-    {
-        let queue = self.queue;
-        let k = queue[0];
-        let tasks = self.tasks;
-        let old = places::task_at(tasks, k);
-        let waiter = old.end_waiter;
-        let rest = self.rest;
-        let now = rest.clock;
-        let start = old.start;
-        let aim = clock::aim_at(start, now, param, count);
-        let gone = entries::due(old, aim);
-        let t = self.depart(gone);
-        let w = t.begin();
-        let w1 = w.wake(waiter);
-        if aim.0 <= now.0 {
-            return w1.raise(k);
-        }
-        w1
+// Kind 01: the caller is due at the time aimed at, and enters at once where that has come.
+pub(crate) fn restart(old: Task, now: Millis, c: TaskNo, param: u8, count: u8) -> Decision
+    requires { ⌜ (old .start .0 ≤ now .0) × (now .0 ≤ endOfTime) ⌝ }
+    ensures { λ r. ⌜ r ≡ cond (eqb (param / 64 % 4) 3) (refusing 6) (doing (restartMarks (old .start) now param count) (restartDeed c old now param count)) ⌝ }
+{
+    if param / 64 % 4 == 3 {
+        return decisions::refused(6);
     }
+    let start = old.start;
+    let aim = clock::aim_at(start, now, param, count);
+    let marks = answers::restart_marks(start, now, param, count);
+    let l = decisions::none();
+    let l1 = l.woken(old.end_waiter);
+    let entrants = l1.raised(aim.0 <= now.0, c);
+    let deed = Deed {
+        leave: Leave::DueAt(aim),
+        entrants,
+        request: pool::NO_REQUEST,
+        change: Change::Same,
+    };
+    decisions::accepted(marks, deed)
+}
 
-    // Kind 02, its interval in range.
-    pub(crate) fn pause(mut self, unit: u8, count: u8) -> Work
-        requires { ⌜ ArraysInOrder self × (0 < self .ready) × (self .rest .clock .0 ≤ endOfTime) × (unit ≤ lastUnit) ⌝ }
-        ensures { λ r. ⌜ r ≡ applyInFlight (pausePlan self unit count) self ⌝ }
-    {
-        if count == 0 {
-            return self.begin();
-        }
-        let queue = self.queue;
-        let tasks = self.tasks;
-        let old = places::task_at(tasks, queue[0]);
-        let wait = clock::millis_of(unit, count);
-        let until = Millis(self.rest.clock.0 + wait.0);
-        let e = entries::with_state(old, State::Paused(until));
-        let t = self.depart(e);
-        t.begin()
+// Kind 02.
+pub(crate) fn pause(now: Millis, unit: u8, count: u8) -> Decision
+    requires { ⌜ now .0 ≤ endOfTime ⌝ }
+    ensures { λ r. ⌜ r ≡ cond (ltb lastUnit unit) (refusing 6) (doing (onlyZ (eqb count 0)) (pauseDeed now unit count)) ⌝ }
+{
+    if clock::LAST_UNIT < unit {
+        return decisions::refused(6);
     }
+    if count == 0 {
+        let z = answers::only_z(true);
+        let still = decisions::nothing();
+        return decisions::accepted(z, still);
+    }
+    let wait = clock::millis_of(unit, count);
+    let until = Millis(now.0 + wait.0);
+    let marks = answers::only_z(false);
+    let deed = decisions::alone(Leave::As(State::Paused(until)), Change::Same);
+    decisions::accepted(marks, deed)
+}
 
-    // Kind 03: only a paused task enters, not a due one.
-    pub(crate) fn cancel_pause(mut self, k: TaskNo) -> Work
-        requires { ⌜ ArraysInOrder self ⌝ }
-        ensures { λ r. ⌜ r ≡ applyInFlight (cancelPausePlan self k) self ⌝ }
-    {
-        let tasks = self.tasks;
-        let e = places::task_at(tasks, k);
-        let s = e.state;
-        let w = self.begin();
-        if states::is_paused(s) {
-            return w.raise(k);
-        }
-        w
+// Kind 03: only a paused task enters, not a due one.
+pub(crate) fn cancel_pause(e: Task, count: u8, k: TaskNo) -> Decision
+    ensures { λ r. ⌜ r ≡ cond (eqb (k .0) 0 || ltb count (k .0)) (refusing 6) (doing (onlyZ (not (isPaused (e .state)))) (cancelPauseDeed (e .state) k)) ⌝ }
+{
+    if refusals::no_such_task(count, k) {
+        return decisions::refused(6);
     }
+    let s = e.state;
+    if states::is_paused(s) {
+        let marks = answers::only_z(false);
+        let l = decisions::none();
+        let entrants = l.also(k, How::Risen);
+        let deed = Deed {
+            leave: Leave::Stays,
+            entrants,
+            request: pool::NO_REQUEST,
+            change: Change::Same,
+        };
+        return decisions::accepted(marks, deed);
+    }
+    let z = answers::only_z(true);
+    let still = decisions::nothing();
+    decisions::accepted(z, still)
+}
 
-    // Kind 80.
-    pub(crate) fn tick(mut self) -> Work
-        requires { ⌜ ArraysInOrder self × (self .rest .clock .0 + self .rest .granule ≤ endOfTime) ⌝ }
-        ensures { λ r. ⌜ r ≡ applyInFlight (tickPlan self) self ⌝ }
-    {
-        let old = self.rest;
-        let rest = old.advance();
-        let now = rest.clock;
-        let flags = rest.flags;
-        let w = self.begin();
-        let w1 = w.rise_all(now, flags);
-        w1.with_rest(rest)
+// Kind 80: the first alarm that is due is looked for once, and told with the deed.
+pub(crate) fn tick(
+    tasks: [Task; 16],
+    alarms: [Millis; 32],
+    clock: Millis,
+    granule: u8,
+    flags: u32,
+) -> Decision
+    requires { ⌜ clock .0 ≤ endOfTime ⌝ }
+    ensures { λ r. ⌜ AllRests alarms clock granule flags
+        (λ q. r ≡ cond (ltb endOfTime (clock .0 + granule)) (refusing 10) (doing (onlyZ false) (tickDeed tasks q))) ⌝ }
+{
+    let length = clock::granule_of(granule);
+    let now = Millis(clock.0 + length.0);
+    if clock::END_OF_TIME < now.0 {
+        return decisions::refused(10);
     }
+    let first = clock::next_due(alarms, 0, now);
+    let more = clock::rings(alarms, flags, first, now);
+    let marks = answers::only_z(false);
+    let entrants = waking::risers(tasks, now, more);
+    let deed = Deed {
+        leave: Leave::Stays,
+        entrants,
+        request: pool::NO_REQUEST,
+        change: Change::Clock(first),
+    };
+    decisions::accepted(marks, deed)
 }

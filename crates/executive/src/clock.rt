@@ -8,7 +8,8 @@ ghost use Prim.Native.Nat.{_<_, _≤_, _+_, _*_, _/_, _%_, _^_};
 ghost use Rattle.executive.specs.Numbers.{lastUnit, endOfTime, longest};
 ghost use Rattle.executive.specs.Clock.{units, interval, nextOnGrid, skipsMissed, aimAt, skippedOf, isDue, advanced};
 ghost use lib.ListN.{drop, getD};
-ghost use Rattle.executive.specs.Lists.{nextOf};
+ghost use Rattle.executive.specs.Lists.{nextOf, each};
+ghost use Rattle.executive.specs.Decisions.{firstDue, rungIn};
 
 // The last unit of an interval, and the longest interval in ms; the last time that the clock may show.
 pub(crate) const LAST_UNIT: u8 = 5;
@@ -173,7 +174,7 @@ fn is_due(alarm: Millis, now: Millis) -> bool
 }
 
 // The place of the next alarm that is due, from a place on; 32 where there is none.
-fn next_due(alarms: [Millis; 32], from: usize, now: Millis) -> usize
+pub(crate) fn next_due(alarms: [Millis; 32], from: usize, now: Millis) -> usize
     requires { ⌜ from ≤ 32 ⌝ }
     ensures { λ r. ⌜ r ≡ nextOf (isDue (now .0)) from (drop from alarms) ⌝ }
 {
@@ -188,17 +189,32 @@ fn next_due(alarms: [Millis; 32], from: usize, now: Millis) -> usize
     i
 }
 
+// The flags once the due alarms have rung, from the first of them on.
+pub(crate) fn rings(alarms: [Millis; 32], flags: u32, first: usize, now: Millis) -> u32
+    requires { ⌜ first ≡ nextOf (isDue (now .0)) 0 alarms ⌝ }
+    ensures { λ r. ⌜ r ≡ each (rungIn (now .0) alarms) 32 0 flags ⌝ }
+{
+    let mut more = flags;
+    let mut i = first;
+    while i < 32 {
+        more = more | bit_of(FlagNo(i as u8));
+        i = next_due(alarms, i + 1, now);
+    }
+    more
+}
+
 impl Rest {
-    // The clock gains a granule, and the due alarms ring: each sets its flag and is cleared. Only they are touched.
-    pub(crate) fn advance(mut self) -> Rest
-        requires { ⌜ self .clock .0 + self .granule ≤ endOfTime ⌝ }
+    // The clock gains a granule, and the due alarms ring: each sets its flag and is cleared. Only they are touched, from
+    // the first of them on.
+    pub(crate) fn advance(mut self, first: usize) -> Rest
+        requires { ⌜ (self .clock .0 + self .granule ≤ endOfTime) × (first ≡ firstDue self) ⌝ }
         ensures { λ r. ⌜ r ≡ advanced self ⌝ }
     {
         let granule = granule_of(self.granule);
         let now = Millis(self.clock.0 + granule.0);
         let mut alarms = self.alarms;
         let mut flags = self.flags;
-        let mut i = next_due(alarms, 0, now);
+        let mut i = first;
         while i < 32 {
             alarms[i] = Millis(0);
             flags = flags | bit_of(FlagNo(i as u8));

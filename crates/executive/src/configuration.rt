@@ -6,6 +6,7 @@ use crate::Table;
 use crate::Task;
 use crate::Work;
 use crate::answers;
+use crate::decisions::How;
 use crate::places::NO_TASK;
 use crate::pool::NO_REQUEST;
 use records::TaskNo;
@@ -186,7 +187,7 @@ fn start_at(w: Work, s: &[u8], k: TaskNo) -> Work
     let mut q = NO_REQUEST;
     q.target = k;
     q.priority = own;
-    w.commence(k, q, Millis(0))
+    w.enter(k, How::Begun, q, Millis(0))
 }
 
 // The marked tasks of 1 to n start, in ascending number.

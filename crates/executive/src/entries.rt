@@ -3,10 +3,13 @@ use crate::Millis;
 use crate::Request;
 use crate::State;
 use crate::Task;
+use crate::decisions::How;
+use crate::decisions::Leave;
 use crate::states;
 use records::TaskNo;
 ghost use mathlib.Core.Path.{_≡_};
 ghost use Rattle.executive.specs.Entries.{scheduled, withState, asDormant, begun, aimed, risen, dueAt};
+ghost use Rattle.executive.specs.Decisions.{goneAs, changeFor};
 
 // One task's entry, lent: its state and its time are set, and nothing else is.
 pub(crate) fn set_state(task: &mut Task, state: State, start: Millis)
@@ -94,5 +97,28 @@ pub(crate) fn due(e: Task, at: Millis) -> Task
         argument: e.argument,
         start,
         end_waiter: TaskNo(0),
+    }
+}
+
+// The entry of a task as it leaves; one that stays keeps it.
+pub(crate) fn gone(e: Task, how: Leave) -> Task
+    ensures { λ r. ⌜ r ≡ goneAs how e ⌝ }
+{
+    match how {
+        Leave::Stays => e,
+        Leave::Sleeps => as_dormant(e),
+        Leave::DueAt(at) => due(e, at),
+        Leave::As(s) => with_state(e, s),
+    }
+}
+
+// The entry of a task as it enters.
+pub(crate) fn entering(e: Task, how: How, q: Request, now: Millis) -> Task
+    ensures { λ r. ⌜ r ≡ changeFor q now how e ⌝ }
+{
+    match how {
+        How::Woken => with_state(e, State::Ready),
+        How::Risen => rise(e),
+        How::Begun => begin(e, q, now),
     }
 }

@@ -3,18 +3,28 @@ use crate::Millis;
 use crate::Mode;
 use crate::Rest;
 use crate::State;
-use crate::Table;
-use crate::Work;
+use crate::Task;
+use crate::answers;
 use crate::clock;
+use crate::decisions;
+use crate::decisions::Change;
+use crate::decisions::Decision;
+use crate::decisions::Deed;
+use crate::decisions::Leave;
+use crate::pool;
+use crate::refusals;
+use crate::waking;
 use records::FlagNo;
 ghost use mathlib.Core.Path.{_≡_};
+ghost use mathlib.Core.Bool.{false, not, cond, _||_};
 ghost use Prim.Native.Nat.{_<_, _≤_};
+ghost use lib.Dec.{eqb, ltb};
 ghost use Rattle.executive.specs.Numbers.{lastUnit, endOfTime};
-ghost use Rattle.executive.specs.Table.{ArraysInOrder, applyInFlight};
+ghost use Rattle.executive.specs.Lists.{_and_};
 ghost use Rattle.executive.specs.Flags.{isSet, flagSet, flagReset, withFlags, modeOf, met};
 ghost use Rattle.executive.specs.Clock.{withAlarm};
-ghost use Rattle.executive.specs.Plans.{setPlan, resetPlan, flagPlan, waitPlan, alarmPlan};
-ghost use Rattle.executive.specs.WellFormed.{Times};
+ghost use Rattle.executive.specs.Decisions.{AllTimely, setDeed, flagDeed, waitDeed, alarmDeed, refusing, doing};
+ghost use Rattle.executive.specs.Sheet.{onlyZ, marks, flagMarks};
 
 // Whether a wait is for any (0) or for all (1).
 pub(crate) fn mode_of(mode: u8) -> Mode
@@ -45,24 +55,29 @@ pub(crate) fn is_set(flags: u32, f: FlagNo) -> bool
     flags & bit != 0
 }
 
-impl Rest {
-    // A flag is set.
-    pub(crate) fn with_flag(mut self, f: FlagNo) -> Rest
-        requires { ⌜ f .0 < 32 ⌝ }
-        ensures { λ r. ⌜ r ≡ withFlags (flagSet (self .flags) (f .0)) self ⌝ }
-    {
-        let bit = clock::bit_of(f);
-        self.flags = self.flags | bit;
-        self
-    }
+// The flags with one set, and with one reset and every other as it was.
+fn flag_set(flags: u32, f: FlagNo) -> u32
+    requires { ⌜ f .0 < 32 ⌝ }
+    ensures { λ r. ⌜ r ≡ flagSet flags (f .0) ⌝ }
+{
+    let bit = clock::bit_of(f);
+    flags | bit
+}
 
-    // A flag is reset; every other is as it was.
-    pub(crate) fn without_flag(mut self, f: FlagNo) -> Rest
-        requires { ⌜ f .0 < 32 ⌝ }
-        ensures { λ r. ⌜ r ≡ withFlags (flagReset (self .flags) (f .0)) self ⌝ }
+fn flag_reset(flags: u32, f: FlagNo) -> u32
+    requires { ⌜ f .0 < 32 ⌝ }
+    ensures { λ r. ⌜ r ≡ flagReset flags (f .0) ⌝ }
+{
+    let bit = clock::bit_of(f);
+    flags & (4294967295 - bit)
+}
+
+impl Rest {
+    // The flags are others.
+    pub(crate) fn with_flags(mut self, flags: u32) -> Rest
+        ensures { λ r. ⌜ r ≡ withFlags flags self ⌝ }
     {
-        let bit = clock::bit_of(f);
-        self.flags = self.flags & (4294967295 - bit);
+        self.flags = flags;
         self
     }
 
@@ -79,74 +94,93 @@ impl Rest {
     }
 }
 
-impl Table {
-    // Kind 09, operation 1, and kind 0B with count 0: all tasks whose condition now holds enter. No stored time has
-    // come, so nobody else does.
-    pub(crate) fn set(self, f: FlagNo) -> Work
-        requires { ⌜ ArraysInOrder self × Times self × (f .0 < 32) ⌝ }
-        ensures { λ r. ⌜ r ≡ applyInFlight (setPlan self f) self ⌝ }
-    {
-        let old = self.rest;
-        let rest = old.with_flag(f);
-        let now = old.clock;
-        let flags = rest.flags;
-        let w = self.begin();
-        let w1 = w.rise_all(now, flags);
-        w1.with_rest(rest)
+// Kind 09, operation 1, and kind 0B with count 0: all tasks whose condition now holds enter. No stored time has
+// come, so nobody else does.
+fn set(tasks: [Task; 16], now: Millis, flags: u32, f: FlagNo) -> Deed
+    requires { ⌜ AllTimely (now .0) tasks × (f .0 < 32) ⌝ }
+    ensures { λ r. ⌜ r ≡ setDeed tasks flags f ⌝ }
+{
+    let more = flag_set(flags, f);
+    let entrants = waking::risers(tasks, now, more);
+    Deed {
+        leave: Leave::Stays,
+        entrants,
+        request: pool::NO_REQUEST,
+        change: Change::Flags(more),
     }
+}
 
-    // Kind 09, operation 0.
-    pub(crate) fn reset(self, f: FlagNo) -> Work
-        requires { ⌜ f .0 < 32 ⌝ }
-        ensures { λ r. ⌜ r ≡ applyInFlight (resetPlan self f) self ⌝ }
-    {
-        let old = self.rest;
-        let rest = old.without_flag(f);
-        let w = self.begin();
-        w.with_rest(rest)
+// Kind 09: operation 0 resets, 1 sets, 2 tests.
+pub(crate) fn flag(tasks: [Task; 16], now: Millis, flags: u32, operation: u8, f: FlagNo) -> Decision
+    requires { ⌜ AllTimely (now .0) tasks ⌝ }
+    ensures { λ r. ⌜ r ≡ cond (ltb 31 (f .0) || ltb 2 operation) (refusing 6)
+        (doing (flagMarks operation (isSet flags (f .0))) (flagDeed tasks flags operation f)) ⌝ }
+{
+    if refusals::bad_flag(operation, f) {
+        return decisions::refused(6);
     }
+    let old = is_set(flags, f);
+    let marks = answers::flag_marks(operation, old);
+    if operation == 0 {
+        let less = flag_reset(flags, f);
+        let reset = decisions::alone(Leave::Stays, Change::Flags(less));
+        return decisions::accepted(marks, reset);
+    }
+    if operation == 1 {
+        let deed = set(tasks, now, flags, f);
+        return decisions::accepted(marks, deed);
+    }
+    let still = decisions::nothing();
+    decisions::accepted(marks, still)
+}
 
-    // Kind 09: operation 0 resets, 1 sets, 2 tests.
-    pub(crate) fn flag(mut self, operation: u8, f: FlagNo) -> Work
-        requires { ⌜ ArraysInOrder self × Times self × (f .0 < 32) ⌝ }
-        ensures { λ r. ⌜ r ≡ applyInFlight (flagPlan self operation f) self ⌝ }
-    {
-        if operation == 0 {
-            return self.reset(f);
-        }
-        if operation == 1 {
-            return self.set(f);
-        }
-        self.begin()
+// Kind 0A: the caller leaves, unless its condition holds already.
+pub(crate) fn wait(flags: u32, mode: u8, mask: u32) -> Decision
+    ensures { λ r. ⌜ r ≡ cond (ltb 1 mode || eqb mask 0) (refusing 6) (doing (onlyZ (met flags (modeOf mode) mask)) (waitDeed flags mode mask)) ⌝ }
+{
+    if refusals::bad_wait(mode, mask) {
+        return decisions::refused(6);
     }
+    let m = mode_of(mode);
+    if is_met(flags, m, mask) {
+        let z = answers::only_z(true);
+        let still = decisions::nothing();
+        return decisions::accepted(z, still);
+    }
+    let marks = answers::only_z(false);
+    let deed = decisions::alone(Leave::As(State::Flags(m, mask)), Change::Same);
+    decisions::accepted(marks, deed)
+}
 
-    // Kind 0A: the caller departs, unless its condition holds already.
-    pub(crate) fn wait(mut self, mode: u8, mask: u32) -> Work
-        requires { ⌜ ArraysInOrder self × (0 < self .ready) ⌝ }
-        ensures { λ r. ⌜ r ≡ applyInFlight (waitPlan self mode mask) self ⌝ }
-    {
-        let m = mode_of(mode);
-        let flags = self.rest.flags;
-        if is_met(flags, m, mask) {
-            return self.begin();
-        }
-        let t = self.depart_as(State::Flags(m, mask));
-        t.begin()
+// Kind 0B: count 0 is a set, with its marks; any other count a mere look at the flag.
+pub(crate) fn alarm(
+    tasks: [Task; 16],
+    running: Millis,
+    now: Millis,
+    flags: u32,
+    unit: u8,
+    count: u8,
+    f: FlagNo,
+) -> Decision
+    requires { ⌜ AllTimely (now .0) tasks × (now .0 ≤ endOfTime) ⌝ }
+    ensures { λ r. ⌜ r ≡ cond (ltb lastUnit unit || ltb 31 (f .0)) (refusing 6) (cond (not (eqb (running .0) 0)) (refusing 9)
+        (doing (marks (eqb count 0 and isSet flags (f .0)) false (isSet flags (f .0))) (alarmDeed tasks now flags unit count f))) ⌝ }
+{
+    if refusals::bad_alarm(unit, f) {
+        return decisions::refused(6);
     }
-
-    // Kind 0B, its interval in range.
-    pub(crate) fn alarm(mut self, unit: u8, count: u8, f: FlagNo) -> Work
-        requires { ⌜ ArraysInOrder self × Times self × (f .0 < 32) × (self .rest .clock .0 ≤ endOfTime) × (unit ≤ lastUnit) ⌝ }
-        ensures { λ r. ⌜ r ≡ applyInFlight (alarmPlan self unit count f) self ⌝ }
-    {
-        if count == 0 {
-            return self.set(f);
-        }
-        let wait = clock::millis_of(unit, count);
-        let old = self.rest;
-        let at = Millis(old.clock.0 + wait.0);
-        let rest = old.with_alarm(f, at);
-        let w = self.begin();
-        w.with_rest(rest)
+    if running.0 != 0 {
+        return decisions::refused(9);
     }
+    let old = is_set(flags, f);
+    if count == 0 {
+        let set_marks = answers::flag_marks(1, old);
+        let deed = set(tasks, now, flags, f);
+        return decisions::accepted(set_marks, deed);
+    }
+    let wait = clock::millis_of(unit, count);
+    let at = Millis(now.0 + wait.0);
+    let marks = answers::flag_marks(2, old);
+    let stored = decisions::alone(Leave::Stays, Change::Alarm(f, at));
+    decisions::accepted(marks, stored)
 }

@@ -6,8 +6,12 @@ mod calls;
 mod check;
 mod clock;
 pub mod configuration;
+mod deciding;
+pub mod decisions;
 mod entries;
+mod executing;
 mod flags;
+mod methods;
 mod passes;
 mod places;
 mod pool;
@@ -95,11 +99,11 @@ enum AwaitedMoment {
 }
 
 // What an accepted call says of itself: Z, V and C (01), and how many grid times it passed over (02).
-struct Marks {
-    z: bool,
-    v: bool,
-    c: bool,
-    skipped: u64,
+pub struct Marks {
+    pub z: bool,
+    pub v: bool,
+    pub c: bool,
+    pub skipped: u64,
 }
 
 // What a step answers: its number, Z, V and C, the active task (0 when idle) and its run's argument; how many grid

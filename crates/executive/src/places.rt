@@ -1,14 +1,12 @@
 // The entries by task number: one guarded way from a number to its place, one read, one write.
 use crate::Millis;
 use crate::State;
-use crate::Table;
 use crate::Task;
 use records::TaskNo;
 ghost use mathlib.Core.Path.{_≡_};
 ghost use Prim.Native.Nat.{_<_};
 ghost use lib.ListN.{set};
 ghost use Rattle.executive.specs.Places.{taskAt, putAt, entryPlace};
-ghost use Rattle.executive.specs.Plans.{stateAt};
 
 // The blank entry.
 pub(crate) const NO_TASK: Task = Task {
@@ -72,15 +70,4 @@ pub(crate) fn put_at(tasks: [Task; 16], k: TaskNo, e: Task) -> [Task; 16]
         return tasks;
     }
     put_in(tasks, i, e)
-}
-
-impl Table {
-    // The state of a task.
-    pub(crate) fn state_at(self, k: TaskNo) -> State
-        ensures { λ r. ⌜ r ≡ stateAt self k ⌝ }
-    {
-        let tasks = self.tasks;
-        let e = task_at(tasks, k);
-        e.state
-    }
 }

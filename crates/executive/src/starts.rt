@@ -2,19 +2,28 @@
 use crate::AwaitedMoment;
 use crate::Request;
 use crate::State;
-use crate::Table;
-use crate::Work;
-use crate::places;
+use crate::Task;
+use crate::answers;
+use crate::decisions;
+use crate::decisions::Change;
+use crate::decisions::Decision;
+use crate::decisions::Deed;
+use crate::decisions::How;
+use crate::decisions::Leave;
+use crate::entries;
+use crate::refusals;
 use crate::states;
 use records::TaskNo;
 ghost use mathlib.Core.Path.{_≡_};
-ghost use mathlib.Core.Bool.{false};
-ghost use Prim.Native.Nat.{_<_};
-ghost use Rattle.executive.specs.Table.{ArraysInOrder, depart, applyInFlight};
-ghost use Rattle.executive.specs.Places.{taskAt};
+ghost use mathlib.Core.Bool.{not, cond, _||_};
+ghost use Prim.Native.Nat.{_/_, _%_};
+ghost use lib.Dec.{leb, eqb, ltb};
+ghost use Rattle.executive.specs.Numbers.{mostQueued};
+ghost use Rattle.executive.specs.Lists.{_and_};
+ghost use Rattle.executive.specs.Plans.{priorityOf, waitOf, argumentOf, atOnce, startWaiterOf, endWaiterOf, asks};
 ghost use Rattle.executive.specs.States.{isDormant};
-ghost use Rattle.executive.specs.Plans.{caller, stateAt, priorityOf, waitOf, argumentOf, atOnce, outOf, startWaiterOf, endWaiterOf};
-ghost use Rattle.executive.specs.Plans.{asks, startNowPlan, queueRequestPlan, startIfDormantPlan, startOrQueuePlan};
+ghost use Rattle.executive.specs.Decisions.{leaveOf, startNowDeed, queueRequestDeed, startIfDormantDeed, startOrQueueDeed, refusing, doing};
+ghost use Rattle.executive.specs.Sheet.{onlyZ};
 
 // The priority that an option of 04 or 05 asks for: the target's own (bit 7), or bits 3..0.
 pub(crate) fn priority_of(option: u8, own: u8) -> u8
@@ -80,93 +89,119 @@ pub(crate) fn at_once(wt: AwaitedMoment) -> AwaitedMoment
     }
 }
 
-impl Table {
-    // The request that the caller makes for task k, with an option's priority.
-    pub(crate) fn request(self, wt: AwaitedMoment, option: u8, k: TaskNo, argument: u16) -> Request
-        ensures { λ r. ⌜ r ≡ asks (caller self) wt k (priorityOf option (taskAt (self .tasks) (k .0) .own)) argument ⌝ }
-    {
-        let c = self.active();
-        let tasks = self.tasks;
-        let e = places::task_at(tasks, k);
+// How a caller leaves that waits so.
+fn leave_of(wt: AwaitedMoment) -> Leave
+    ensures { λ r. ⌜ r ≡ leaveOf wt ⌝ }
+{
+    match wt {
+        AwaitedMoment::ForNothing => Leave::Stays,
+        AwaitedMoment::ForStart => Leave::As(State::AwaitStart),
+        AwaitedMoment::ForEnd => Leave::As(State::AwaitEnd),
+    }
+}
+
+// The request that caller c makes for task k, whose own priority is given.
+fn request(c: TaskNo, wt: AwaitedMoment, k: TaskNo, priority: u8, argument: u16) -> Request
+    ensures { λ r. ⌜ r ≡ asks c wt k priority argument ⌝ }
+{
+    let start_waiter = start_waiter_of(wt, c);
+    let end_waiter = end_waiter_of(wt, c);
+    Request {
+        target: k,
+        priority,
+        argument,
+        start_waiter,
+        end_waiter,
+    }
+}
+
+// A dormant target starts now.
+fn start_now(q: Request, wt: AwaitedMoment) -> Deed
+    ensures { λ r. ⌜ r ≡ startNowDeed q wt ⌝ }
+{
+    let o = at_once(wt);
+    let leave = leave_of(o);
+    let l = decisions::none();
+    let k = q.target;
+    let entrants = l.also(k, How::Begun);
+    Deed {
+        leave,
+        entrants,
+        request: q,
+        change: Change::Same,
+    }
+}
+
+// A busy target is asked for later.
+fn start_later(q: Request, wt: AwaitedMoment) -> Deed
+    ensures { λ r. ⌜ r ≡ queueRequestDeed q wt ⌝ }
+{
+    let leave = leave_of(wt);
+    let entrants = decisions::none();
+    Deed {
+        leave,
+        entrants,
+        request: q,
+        change: Change::Put,
+    }
+}
+
+// Kind 04.
+pub(crate) fn start_if_dormant(e: Task, count: u8, c: TaskNo, option: u8, k: TaskNo) -> Decision
+    ensures { λ r. ⌜ r ≡ cond ((eqb (k .0) 0 || ltb count (k .0)) || not (eqb (option / 16 % 8) 0)) (refusing 6)
+        (doing (onlyZ (not (isDormant (e .state)))) (startIfDormantDeed c e option k)) ⌝ }
+{
+    if refusals::bad_start(count, option, k) {
+        return decisions::refused(6);
+    }
+    let s = e.state;
+    if states::is_dormant(s) {
         let priority = priority_of(option, e.own);
-        let start_waiter = start_waiter_of(wt, c);
-        let end_waiter = end_waiter_of(wt, c);
-        Request {
-            target: k,
-            priority,
-            argument,
-            start_waiter,
-            end_waiter,
-        }
+        let q = request(c, AwaitedMoment::ForNothing, k, priority, 0);
+        let marks = answers::only_z(false);
+        let deed = start_now(q, AwaitedMoment::ForNothing);
+        return decisions::accepted(marks, deed);
     }
+    let z = answers::only_z(true);
+    let still = decisions::nothing();
+    decisions::accepted(z, still)
+}
 
-    // The caller departs, if it is to wait.
-    pub(crate) fn go_out(self, wt: AwaitedMoment) -> Table
-        requires { ⌜ ArraysInOrder self × (0 < self .ready) ⌝ }
-        ensures { λ r. ⌜ r ≡ depart (outOf wt) self ⌝ }
-    {
-        match wt {
-            AwaitedMoment::ForNothing => self,
-            AwaitedMoment::ForStart => self.depart_as(State::AwaitStart),
-            AwaitedMoment::ForEnd => self.depart_as(State::AwaitEnd),
-        }
+// Kind 05.
+pub(crate) fn start_or_queue(
+    e: Task,
+    count: u8,
+    queued: u8,
+    c: TaskNo,
+    option: u8,
+    k: TaskNo,
+    argument: u16,
+) -> Decision
+    ensures { λ r. ⌜ r ≡ cond ((eqb (k .0) 0 || ltb count (k .0)) || eqb (option / 32 % 4) 3) (refusing 6)
+        (cond (eqb (k .0) (c .0) and not (eqb (option / 32 % 4) 0)) (refusing 7)
+        (cond (not (isDormant (e .state)) and leb mostQueued queued) (refusing 8)
+        (doing (onlyZ (not (isDormant (e .state)))) (startOrQueueDeed c e option k argument)))) ⌝ }
+{
+    if refusals::bad_queue(count, option, k) {
+        return decisions::refused(6);
     }
-
-    // Kind 05 at a dormant task.
-    pub(crate) fn start_now(self, q: Request, wt: AwaitedMoment) -> Work
-        requires { ⌜ ArraysInOrder self × (0 < self .ready) ⌝ }
-        ensures { λ r. ⌜ r ≡ applyInFlight (startNowPlan self q wt) self ⌝ }
-    {
-        let o = at_once(wt);
-        let t = self.go_out(o);
-        let rest = self.rest;
-        let now = rest.clock;
-        let k = q.target;
-        let w = t.begin();
-        w.commence(k, q, now)
+    if refusals::names_caller(c, option, k) {
+        return decisions::refused(7);
     }
-
-    // Kind 05 at a busy task, with room in the pool.
-    pub(crate) fn queue_request(self, q: Request, wt: AwaitedMoment) -> Work
-        requires { ⌜ ArraysInOrder self × (0 < self .ready) × (self .rest .queued < 32) ⌝ }
-        ensures { λ r. ⌜ r ≡ applyInFlight (queueRequestPlan self q wt) self ⌝ }
-    {
-        let t = self.go_out(wt);
-        let rest = self.rest;
-        let more = rest.with_request(q);
-        let w = t.begin();
-        w.with_rest(more)
+    let s = e.state;
+    let wt = wait_of(option);
+    let a = argument_of(option, argument);
+    let priority = priority_of(option, e.own);
+    let q = request(c, wt, k, priority, a);
+    if states::is_dormant(s) {
+        let marks = answers::only_z(false);
+        let deed = start_now(q, wt);
+        return decisions::accepted(marks, deed);
     }
-
-    // Kind 04.
-    pub(crate) fn start_if_dormant(mut self, option: u8, k: TaskNo) -> Work
-        requires { ⌜ ArraysInOrder self × (0 < self .ready) ⌝ }
-        ensures { λ r. ⌜ r ≡ applyInFlight (startIfDormantPlan self option k) self ⌝ }
-    {
-        let tasks = self.tasks;
-        let e = places::task_at(tasks, k);
-        let s = e.state;
-        if states::is_dormant(s) {
-            let q = self.request(AwaitedMoment::ForNothing, option, k, 0);
-            return self.start_now(q, AwaitedMoment::ForNothing);
-        }
-        self.begin()
+    if 32 <= queued {
+        return decisions::refused(8);
     }
-
-    // Kind 05, with room in the pool for a busy target's request.
-    pub(crate) fn start_or_queue(mut self, option: u8, k: TaskNo, argument: u16) -> Work
-        requires { ⌜ ArraysInOrder self × (0 < self .ready) × (isDormant (stateAt self k) ≡ false → self .rest .queued < 32) ⌝ }
-        ensures { λ r. ⌜ r ≡ applyInFlight (startOrQueuePlan self option k argument) self ⌝ }
-    {
-        let wt = wait_of(option);
-        let a = argument_of(option, argument);
-        let q = self.request(wt, option, k, a);
-        let tasks = self.tasks;
-        let e = places::task_at(tasks, k);
-        let s = e.state;
-        if states::is_dormant(s) {
-            return self.start_now(q, wt);
-        }
-        self.queue_request(q, wt)
-    }
+    let z = answers::only_z(true);
+    let later = start_later(q, wt);
+    decisions::accepted(z, later)
 }

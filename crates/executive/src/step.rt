@@ -1,7 +1,7 @@
 // The step: a call's refusal or its execution, from a call that was read and from a record's bytes.
 use crate::Outcome;
 use crate::Table;
-use crate::Work;
+use crate::deciding;
 use records::Call;
 use records::Got;
 use records::kinds;
@@ -38,49 +38,26 @@ fn is_step(call: Call) -> bool
 }
 
 impl Table {
-    // Executes a call that nothing refuses.
-    fn run(self, call: Call) -> Work
-        requires { ⌜ WellFormed self × (refusalBefore11 self call ≡ 0) ⌝ }
-        ensures { λ r. ⌜ r ≡ applyInFlight (planOf self call) self ⌝ }
-    {
-        let same = self.begin();
-        match call {
-            Call::Terminate => self.terminate(),
-            Call::Restart { parameter, count } => self.restart(parameter, count),
-            Call::Pause { unit, count } => self.pause(unit, count),
-            Call::CancelPause { task } => self.cancel_pause(task),
-            Call::StartIfDormant { option, task } => self.start_if_dormant(option, task),
-            Call::StartOrQueue {
-                option,
-                task,
-                argument,
-            } => self.start_or_queue(option, task, argument),
-            Call::Flag { operation, flag } => self.flag(operation, flag),
-            Call::Wait { mode, mask } => self.wait(mode, mask),
-            Call::Alarm { unit, count, flag } => self.alarm(unit, count, flag),
-            Call::Tick => self.tick(),
-            Call::Granule { .. } => same,
-            Call::Task { .. } => same,
-            Call::End => same,
-        }
-    }
-
     // A call at a well-formed table: refused with the first number that is given, or accepted. Number 11 is judged
     // on what the call comes to.
     pub(crate) fn perform(self, call: Call) -> Outcome
         requires { ⌜ WellFormed self ⌝ }
         ensures { λ r. ⌜ r ≡ performed self call ⌝ }
     {
-        let number = self.refusal(call);
-        if number != 0 {
-            return self.refuse(number);
+        let tasks = self.tasks;
+        let rest = self.rest;
+        let c = self.active();
+        let d = deciding::decide_call(tasks, rest, c, call);
+        if d.number != 0 {
+            return self.refuse(d.number);
         }
-        let w = self.run(call);
+        let deed = d.deed;
+        let w = self.execute(deed);
         if w.full {
             return self.refuse(11);
         }
         let table = w.table;
-        let m = self.marks_of(call);
+        let m = d.marks;
         let answer = table.answer(0, m);
         Outcome { answer, table }
     }

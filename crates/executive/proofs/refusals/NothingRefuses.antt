@@ -66,21 +66,9 @@ or-none false b h = (refl, h)
 or-none true b h = false-not-true (sym h)
 
 -- what a body that is in range says
-pub flag-low : (t : Table) (o : ℕ) (f : FlagNo) → badBody t (call.Flag o f) ≡ false → f .0 < 32
-unfolding badBody
-flag-low t o f h = let l = ltb-false 31 (f .0) (or-none (ltb 31 (f .0)) (ltb 2 o) h .0) in omega arith
-
-pub alarm-low : (t : Table) (u n : ℕ) (f : FlagNo) → badBody t (call.Alarm u n f) ≡ false → f .0 < 32
+alarm-low : (t : Table) (u n : ℕ) (f : FlagNo) → badBody t (call.Alarm u n f) ≡ false → f .0 < 32
 unfolding badBody
 alarm-low t u n f h = let l = ltb-false 31 (f .0) (or-none (ltb lastUnit u) (ltb 31 (f .0)) h .1) in omega arith
-
-alarm-unit : (t : Table) (u n : ℕ) (f : FlagNo) → badBody t (call.Alarm u n f) ≡ false → u ≤ lastUnit
-unfolding badBody
-alarm-unit t u n f h = let l = ltb-false lastUnit u (or-none (ltb lastUnit u) (ltb 31 (f .0)) h .0) in omega arith
-
-pause-unit : (t : Table) (u n : ℕ) → badBody t (call.Pause u n) ≡ false → u ≤ lastUnit
-unfolding badBody
-pause-unit t u n h = let l = ltb-false lastUnit u h in omega arith
 
 -- ---- what each method asks
 module _ (t : Table) (w : WellFormed t) where
@@ -94,28 +82,24 @@ module _ (t : Table) (w : WellFormed t) where
   pub restart-owed : (p n : ℕ) → refusalBefore11 t (call.Restart p n) ≡ 0 → TimesInOrder t × (0 < t .ready)
   restart-owed p n h = (standing-of t w, active (call.Restart p n) refl h)
 
-  pub pause-owed : (u n : ℕ) → refusalBefore11 t (call.Pause u n) ≡ 0 → ArraysInOrder t × (0 < t .ready) × (t .rest .clock .0 ≤ 2 ^ 40) × (u ≤ lastUnit)
-  pause-owed u n h = (fit-of t w, active (call.Pause u n) refl h, w .numbers .clock, pause-unit t u n (clear-of t (call.Pause u n) h .body))
-
-  pub start-owed : (o : ℕ) (k : TaskNo) → refusalBefore11 t (call.StartIfDormant o k) ≡ 0 → ArraysInOrder t × (0 < t .ready)
-  start-owed o k h = (fit-of t w, active (call.StartIfDormant o k) refl h)
-
   pub ask-owed : (o : ℕ) (k : TaskNo) (a : ℕ) → refusalBefore11 t (call.StartOrQueue o k a) ≡ 0
       → ArraysInOrder t × (0 < t .ready) × (isDormant (stateAt t k) ≡ false → t .rest .queued < 32)
   unfolding poolFull
   ask-owed o k a h = (fit-of t w, active (call.StartOrQueue o k a) refl h, λ d. leb-false 32 (t .rest .queued) (rw d at (clear-of t (call.StartOrQueue o k a) h .room)))
 
-  pub flag-owed : (o : ℕ) (f : FlagNo) → refusalBefore11 t (call.Flag o f) ≡ 0 → ArraysInOrder t × Times t × (f .0 < 32)
-  flag-owed o f h = (fit-of t w, w .times, flag-low t o f (clear-of t (call.Flag o f) h .body))
-
-  pub wait-owed : (m x : ℕ) → refusalBefore11 t (call.Wait m x) ≡ 0 → ArraysInOrder t × (0 < t .ready)
-  wait-owed m x h = (fit-of t w, active (call.Wait m x) refl h)
-
-  pub alarm-owed : (u n : ℕ) (f : FlagNo) → refusalBefore11 t (call.Alarm u n f) ≡ 0 → ArraysInOrder t × Times t × (f .0 < 32) × (t .rest .clock .0 ≤ 2 ^ 40) × (u ≤ lastUnit)
-  alarm-owed u n f h =
-      let b = clear-of t (call.Alarm u n f) h .body in
-      (fit-of t w, w .times, alarm-low t u n f b, w .numbers .clock, alarm-unit t u n f b)
+  pub alarm-owed : (u n : ℕ) (f : FlagNo) → refusalBefore11 t (call.Alarm u n f) ≡ 0 → f .0 < 32
+  alarm-owed u n f h = alarm-low t u n f (clear-of t (call.Alarm u n f) h .body)
 
   pub tick-owed : refusalBefore11 t call.Tick ≡ 0 → ArraysInOrder t × (t .rest .clock .0 + t .rest .granule ≤ 2 ^ 40)
   unfolding endsTime
   tick-owed h = (fit-of t w, ltb-false (2 ^ 40) (t .rest .clock .0 + t .rest .granule) (clear-of t call.Tick h .time))
+
+-- ---- the same of the numbers alone
+pub low-first : (a : ℕ) (b : Bool) → (ltb 31 a || b) ≡ false → a < 32
+low-first a b h = let l = ltb-false 31 a (or-none (ltb 31 a) b h .0) in omega arith
+
+pub low-second : (b : Bool) (a : ℕ) → (b || ltb 31 a) ≡ false → a < 32
+low-second b a h = let l = ltb-false 31 a (or-none b (ltb 31 a) h .1) in omega arith
+
+pub low-unit : (u : ℕ) (b : Bool) → (ltb lastUnit u || b) ≡ false → u ≤ lastUnit
+low-unit u b h = let l = ltb-false lastUnit u (or-none (ltb lastUnit u) b h .0) in omega arith

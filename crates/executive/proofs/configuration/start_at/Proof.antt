@@ -1,6 +1,5 @@
--- `executive::configuration::start_at` meets its contract.
-use mathlib.Core.Path.{refl}
-use borrow.Author.Tests.{eq-eqb, ne-eqb}
+use mathlib.Core.Path.{_≡_, refl, ap, sym, _∙_}
+use borrow.Author.Tests.{lt-ltb, le-ltb, le-leb, lt-leb, eq-eqb, ne-eqb}
 use Rattle.executive.specs.Table.{enterAllInFlight}
 use Rattle.executive.specs.Configuration.{markedStart}
 use borrow.Author.Needs.{needs}
@@ -12,8 +11,8 @@ unfolding markedStart enterAllInFlight
 returns c = rw (← c .before .mark-in .ensures, ne-eqb (c .before .mark-in .result) 1 (c .if1 .taken)) refl
 
 returns-2 : tie.Need-returns-2
-unfolding markedStart
-returns-2 c = rw (c .commence .ensures, c .before .own-in .ensures, ← c .before .before .before .mark-in .ensures, eq-eqb (c .before .before .before .mark-in .result) 1 (c .before .before .if1 .left)) refl
+unfolding markedStart enterAllInFlight
+returns-2 c = rw (c .enter .ensures, c .before .own-in .ensures, ← c .before .before .before .mark-in .ensures, eq-eqb (c .before .before .before .mark-in .result) 1 (c .before .before .if1 .left)) refl
 
 pub start-at-spec : {M : Type 1} → statement M
 start-at-spec =

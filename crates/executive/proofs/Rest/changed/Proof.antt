@@ -1,0 +1,55 @@
+use borrow.Author.Needs.{needs}
+use Rattle.executive.proofs.Rest.changed.Statement.{statement}
+use Rattle.executive.proofs.Rest.changed.Tie as tie
+
+with-alarm-requires : tie.Need-with-alarm-requires
+with-alarm-requires c κs = rw (c .before .change2 .given .1) at (c .before .before .before .pre .1)
+
+with-request-requires : tie.Need-with-request-requires
+with-request-requires c κs = (c .before .before .pre .0, rw (c .enum-told2 .given .1) at (c .before .before .pre .1))
+
+without-requires : tie.Need-without-requires
+without-requires c κs = (c .before .before .before .pre .0, rw (c .before .change3 .given .1) at (c .before .before .before .pre .1))
+
+advance-requires : tie.Need-advance-requires
+advance-requires c κs = rw (c .before .change4 .given .1) at (c .before .before .before .pre .1)
+
+returns : tie.Need-returns
+returns c = simp (c .enum-told .given .1)
+
+returns-2 : tie.Need-returns-2
+returns-2 c = simp (c .before .before .change .given .1, c .with-flags .ensures)
+
+returns-3 : tie.Need-returns-3
+returns-3 c = simp (c .before .before .change2 .given .1, c .with-alarm .ensures)
+
+returns-4 : tie.Need-returns-4
+returns-4 c = simp (c .before .enum-told2 .given .1, c .with-request .ensures)
+
+returns-5 : tie.Need-returns-5
+returns-5 c = simp (c .before .before .change3 .given .1, c .without .ensures)
+
+returns-6 : tie.Need-returns-6
+returns-6 c = simp (c .before .before .change4 .given .1, c .advance .ensures)
+
+pub changed-spec : {M : Type 1} → statement M
+changed-spec =
+    tie.close
+    (tie.spec
+    (λ c. search needs)
+    (λ c. search needs)
+    (λ c κs. search needs)
+    (λ c. search needs)
+    with-alarm-requires
+    (λ c. search needs)
+    with-request-requires
+    (λ c. search needs)
+    without-requires
+    (λ c. search needs)
+    advance-requires
+    returns
+    returns-2
+    returns-3
+    returns-4
+    returns-5
+    returns-6)

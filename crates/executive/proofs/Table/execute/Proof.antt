@@ -1,0 +1,31 @@
+use mathlib.Core.Path.{_≡_, refl, ap, sym, _∙_}
+use Rattle.executive.specs.Table.{applyInFlight}
+use Rattle.executive.specs.Decisions.{meant}
+use Rattle.executive.proofs.queue.InFlight.{begin-flying, depart-fit}
+use Rattle.executive.proofs.executing.Leaving.{flown-rest}
+use borrow.Author.Needs.{needs}
+use Rattle.executive.proofs.Table.execute.Statement.{statement}
+use Rattle.executive.proofs.Table.execute.Tie as tie
+
+left-requires : tie.Need-left-requires
+left-requires c κs = c .before .before .pre .fit
+
+enter-all-requires : tie.Need-enter-all-requires
+enter-all-requires c κs = (rw (c .before .begin .ensures, c .before .before .left .ensures) (begin-flying _ (depart-fit _ (c .before .before .before .before .before .args .self) (c .before .before .before .before .before .pre .fit))), c .before .before .before .before .before .pre .few)
+
+changed-requires : tie.Need-changed-requires
+changed-requires c κs = rw (c .enter-all .ensures, c .before .before .begin .ensures, c .before .before .before .left .ensures, flown-rest _ _ (c .before .before .before .before .before .before .args .self)) (c .before .before .before .before .before .before .pre .fit .neat, c .before .before .before .before .before .before .pre .able)
+
+returns : tie.Need-returns
+unfolding applyInFlight meant
+returns c = rw (c .changed .ensures, c .before .enter-all .ensures, c .before .before .before .begin .ensures, c .before .before .before .before .left .ensures, flown-rest _ _ (c .before .before .before .before .before .before .before .args .self)) refl
+
+pub execute-spec : {M : Type 1} → statement M
+execute-spec =
+    tie.close
+    (tie.spec
+    left-requires
+    (λ c κs. search needs)
+    enter-all-requires
+    changed-requires
+    returns)

@@ -1,0 +1,124 @@
+use mathlib.Core.Path.{_≡_, refl, ap, sym, _∙_}
+use Rattle.executive.specs.Sheet.{decided}
+use borrow.Author.Needs.{needs}
+use Rattle.executive.proofs.deciding.by_kind.Statement.{statement}
+use Rattle.executive.proofs.deciding.by_kind.Tie as tie
+
+terminate-requires : tie.Need-terminate-requires
+terminate-requires c κs = c .before .before .before .before .pre .queued
+
+restart-requires : tie.Need-restart-requires
+restart-requires c κs = (rw (c .task-at .ensures) (c .before .before .before .before .before .pre .started), c .before .before .before .before .before .pre .clock)
+
+pause-requires : tie.Need-pause-requires
+pause-requires c κs = c .before .before .before .before .pre .clock
+
+flag-requires : tie.Need-flag-requires
+flag-requires c κs = c .before .before .before .before .pre .timely
+
+alarm-requires : tie.Need-alarm-requires
+alarm-requires c κs = (c .before .before .before .before .before .before .pre .timely, c .before .before .before .before .before .before .pre .clock)
+
+tick-requires : tie.Need-tick-requires
+tick-requires c κs = c .before .before .before .before .pre .clock
+
+returns : tie.Need-returns
+unfolding decided
+returns c = λ t s. rw (c .terminate .ensures, c .before .before .enum-told .given .1, s .tasks, s .rest, s .calls) refl
+
+returns-2 : tie.Need-returns-2
+unfolding decided
+returns-2 c = λ t s. rw (c .restart .ensures, c .before .task-at .ensures, c .before .before .before .call .given .1, s .tasks, s .rest, s .calls) refl
+
+returns-3 : tie.Need-returns-3
+unfolding decided
+returns-3 c = λ t s. rw (c .pause .ensures, c .before .before .call2 .given .1, s .rest) refl
+
+returns-4 : tie.Need-returns-4
+unfolding decided
+returns-4 c = λ t s. rw (c .cancel-pause .ensures, c .before .task-at2 .ensures, c .before .before .before .call3 .given .1, s .tasks, s .rest) refl
+
+returns-5 : tie.Need-returns-5
+unfolding decided
+returns-5 c = λ t s. rw (c .start-if-dormant .ensures, c .before .task-at3 .ensures, c .before .before .before .call4 .given .1, s .tasks, s .rest, s .calls) refl
+
+returns-6 : tie.Need-returns-6
+unfolding decided
+returns-6 c = λ t s. rw (c .start-or-queue .ensures, c .before .task-at4 .ensures, c .before .before .before .call5 .given .1, s .tasks, s .rest, s .calls) refl
+
+returns-7 : tie.Need-returns-7
+unfolding decided
+returns-7 c = λ t s. rw (c .flag .ensures, c .before .before .call6 .given .1, s .tasks, s .rest) refl
+
+returns-8 : tie.Need-returns-8
+unfolding decided
+returns-8 c = λ t s. rw (c .wait .ensures, c .before .before .call7 .given .1, s .rest) refl
+
+returns-9 : tie.Need-returns-9
+unfolding decided
+returns-9 c = λ t s. rw (c .alarm .ensures, c .before .alarm-at .ensures, c .before .before .before .before .call8 .given .1, s .tasks, s .rest) refl
+
+returns-10 : tie.Need-returns-10
+unfolding decided
+returns-10 c = λ t s. rw (c .tick .ensures (c .before .before .before .before .before .args .rest) refl refl refl refl, c .before .before .enum-told2 .given .1, s .tasks, s .rest) refl
+
+returns-11 : tie.Need-returns-11
+unfolding decided
+returns-11 c = λ t s. rw (c .no-call .ensures, c .before .enum-told3 .given .1) refl
+
+returns-12 : tie.Need-returns-12
+unfolding decided
+returns-12 c = λ t s. rw (c .no-call2 .ensures, c .before .enum-told4 .given .1) refl
+
+returns-13 : tie.Need-returns-13
+unfolding decided
+returns-13 c = λ t s. rw (c .no-call3 .ensures, c .before .enum-told5 .given .1) refl
+
+pub by-kind-spec : {M : Type 1} → statement M
+by-kind-spec =
+    tie.close
+    (tie.spec
+    (λ c. search needs)
+    terminate-requires
+    (λ c. search needs)
+    (λ c κs. search needs)
+    restart-requires
+    (λ c. search needs)
+    pause-requires
+    (λ c. search needs)
+    (λ c κs. search needs)
+    (λ c κs. search needs)
+    (λ c. search needs)
+    (λ c κs. search needs)
+    (λ c κs. search needs)
+    (λ c. search needs)
+    (λ c κs. search needs)
+    (λ c κs. search needs)
+    (λ c. search needs)
+    flag-requires
+    (λ c. search needs)
+    (λ c κs. search needs)
+    (λ c. search needs)
+    (λ c κs. search needs)
+    alarm-requires
+    (λ c. search needs)
+    tick-requires
+    (λ c. search needs)
+    (λ c κs. search needs)
+    (λ c. search needs)
+    (λ c κs. search needs)
+    (λ c. search needs)
+    (λ c κs. search needs)
+    returns
+    returns-2
+    returns-3
+    returns-4
+    returns-5
+    returns-6
+    returns-7
+    returns-8
+    returns-9
+    returns-10
+    returns-11
+    returns-12
+    returns-13)

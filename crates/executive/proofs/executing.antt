@@ -1,0 +1,2 @@
+-- The laws of the executor.
+pub mod Leaving

@@ -1,0 +1,243 @@
+-- What a step decides, as a small value: who leaves and how, who enters in which order and how, what becomes of the
+-- rest; and what such a value means at a table. Each kind's deed is its plan as a value, from the parts of the table
+-- that it looks at.
+use Prim.Native.Nat.{ℕ, suc, _+_, _≤_, _<_}
+use mathlib.Core.Path.{_≡_}
+use mathlib.Core.Bool.{Bool, true, false, cond}
+use mathlib.Core.List.{List, [], _∷_, _++_}
+use lib.Dec.{leb, ltb, eqb}
+use lib.ListN.{length, getD, take}
+use Rattle.records.specs.declared.TaskNo.{TaskNo}
+use Rattle.records.specs.declared.FlagNo.{FlagNo}
+use Rattle.executive.specs.declared.Millis.{Millis}
+use Rattle.executive.specs.declared.AwaitedMoment.{AwaitedMoment}
+use Rattle.executive.specs.declared.AwaitedMoment.the-variants.{ForNothing, ForStart, ForEnd}
+use Rattle.executive.specs.declared.State.{State}
+use Rattle.executive.specs.declared.State.the-variants as state
+use Rattle.executive.specs.declared.Task.{Task}
+use Rattle.executive.specs.declared.Request.{Request}
+use Rattle.executive.specs.declared.Rest.{Rest}
+use Rattle.executive.specs.declared.Table.{Table}
+use Rattle.executive.specs.declared.Marks.{Marks}
+use Rattle.executive.specs.declared.decisions.Leave.{Leave}
+use Rattle.executive.specs.declared.decisions.Leave.the-variants as leave
+use Rattle.executive.specs.declared.decisions.How.{How}
+use Rattle.executive.specs.declared.decisions.How.the-variants.{Woken, Risen, Begun}
+use Rattle.executive.specs.declared.decisions.Entrant.{Entrant}
+use Rattle.executive.specs.declared.decisions.Entrants.{Entrants}
+use Rattle.executive.specs.declared.decisions.Change.{Change}
+use Rattle.executive.specs.declared.decisions.Change.the-variants as change
+use Rattle.executive.specs.declared.decisions.Deed.{Deed}
+use Rattle.executive.specs.declared.decisions.Decision.{Decision}
+use Rattle.executive.specs.Numbers.{mostTasks, mostQueued, flagCount, endOfTime}
+use Rattle.executive.specs.Lists.{pad, nextOf}
+use Rattle.executive.specs.Places.{nobody, never, noRequest, taskAt}
+use Rattle.executive.specs.Pool.{requests, withRequests, placeOf, removed}
+use Rattle.executive.specs.Table.{ArraysInOrder, Out, stays, leaves, Join, Plan}
+use Rattle.executive.specs.Entries.{withState, asDormant, begun, dueAt, risen}
+use Rattle.executive.specs.Clock.{interval, aimAt, withAlarm, isDue, advanced}
+use Rattle.executive.specs.Flags.{withFlags, flagSet, flagReset, met, modeOf}
+use Rattle.executive.specs.WellFormed.{Timely}
+use Rattle.executive.specs.Plans.{priorityOf, waitOf, argumentOf, atOnce, asks, holds, over}
+use Rattle.executive.specs.States.{isDormant, isPaused}
+
+-- ---- who enters, and how
+abbrev pub entrant : TaskNo → How → Entrant
+entrant k h = record { who = k; how = h }
+
+-- entrants at the front of their places, free places last and blank; read off again
+abbrev pub listed : List Entrant → Entrants
+listed xs = record { places = pad mostTasks (entrant nobody Woken) xs; count = length xs }
+
+abbrev pub named : Entrants → List Entrant
+named l = take (l .count) (l .places)
+
+pub record Listed (l : Entrants) : Type 0 where
+  pub room : l .count ≤ mostTasks
+  pub clear : l .places ≡ pad mostTasks (entrant nobody Woken) (named l)
+
+-- whoever is named is woken; 0 names nobody
+unfoldable pub wakes : TaskNo → List Entrant
+wakes k = cond (eqb (k .0) 0) [] (entrant k Woken ∷ [])
+
+-- task k enters, its wait over, if it is so
+unfoldable pub raisedIf : Bool → TaskNo → List Entrant
+raisedIf b k = cond b (entrant k Risen ∷ []) []
+
+-- all tasks from number k on whose state passes a test, in ascending number
+unfoldable pub rising : (State → Bool) → ℕ → List Task → List Entrant
+rising f k [] = []
+rising f k (e ∷ es) = raisedIf (f (e .state)) (record { 0 = k }) ++ rising f (suc k) es
+
+-- ---- a deed, and what it means at a table
+abbrev pub deed : Leave → List Entrant → Request → Change → Deed
+deed l xs q ch = record { leave = l; entrants = listed xs; request = q; change = ch }
+
+-- nobody enters; nothing is done
+abbrev pub alone : Leave → Change → Deed
+alone l ch = deed l [] noRequest ch
+
+abbrev pub noDeed : Deed
+noDeed = alone leave.Stays change.Same
+
+abbrev pub outFor : Leave → Out
+outFor leave.Stays = stays
+outFor leave.Sleeps = leaves asDormant
+outFor (leave.DueAt at) = leaves (dueAt at)
+outFor (leave.As s) = leaves (withState s)
+
+-- the caller's entry as it leaves; one that stays keeps it
+abbrev pub goneAs : Leave → Task → Task
+goneAs leave.Stays e = e
+goneAs leave.Sleeps e = asDormant e
+goneAs (leave.DueAt at) e = dueAt at e
+goneAs (leave.As s) e = withState s e
+
+abbrev pub changeFor : Request → Millis → How → Task → Task
+changeFor q now Woken = withState state.Ready
+changeFor q now Risen = risen
+changeFor q now Begun = begun q now
+
+unfoldable pub joinsFor : Request → Millis → List Entrant → List Join
+joinsFor q now [] = []
+joinsFor q now (x ∷ xs) = record { who = x .who; change = changeFor q now (x .how) } ∷ joinsFor q now xs
+
+-- the request that is put in is the deed's; the place that comes with the clock's advance is the first due alarm's, and
+-- changes nothing
+abbrev pub changed : Change → Request → Rest → Rest
+changed change.Same q r = r
+changed (change.Flags fs) q r = withFlags fs r
+changed (change.Alarm f at) q r = withAlarm (f .0) at r
+changed change.Put q r = withRequests (requests r ++ (q ∷ [])) r
+changed (change.Taken i) q r = withRequests (removed i (requests r)) r
+changed (change.Clock i) q r = advanced r
+
+abbrev pub alters : Change → Bool
+alters change.Same = false
+alters (change.Flags fs) = true
+alters (change.Alarm f at) = true
+alters change.Put = true
+alters (change.Taken i) = true
+alters (change.Clock i) = true
+
+unfoldable pub meant : Deed → Table → Plan
+meant d t = record {
+  out = outFor (d .leave);
+  ins = joinsFor (d .request) (t .rest .clock) (named (d .entrants));
+  rest = changed (d .change) (d .request) (t .rest);
+}
+
+-- the place of the first alarm that a tick makes due; 32 where there is none
+unfoldable pub firstDue : Rest → ℕ
+firstDue r = nextOf (isDue (r .clock .0 + r .granule)) 0 (r .alarms)
+
+-- the flags once alarm i, if it is due at the clock c, has rung
+unfoldable pub rungIn : ℕ → List Millis → ℕ → ℕ → ℕ
+rungIn c alarms fs i = cond (isDue c (getD alarms i never)) (flagSet fs i) fs
+
+-- what an executor asks of a change and of a deed
+abbrev pub Able : Change → Rest → Type 0
+Able change.Same r = Unit {0}
+Able (change.Flags fs) r = Unit {0}
+Able (change.Alarm f at) r = f .0 < flagCount
+Able change.Put r = r .queued < mostQueued
+Able (change.Taken i) r = i < r .queued
+Able (change.Clock i) r = (r .clock .0 + r .granule ≤ endOfTime) × (i ≡ firstDue r)
+
+pub record Doable (d : Deed) (t : Table) : Type 0 where
+  pub fit : ArraysInOrder t
+  pub few : d .entrants .count ≤ mostTasks
+  pub able : Able (d .change) (t .rest)
+
+-- ---- each kind's deed, from the parts of the table that it looks at
+-- 00: the tasks, the requests, the caller; the earliest request for it at place i
+abbrev pub endDeedBy : List Task → List Request → TaskNo → ℕ → Deed
+endDeedBy ts rs c i =
+    cond (ltb i (length rs))
+    (deed leave.Sleeps
+    (wakes (taskAt ts (c .0) .«end_waiter») ++ (entrant c Begun ∷ wakes (getD rs i noRequest .«start_waiter»)))
+    (getD rs i noRequest) (change.Taken i))
+    (deed leave.Sleeps (wakes (taskAt ts (c .0) .«end_waiter»)) noRequest change.Same)
+
+unfoldable pub terminateDeed : List Task → List Request → TaskNo → Deed
+terminateDeed ts rs c = endDeedBy ts rs c (placeOf (c .0) rs)
+
+-- 01: the caller, its entry and the time aimed at
+abbrev pub restartDeedBy : TaskNo → Task → Millis → Millis → Deed
+restartDeedBy c e now aim =
+    deed (leave.DueAt aim) (wakes (e .«end_waiter») ++ raisedIf (leb (aim .0) (now .0)) c) noRequest change.Same
+
+unfoldable pub restartDeed : TaskNo → Task → Millis → ℕ → ℕ → Deed
+restartDeed c e now p n = restartDeedBy c e now (aimAt (e .start) now p n)
+
+-- 02
+unfoldable pub pauseDeed : Millis → ℕ → ℕ → Deed
+pauseDeed now u n = cond (eqb n 0) noDeed (alone (leave.As (state.Paused (record { 0 = now .0 + interval u n .0 }))) change.Same)
+
+-- 03: the state of task k
+unfoldable pub cancelPauseDeed : State → TaskNo → Deed
+cancelPauseDeed s k = cond (isPaused s) (deed leave.Stays (entrant k Risen ∷ []) noRequest change.Same) noDeed
+
+-- 04, 05
+abbrev pub leaveOf : AwaitedMoment → Leave
+leaveOf ForNothing = leave.Stays
+leaveOf ForStart = leave.As state.AwaitStart
+leaveOf ForEnd = leave.As state.AwaitEnd
+
+unfoldable pub startNowDeed : Request → AwaitedMoment → Deed
+startNowDeed q wt = deed (leaveOf (atOnce wt)) (entrant (q .target) Begun ∷ []) q change.Same
+
+unfoldable pub queueRequestDeed : Request → AwaitedMoment → Deed
+queueRequestDeed q wt = deed (leaveOf wt) [] q change.Put
+
+-- the caller c, the entry e of the target k
+unfoldable pub startIfDormantDeed : TaskNo → Task → ℕ → TaskNo → Deed
+startIfDormantDeed c e o k = cond (isDormant (e .state)) (startNowDeed (asks c ForNothing k (priorityOf o (e .own)) 0) ForNothing) noDeed
+
+unfoldable pub askedBy : TaskNo → Task → ℕ → TaskNo → ℕ → Request
+askedBy c e o k a = asks c (waitOf o) k (priorityOf o (e .own)) (argumentOf o a)
+
+unfoldable pub startOrQueueDeed : TaskNo → Task → ℕ → TaskNo → ℕ → Deed
+startOrQueueDeed c e o k a =
+    cond (isDormant (e .state)) (startNowDeed (askedBy c e o k a) (waitOf o)) (queueRequestDeed (askedBy c e o k a) (waitOf o))
+
+-- 09, 0A, 0B: the tasks and the flags
+unfoldable pub setDeed : List Task → ℕ → FlagNo → Deed
+setDeed ts fs f = deed leave.Stays (rising (holds (flagSet fs (f .0))) 1 ts) noRequest (change.Flags (flagSet fs (f .0)))
+
+unfoldable pub flagDeed : List Task → ℕ → ℕ → FlagNo → Deed
+flagDeed ts fs o f =
+    cond (eqb o 0) (alone leave.Stays (change.Flags (flagReset fs (f .0)))) (cond (eqb o 1) (setDeed ts fs f) noDeed)
+
+unfoldable pub waitDeed : ℕ → ℕ → ℕ → Deed
+waitDeed fs m mask = cond (met fs (modeOf m) mask) noDeed (alone (leave.As (state.Flags (modeOf m) mask)) change.Same)
+
+unfoldable pub alarmDeed : List Task → Millis → ℕ → ℕ → ℕ → FlagNo → Deed
+alarmDeed ts now fs u n f =
+    cond (eqb n 0) (setDeed ts fs f) (alone leave.Stays (change.Alarm f (record { 0 = now .0 + interval u n .0 })))
+
+-- 80
+unfoldable pub tickDeed : List Task → Rest → Deed
+tickDeed ts r =
+    deed leave.Stays (rising (over (advanced r .clock .0) (advanced r .flags)) 1 ts) noRequest (change.Clock (firstDue r))
+
+-- ---- what the kinds' functions ask of the tasks, the rest and the caller
+abbrev pub AllTimely : ℕ → List Task → Type 0
+AllTimely c ts = (k : ℕ) → Timely c (taskAt ts k .state)
+
+pub record Judgeable (ts : List Task) (r : Rest) (c : TaskNo) : Type 0 where
+  pub queued : r .queued ≤ mostQueued
+  pub clock : r .clock .0 ≤ endOfTime
+  pub started : taskAt ts (c .0) .start .0 ≤ r .clock .0
+  pub timely : AllTimely (r .clock .0) ts
+
+-- ---- a decision: refused with a number, or done with the marks of the answer
+abbrev pub refusing : ℕ → Decision
+refusing n = record { number = n; marks = record { z = false; v = false; c = false; skipped = 0 }; deed = noDeed }
+
+abbrev pub doing : Marks → Deed → Decision
+doing m d = record { number = 0; marks = m; deed = d }
+
+-- what holds of every rest with these alarms, this clock, this granule and these flags
+abbrev pub AllRests : List Millis → Millis → ℕ → ℕ → (Rest → Type 0) → Type 0
+AllRests al c g fs P = (r : Rest) → r .alarms ≡ al → r .clock ≡ c → r .granule ≡ g → r .flags ≡ fs → P r
