@@ -1,4 +1,5 @@
--- The pieces are the listing: what is told and what is left to tell are together the same at every turn, and what is left grows less.
+-- The pieces are the listing: what is told and what is left to tell are together the same at every turn, and what is
+-- left grows less.
 use Prim.Native.Nat.{ℕ, zero, suc, _+_, _-_, _≤_, _<_}
 use mathlib.Core.Path.{_≡_, refl, sym, ap, _∙_}
 use mathlib.Core.Bool.{true, false}

@@ -204,7 +204,8 @@ pub(crate) fn rings(alarms: [Millis; 32], flags: u32, first: usize, now: Millis)
 }
 
 impl Rest {
-    // The clock gains a granule, and the due alarms ring: each sets its flag and is cleared. Only they are touched, from
+    // The clock gains a granule, and the due alarms ring: each sets its flag and is cleared. Only they are touched,
+    // from
     // the first of them on.
     pub(crate) fn advance(mut self, first: usize) -> Rest
         requires { ⌜ (self .clock .0 + self .granule ≤ endOfTime) × (first ≡ firstDue self) ⌝ }

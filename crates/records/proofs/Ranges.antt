@@ -1,4 +1,5 @@
--- A call's numbers are below the bounds of their widths: whoever owns the call knows it, and so does whoever read it from bytes.
+-- A call's numbers are below the bounds of their widths: whoever owns the call knows it, and so does whoever read it
+-- from bytes.
 use Prim.Native.Nat.{ℕ}
 use mathlib.Core.List.{List}
 use native.Mathlib.Omega.{arith}

@@ -1,4 +1,5 @@
--- The round trips: writing a call and reading it gives the same call, and reading a record and writing it gives the same bytes.
+-- The round trips: writing a call and reading it gives the same call, and reading a record and writing it gives the
+-- same bytes.
 use Prim.Native.Nat.{ℕ, suc}
 use mathlib.Core.Path.{_≡_, refl, sym, ap, _∙_}
 use mathlib.Core.Bool.{Bool, true, false, cond}

@@ -49,7 +49,8 @@ pub record Promises : Type 0 where
   pub there-determined : (c : Call) (x y : Got) → ComesBack c x → ComesBack c y → x ≡ y
   pub back-determined : (s o p q : List ℕ) (x y : Written) → WritesAgain s o p x → WritesAgain s o q y
       → (p ≡ q) × (x ≡ y)
-  -- where no refusal of a list has the number 0, the first's number decides; a number that none of them has is not given
+  -- where no refusal of a list has the number 0, the first's number decides; a number that none of them has is not
+  -- given
   pub first-decides : (rs : List Refusal) → Never 0 rs → Decides rs (firstOf rs)
   pub first-not : (m : ℕ) (rs : List Refusal) → m ≢ 0 → Never m rs → firstOf rs ≢ m
   -- numbers that are laid by some widths, cut out again by the same: the same numbers, whatever stands around them; and

@@ -1,4 +1,5 @@
--- The rules on links, over the tasks and the pool, with at most one task w that waits for an end and one task s that waits for a start and that
+-- The rules on links, over the tasks and the pool, with at most one task w that waits for an end and one task s that
+-- waits for a start and that
 -- no link names yet (or any longer): the orphans. Task d may be dormant with requests queued. A number 0 is nobody.
 use mathlib.Core.Path.{_≡_, refl, ap}
 use mathlib.Core.Bool.{Bool, true, false, cond}

@@ -1,4 +1,5 @@
--- The queue's rule is kept by every plan whose caller leaves to a state that is not ready, and whose joining tasks were not ready and are.
+-- The queue's rule is kept by every plan whose caller leaves to a state that is not ready, and whose joining tasks were
+-- not ready and are.
 use mathlib.Core.Path.{_≡_, refl, sym, _∙_}
 use mathlib.Core.Bool.{Bool, true, false, cond}
 use mathlib.Core.List.{List, _∷_}

@@ -1,4 +1,5 @@
--- Those whose wait is over enter, in ascending number: the plan is good. For any test f of a state, so that kinds 80 and 09 share it.
+-- Those whose wait is over enter, in ascending number: the plan is good. For any test f of a state, so that kinds 80
+-- and 09 share it.
 use mathlib.Core.Path.{_≡_, refl, ap, _∙_}
 use mathlib.Core.Bool.{Bool, true, false, cond}
 use mathlib.Core.List.{List, [], _∷_}

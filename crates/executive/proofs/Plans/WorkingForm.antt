@@ -1,4 +1,5 @@
--- The working form of a well-formed table: the rules grouped by what a step changes. It says what `WellFormed` says, both ways.
+-- The working form of a well-formed table: the rules grouped by what a step changes. It says what `WellFormed` says,
+-- both ways.
 use mathlib.Core.Path.{_≡_, refl, ap, _∙_}
 use mathlib.Core.Bool.{Bool, true, false}
 use mathlib.Core.List.{List, [], _∷_}

@@ -1,4 +1,5 @@
--- The check of the queue's order: its loop, and that it passes exactly where all who stand there are tasks, in descending priority.
+-- The check of the queue's order: its loop, and that it passes exactly where all who stand there are tasks, in
+-- descending priority.
 use Prim.Native.Nat.{ℕ, zero, suc, _+_, _≤_, _<_}
 use mathlib.Core.Path.{_≡_, refl, sym, ap, _∙_}
 use mathlib.Core.Bool.{Bool, true, false, cond}

@@ -1,4 +1,5 @@
--- A task entry that lies in a local, as a lender has it: what `Denote/Lend.antt`'s `lends-ref` takes and `ref-back` gives. For another struct change the names.
+-- A task entry that lies in a local, as a lender has it: what `Denote/Lend.antt`'s `lends-ref` takes and `ref-back`
+-- gives. For another struct change the names.
 --     task-in      the local's cell and what its value owns   ⊢   the entry lies there
 --     task-out     the entry lies there   ⊢   the local's cell at the entry's machine value, and what that owns
 -- Assumes `Given` (of it `at-raw` and `raw-at`).

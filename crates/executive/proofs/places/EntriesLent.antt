@@ -1,6 +1,7 @@
 -- The sixteen entries in a local, as a lender of one of them has them.
 --     All, vA, tellsA, makesA, typedA      the array's row, its machine value, and its laws, from the entry's
---     all-in       the local's cell and what its value owns  ⊢  the entries side by side: what a lender takes one entry from
+--     all-in       the local's cell and what its value owns  ⊢  the entries side by side: what a lender takes one entry
+-- from
 --     all-out      and back, at the machine value
 -- Assumes `Given` (of it `at-raw`, `raw-at`, `at-elems` and `elems-at`).
 use Prim.Native.Nat.{ℕ}

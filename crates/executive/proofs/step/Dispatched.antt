@@ -1,4 +1,5 @@
--- Demand 2: the head of a well-formed table's queue is the first of the ready tasks with highest priority, and there is none exactly if no task is ready.
+-- Demand 2: the head of a well-formed table's queue is the first of the ready tasks with highest priority, and there is
+-- none exactly if no task is ready.
 use mathlib.Core.Path.{_≡_, refl, sym, ap, _∙_}
 use mathlib.Core.Logic.{_↔_, _≢_}
 use mathlib.Core.Bool.{Bool, true, false, cond}

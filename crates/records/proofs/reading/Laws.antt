@@ -1,4 +1,5 @@
--- Which case of `readOf` holds, from what the tests of `read` give; the four cases of any record; when 3 and 4 are given.
+-- Which case of `readOf` holds, from what the tests of `read` give; the four cases of any record; when 3 and 4 are
+-- given.
 use Prim.Native.Nat.{ℕ}
 use mathlib.Core.Path.{_≡_, refl, ap, _∙_}
 use mathlib.Core.Logic.{_↔_, _≢_, _⊎_, inl, inr, ⊎-elim}

@@ -1,4 +1,5 @@
--- Which case of `writtenOf` and `outOf` holds, from what the tests of `write` give; one more byte copied; no record is longer than six bytes; when 20 is given.
+-- Which case of `writtenOf` and `outOf` holds, from what the tests of `write` give; one more byte copied; no record is
+-- longer than six bytes; when 20 is given.
 use Prim.Native.Nat.{ℕ, suc, _+_, _≤_, _<_}
 use mathlib.Core.Path.{_≡_, sym, ap, _∙_}
 use mathlib.Core.Logic.{_↔_, _⊎_, inl, inr}

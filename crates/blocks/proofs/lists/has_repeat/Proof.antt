@@ -1,4 +1,5 @@
--- `lists::has_repeat` meets its contract: the invariant is that the rest of the list has a repeat exactly where the whole has.
+-- `lists::has_repeat` meets its contract: the invariant is that the rest of the list has a repeat exactly where the
+-- whole has.
 use Prim.Native.Nat.{_-_}
 use mathlib.Core.Path.{_≡_, refl, sym, _∙_}
 use native.Mathlib.Omega.{arith}

@@ -1,4 +1,5 @@
--- `lists::place_from` meets its contract: the invariant is that the place counted from here is the place counted from the start.
+-- `lists::place_from` meets its contract: the invariant is that the place counted from here is the place counted from
+-- the start.
 use Prim.Native.Nat.{_+_, _-_}
 use mathlib.Core.Path.{_≡_, refl}
 use native.Mathlib.Omega.{arith}

@@ -1,4 +1,5 @@
--- `writing::write_record` meets its contract: each test picks its case, and a record that is read is written as its call.
+-- `writing::write_record` meets its contract: each test picks its case, and a record that is read is written as its
+-- call.
 use mathlib.Core.Path.{sym, ap, _∙_}
 use mathlib.Core.Bool.{not}
 use native.Mathlib.Omega.{arith}

@@ -1,4 +1,5 @@
--- `checking::same_bytes` meets its contract. The invariant: the whole is the same exactly where nothing differed so far and what is left is the same.
+-- `checking::same_bytes` meets its contract. The invariant: the whole is the same exactly where nothing differed so far
+-- and what is left is the same.
 use Prim.Native.Nat.{_-_, _≤_}
 use mathlib.Core.Path.{_≡_, refl, sym, ap, _∙_}
 use mathlib.Core.Bool.{Bool, true, false, cond}

@@ -1,4 +1,5 @@
--- `loading::load` meets its contract: the arrays and the numbers that stand alone are each read where the image has them.
+-- `loading::load` meets its contract: the arrays and the numbers that stand alone are each read where the image has
+-- them.
 use mathlib.Core.Path.{refl}
 use Rattle.board.specs.Image.{loadOf}
 use borrow.Author.Needs.{needs}

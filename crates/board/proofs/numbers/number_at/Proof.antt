@@ -1,4 +1,5 @@
--- `numbers::number_at` meets its contract. The invariant: n and the bytes that are left make the whole number, and n fits the bytes that it was read from.
+-- `numbers::number_at` meets its contract. The invariant: n and the bytes that are left make the whole number, and n
+-- fits the bytes that it was read from.
 use Prim.Native.Nat.{_+_, _-_, _≤_, _<_, _^_}
 use mathlib.Core.Path.{_≡_, sym, _∙_}
 use native.Mathlib.Omega.{arith}

@@ -1,4 +1,6 @@
--- `executive::entries::reschedule` meets its contract: a walk of its MIR, by hand. The parameter is copied into a local; the local is lent to `set_state` for a lifetime that is made for the call, and comes back at the last value that `set_state` ensures; it is copied into the result.
+-- `executive::entries::reschedule` meets its contract: a walk of its MIR, by hand. The parameter is copied into a
+-- local; the local is lent to `set_state` for a lifetime that is made for the call, and comes back at the last value
+-- that `set_state` ensures; it is copied into the result.
 -- All that the proof knows of `set_state` is that it meets its contract.
 use mathlib.Core.Path.{_≡_, refl, sym, ap, subst}
 use Prim.Native.Nat.{ℕ}

@@ -1,4 +1,5 @@
--- `executive::entries::set_state` meets its contract: a walk of its MIR, by hand. The borrow is opened, the state and the start are stored over what stands there, and the borrow is closed at the record with them.
+-- `executive::entries::set_state` meets its contract: a walk of its MIR, by hand. The borrow is opened, the state and
+-- the start are stored over what stands there, and the borrow is closed at the record with them.
 use mathlib.Core.Path.{refl}
 use Prim.Native.Nat.{ℕ}
 use mathlib.Core.List.{[], _∷_, List}

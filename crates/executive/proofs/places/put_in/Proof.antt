@@ -1,5 +1,7 @@
--- `executive::places::put_in` meets its contract: a walk of its MIR, by hand. The entries are copied into a local; of the local's cell the entry at i is taken and lent to `rewrite` for a lifetime that is made for the call;
--- it comes back at the last value that `rewrite` ensures, and the entries are put together again. All that the proof knows of `rewrite` is that it meets its contract.
+-- `executive::places::put_in` meets its contract: a walk of its MIR, by hand. The entries are copied into a local; of
+-- the local's cell the entry at i is taken and lent to `rewrite` for a lifetime that is made for the call;
+-- it comes back at the last value that `rewrite` ensures, and the entries are put together again. All that the proof
+-- knows of `rewrite` is that it meets its contract.
 use mathlib.Core.Path.{_≡_, refl, sym, ap, subst, _∙_}
 use Prim.Native.Nat.{ℕ, _<_, _^_}
 use mathlib.Core.List.{[], _∷_, List}
@@ -125,7 +127,8 @@ module _ {M : Type 1} (𝓤 : URA M) (H : Heap 𝓤) (A : Atoms 𝓤) (W : Given
         -- the entry is lent, for a lifetime that is made for the call
         lft-new ! tt (λ α. move ! (1 ∷ []) $
         use1 W (later (some (λ (γ : GName). ‵ (MutRef (named 0) (α ∷ []) T.the-row .own (x l₄ γ) (vptr l₄ p ∷ [])) ⊛ ‵ (flent (α ∷ []) (Body (mem T.the-row) l₄ p γ))))) (lends-ref 𝓤 H A W T.the-row (named 0) (α ∷ []) t l₄ p) $ await ! tt $ pick ! (λ γ. split ! $
-        -- [the reference; the lender's part; the token; the other entries; _9; …; _8; …; _7; …; _6; …; _5; …; _4's frame; _3; …; _2; …; _1; …; _0; …]
+        -- [the reference; the lender's part; the token; the other entries; _9; …; _8; …; _7; …; _6; …; _5; …; _4's
+        -- frame; _3; …; _2; …; _1; …; _0; …]
         move ! (2 ∷ 0 ∷ []) $ use2 W (raw (Rewrite 𝓤 H A at-mem run .pre (to-set l₄ α γ))) (goes l₄ α γ) $
         calls-at ! fm (Rewrite 𝓤 H A at-mem run) known (to-set l₄ α γ) (and-then ! (load ! (from ! (stop !)) (look ! 3 refl)) (and-then ! (load ! (from ! (stop !)) (look ! 14 refl)) (no-more !))) (λ w.
         use1 W (later (some (λ (r : Unit {0}). ((‵ (flft (α ∷ []) fullShare) ⊛ ‵ ftrue) ⊛ ‵ (Nothing .own r (w ∷ []))) ⊛ raw (ensured 𝓤 H A g.ended (g.clauses 𝓤 H A at-mem run) (α ∷ [], tt) (x l₄ γ, (n, tt)) tt r)))) (id⊢ 𝓤 _) $ await ! tt $ pick ! (λ r.

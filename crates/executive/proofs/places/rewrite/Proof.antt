@@ -1,4 +1,5 @@
--- `executive::places::rewrite` meets its contract: a walk of its MIR, by hand. The borrow is opened, the entry is stored over what stands there, and the borrow is closed at it.
+-- `executive::places::rewrite` meets its contract: a walk of its MIR, by hand. The borrow is opened, the entry is
+-- stored over what stands there, and the borrow is closed at it.
 use mathlib.Core.Path.{refl}
 use Prim.Native.Nat.{ℕ}
 use mathlib.Core.List.{[], _∷_, List}

@@ -1,4 +1,5 @@
--- `kinds::kind_of` meets its contract: each arm's byte picks its row of the table, and a byte of no arm passes every row.
+-- `kinds::kind_of` meets its contract: each arm's byte picks its row of the table, and a byte of no arm passes every
+-- row.
 use borrow.Author.Tests.{ne-eqb}
 use Rattle.records.specs.Kinds.{kindOf}
 use Rattle.records.proofs.kinds.kind_of.Statement.{statement}

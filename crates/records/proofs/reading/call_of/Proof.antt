@@ -1,4 +1,5 @@
--- `reading::call_of` meets its contract: each arm's kind picks its row of the table, whose widths say which bytes are which number.
+-- `reading::call_of` meets its contract: each arm's kind picks its row of the table, whose widths say which bytes are
+-- which number.
 use borrow.Author.Needs.{needs}
 use Rattle.records.proofs.reading.call_of.Statement.{statement}
 use Rattle.records.proofs.reading.call_of.Tie as tie

@@ -1,4 +1,5 @@
--- `reading::read` meets its contract: `want` says what the length that was looked up is, and each test picks its case of `readOf`.
+-- `reading::read` meets its contract: `want` says what the length that was looked up is, and each test picks its case
+-- of `readOf`.
 use Prim.Native.Nat.{ℕ}
 use mathlib.Core.Path.{_≡_, sym, ap, _∙_}
 use mathlib.Core.List.{List}

@@ -1,4 +1,5 @@
--- `trips::read_then_write` meets its contract: what the writer says of the call that was read is said of the bytes themselves.
+-- `trips::read_then_write` meets its contract: what the writer says of the call that was read is said of the bytes
+-- themselves.
 use mathlib.Core.Path.{sym, _∙_}
 use native.Mathlib.Omega.{arith}
 use denote.Ref.{now}

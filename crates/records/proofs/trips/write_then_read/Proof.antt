@@ -1,4 +1,5 @@
--- `trips::write_then_read` meets its contract: the record fits six bytes, its start is the call's bytes, and those read as the call.
+-- `trips::write_then_read` meets its contract: the record fits six bytes, its start is the call's bytes, and those read
+-- as the call.
 use Prim.Native.Nat.{ℕ, _≤_}
 use mathlib.Core.Path.{_≡_, sym, ap, _∙_}
 use mathlib.Core.List.{List}
