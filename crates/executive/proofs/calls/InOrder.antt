@@ -1,4 +1,4 @@
--- A well-formed table has what the calls' methods ask of one.
+-- A well-formed table has what the decisions ask of one.
 use Rattle.executive.specs.declared.Table.{Table}
 use Rattle.executive.specs.Table.{ArraysInOrder, TimesInOrder}
 use Rattle.executive.specs.WellFormed.{WellFormed}

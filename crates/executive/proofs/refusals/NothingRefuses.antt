@@ -1,4 +1,4 @@
--- A call that nothing refuses has what its method asks.
+-- A call that nothing refuses has what its decision asks.
 use Prim.Native.Nat.{ℕ, _+_, _≤_, _<_, _^_}
 use mathlib.Core.Path.{_≡_, refl, sym}
 use mathlib.Core.Bool.{Bool, true, false, cond, _||_}
