@@ -1,6 +1,5 @@
--- The laws: text that is added, digits, the line told at a place, pieces, and the promise.
-pub mod Adding
-pub mod Digits
+-- The laws: how long a line is, the line told at a place, pieces, and the promise.
+pub mod Short
 pub mod Told
 pub mod Turns
 pub mod Whole

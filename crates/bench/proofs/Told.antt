@@ -14,7 +14,7 @@ use Rattle.executive.specs.Places.{nobody}
 use Rattle.executive.specs.Table.{headOf}
 use Rattle.bench.specs.Lines.{row, endOf, stopOf}
 use Rattle.bench.specs.Listing.{callLength, stepLength, wholeOf, lastOf}
-use Rattle.bench.proofs.Digits.{decide}
+use Rattle.text.proofs.Assured.{decide}
 
 -- ---- the bytes that are left at a place
 module _ (s : List ℕ) (at : ℕ) where

@@ -18,13 +18,13 @@ use Rattle.bench.specs.declared.Next.{Next}
 use Rattle.bench.specs.declared.Next.the-variants as next
 use Rattle.bench.specs.declared.Progress.{Progress}
 use Rattle.bench.specs.declared.Filled.{Filled}
-use Rattle.bench.specs.Glyphs.{Adds, decimalOf, hexOf, bitOf}
+use Rattle.text.specs.Glyphs.{Adds, decimalOf, hexOf, bitOf}
 use Rattle.bench.specs.Lines.{granuleWord, tasksWord, activeWord, stopWord, endWord, headerBy, headerOf, lineOf, stopOf}
 use Rattle.bench.specs.Listing.{wholeOf, lastOf, stepLength}
 use Rattle.bench.specs.Pieces.{withNext, isMore, after, leftIn, toldAs, toldOf, afterAs, afterOf, none, before, goesOn, pieceIn, pieceOf, Fills, FillsFrom}
-use Rattle.bench.proofs.Digits.{decide}
+use Rattle.text.proofs.Assured.{decide}
 use Rattle.bench.proofs.Told.{row-some, whole-fits}
-use Rattle.bench.proofs.Adding.{nothing, then, inside, all-of}
+use Rattle.text.proofs.Assured.{nothing, then, inside, all-of}
 
 -- ---- no line is empty
 header-some : (g n a : ℕ) → 0 < length (headerBy g n a)

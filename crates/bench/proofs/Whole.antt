@@ -20,7 +20,7 @@ use Rattle.bench.specs.declared.Filled.{Filled}
 use Rattle.bench.specs.Lines.{headerOf, lineOf, stopOf}
 use Rattle.bench.specs.Listing.{mostBytes, wholeOf, lastOf, stepsOf, madeOf, listingOf}
 use Rattle.bench.specs.Pieces.{isMore, after, leftIn, SoundAs, Sound, linesAs, lines, toldAs, toldOf, afterAs, afterOf, goesOn, pieceIn, pieceOf, startOf, Fills, pouredBy, Roomy, Promise}
-use Rattle.bench.proofs.Digits.{decide}
+use Rattle.text.proofs.Assured.{decide}
 use Rattle.bench.proofs.Told.{whole-fits}
 use Rattle.bench.proofs.Turns.{goes-more}
 

@@ -1,5 +1,4 @@
--- The definitions: text in a buffer, the lines, the listing, and the listing piece by piece.
-pub mod Glyphs
+-- The definitions: the lines, the listing, and the listing piece by piece.
 pub mod Lines
 pub mod Listing
 pub mod Pieces

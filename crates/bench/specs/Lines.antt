@@ -4,7 +4,7 @@ use mathlib.Core.List.{List, [], _∷_, _++_}
 use Rattle.records.specs.declared.TaskNo.{TaskNo}
 use Rattle.executive.specs.declared.Table.{Table}
 use Rattle.executive.specs.declared.Answer.{Answer}
-use Rattle.bench.specs.Glyphs.{decimalOf, hexOf, bitOf}
+use Rattle.text.specs.Glyphs.{decimalOf, hexOf, bitOf}
 
 -- words with a space between them, and a line feed at the end
 abbrev pub row : List (List ℕ) → List ℕ

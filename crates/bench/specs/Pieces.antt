@@ -13,7 +13,7 @@ use Rattle.bench.specs.declared.Next.{Next}
 use Rattle.bench.specs.declared.Next.the-variants as next
 use Rattle.bench.specs.declared.Progress.{Progress}
 use Rattle.bench.specs.declared.Filled.{Filled}
-use Rattle.bench.specs.Glyphs.{Adds}
+use Rattle.text.specs.Glyphs.{Adds}
 use Rattle.bench.specs.Lines.{headerOf, lineOf, stopOf}
 use Rattle.bench.specs.Listing.{mostBytes, wholeOf, lastOf, stepsOf, madeOf, listingOf}
 

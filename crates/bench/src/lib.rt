@@ -2,7 +2,6 @@
 use executive::Table;
 use records::TaskNo;
 
-mod glyphs;
 mod lines;
 pub mod listing;
 mod steps;

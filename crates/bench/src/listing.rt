@@ -11,7 +11,7 @@ ghost use mathlib.Core.Path.{_≡_};
 ghost use Prim.Native.Nat.{_≤_, _-_};
 ghost use lib.ListN.{length};
 ghost use Rattle.bench.specs.declared.Next.the-variants.{Step};
-ghost use Rattle.bench.specs.Glyphs.{Adds};
+ghost use Rattle.text.specs.Glyphs.{Adds};
 ghost use Rattle.bench.specs.Lines.{headerOf};
 ghost use Rattle.bench.specs.Pieces.{firstOf, Starts, isMore, after, withNext, Fills, FillsFrom, Promise};
 

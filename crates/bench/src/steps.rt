@@ -5,7 +5,7 @@ use records::kinds;
 ghost use mathlib.Core.Path.{_≡_};
 ghost use Prim.Native.Nat.{_+_, _≤_};
 ghost use lib.ListN.{length, drop};
-ghost use Rattle.bench.specs.Glyphs.{Adds};
+ghost use Rattle.text.specs.Glyphs.{Adds};
 ghost use Rattle.bench.specs.Listing.{callLength, wholeOf, lastOf};
 
 // The length of a step of a kind; 0 for what is no call's.

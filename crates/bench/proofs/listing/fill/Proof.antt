@@ -1,6 +1,6 @@
 use native.Mathlib.Omega.{arith}
 use denote.Ref.{now}
-use Rattle.bench.proofs.Adding.{inside}
+use Rattle.text.proofs.Assured.{inside}
 use Rattle.bench.proofs.Turns.{fill-small, fill-nothing, fill-stop, fill-header, fill-steps}
 use borrow.Author.Needs.{needs}
 use Rattle.bench.proofs.listing.fill.Statement.{statement}

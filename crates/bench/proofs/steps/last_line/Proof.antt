@@ -1,6 +1,6 @@
 use mathlib.Core.Path.{sym, ap, _∙_}
 use denote.Ref.{now}
-use Rattle.bench.proofs.Adding.{named}
+use Rattle.text.proofs.Assured.{named}
 use Rattle.bench.proofs.Told.{last-end, last-unknown, last-cut}
 use Rattle.bench.specs.Listing.{callLength}
 use borrow.Author.Needs.{needs}

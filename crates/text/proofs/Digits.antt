@@ -1,14 +1,14 @@
 -- Decimal digits: how they come one after the other, and how many there are.
-use Prim.Native.Nat.{ℕ, zero, suc, _+_, _*_, _/_, _%_, _^_, _≤_, _<_}
-use mathlib.Core.Path.{_≡_, refl, ap, _∙_}
+use Prim.Native.Nat.{ℕ, zero, suc, _+_, _-_, _*_, _/_, _%_, _^_, _≤_, _<_}
+use mathlib.Core.Path.{_≡_, refl, sym, ap, _∙_}
 use mathlib.Core.Bool.{Bool, true, false}
 use mathlib.Core.List.{[], _∷_, _++_}
 use native.Mathlib.Omega.{arith}
 use native.Mathlib.Nat.{pow-suc}
 use lib.ListN.{length, length-append}
-use lib.Dec.{ltb}
-use borrow.Author.Tests.{lt-ltb, le-ltb, ltb-true, ltb-false}
-use Rattle.bench.specs.Glyphs.{decimalOf, digitsIn}
+use lib.Dec.{leb, ltb}
+use borrow.Author.Tests.{lt-ltb, le-ltb, ltb-true, ltb-false, le-leb, lt-leb, leb-true, leb-false}
+use Rattle.text.specs.Glyphs.{decimalOf, digitsIn}
 
 -- by cases of a test
 pub decide : {P : Type 0} (b : Bool) → (b ≡ true → P) → (b ≡ false → P) → P
@@ -53,3 +53,10 @@ decimal-short (suc k) n h =
     let q : 10 ^ suc (suc k) ≡ 10 ^ suc k * 10 = pow-suc 10 (suc k) in
     let i : n / 10 < 10 ^ suc k = omega arith in
     omega (arith, decimal-length n g, decimal-short k (n / 10) i))
+
+-- whether n from a place on lie within a length, by what is left of the length there
+pub leb-within : (l at n : ℕ) → at ≤ l → leb (at + n) l ≡ leb n (l - at)
+leb-within l at n h =
+    decide (leb n (l - at))
+    (λ e. le-leb (at + n) l (omega (arith, leb-true n (l - at) e)) ∙ sym e)
+    (λ e. lt-leb (at + n) l (omega (arith, leb-false n (l - at) e)) ∙ sym e)

@@ -4,7 +4,7 @@ use mathlib.Core.Path.{_≡_}
 use mathlib.Core.Bool.{Bool, true, false, cond}
 use mathlib.Core.List.{List, [], _∷_, _++_}
 use lib.ListN.{length, take, drop}
-use lib.Dec.{ltb}
+use lib.Dec.{leb, ltb}
 
 -- the decimal digits of n, given at least n turns
 abbrev pub digitsIn : ℕ → ℕ → List ℕ
@@ -26,6 +26,18 @@ hexOf b = glyphOf (b / 16) ∷ glyphOf (b % 16) ∷ []
 abbrev pub bitOf : Bool → ℕ
 bitOf true = 49
 bitOf false = 48
+
+-- ---- the text t put at the place at of the buffer o: the bytes, and the place after it. Nothing where it does not fit
+unfoldable pub bytesAfter : List ℕ → ℕ → List ℕ → List ℕ
+bytesAfter o at t = cond (leb (at + length t) (length o)) ((take at o ++ t) ++ drop (at + length t) o) o
+
+unfoldable pub placeAfter : List ℕ → ℕ → List ℕ → ℕ
+placeAfter o at t = cond (leb (at + length t) (length o)) (at + length t) at
+
+-- the contracts: the buffer o is become b, and r is the place
+pub record Puts (o : List ℕ) (at : ℕ) (t b : List ℕ) (r : ℕ) : Type 0 where
+  pub bytes : b ≡ bytesAfter o at t
+  pub place : r ≡ placeAfter o at t
 
 -- the buffer a, used up to place n, is become b, used up to place m: the text t stands there, and all else is as it was
 pub record Adds (a : List ℕ) (n : ℕ) (b : List ℕ) (m : ℕ) (t : List ℕ) : Type 0 where

@@ -2,17 +2,19 @@ use borrow.Author.Needs.{needs}
 use native.Mathlib.Omega.{arith}
 use mathlib.Core.Path.{ap}
 use lib.ListN.{length}
-use Rattle.bench.proofs.Adding.{then}
-use Rattle.bench.proofs.Digits.{decimal-one, decimal-more, decimal-length}
-use Prim.Native.Nat.{ℕ, _<_}
+use Rattle.text.proofs.Adding.{then, puts-adds}
+use denote.Ref.{now}
+use mathlib.Core.List.{[], _∷_}
+use Rattle.text.proofs.Digits.{decimal-one, decimal-more, decimal-length}
+use Prim.Native.Nat.{ℕ, _+_, _<_}
 use borrow.Fn.Kinds.{In}
 use borrow.Fn.PlainCycle.{Measures, is, falls, and}
-use Rattle.bench.proofs.glyphs.digits.Reads as digits
-use Rattle.bench.proofs.glyphs.digits.Kinds as digits-kinds
-use Rattle.bench.proofs.glyphs.+digits.Lts-digits as digits-lts
-use Rattle.bench.proofs.glyphs.put.Reads as put-reads
-use Rattle.bench.proofs.glyphs.+digits.{statement}
-use Rattle.bench.proofs.glyphs.+digits.Tie.{close}
+use Rattle.text.proofs.glyphs.digits.Reads as digits
+use Rattle.text.proofs.glyphs.digits.Kinds as digits-kinds
+use Rattle.text.proofs.glyphs.+digits.Lts-digits as digits-lts
+use Rattle.text.proofs.glyphs.put.Reads as put-reads
+use Rattle.text.proofs.glyphs.+digits.{statement}
+use Rattle.text.proofs.glyphs.+digits.Tie.{close}
 
 abbrev μ-digits : Measures 1 digits-kinds.ps ℕ
 μ-digits κs a = a .1 .1 .0
@@ -45,7 +47,7 @@ digits-put-requires : (t : ℕ) → digits-lts.Need-put-requires (
   digits-below t,
   digits.Post,
 ) (digits-at t) digits.Post
-digits-put-requires t c κs = omega (arith, ap length (decimal-one (c .before .before .before .args .n) (c .before .if1 .taken)))
+digits-put-requires t c κs = search needs
 
 digits-same-length : (t : ℕ) → digits-lts.Need-same-length (
   put-reads.Asked,
@@ -61,7 +63,10 @@ digits-returns : (t : ℕ) → digits-lts.Need-returns (
   digits-below t,
   digits.Post,
 ) (digits-at t) digits.Post
-digits-returns t c = rw (decimal-one (c .before .before .before .before .before .before .args .n) (c .before .before .before .before .if1 .taken)) (c .before .before .put .ensures)
+digits-returns t c =
+    let s = c .before .before .before .before .before .before in
+    let one = decimal-one (s .args .n) (c .before .before .before .before .if1 .taken) in
+    rw one (puts-adds (now (s .args .out)) (s .args .at) ((48 + s .args .n) ∷ []) (omega (arith, ap length one, s .pre .1)) (c .before .before .put .ensures))
 
 digits-digits-requires : (t : ℕ) → digits-lts.Need-digits-requires (
   put-reads.Asked,
@@ -93,9 +98,7 @@ digits-put-requires-2 : (t : ℕ) → digits-lts.Need-put-requires-2 (
   digits-below t,
   digits.Post,
 ) (digits-at t) digits.Post
-digits-put-requires-2 t c κs =
-    let d = c .before .before .before in
-    omega (arith, decimal-length (d .before .before .before .before .args .n) (d .before .before .if1 .left), d .digits .ensures .place, d .digits .ensures .size)
+digits-put-requires-2 t c κs = search needs
 
 digits-same-length-2 : (t : ℕ) → digits-lts.Need-same-length-2 (
   put-reads.Asked,
@@ -114,7 +117,11 @@ digits-returns-2 : (t : ℕ) → digits-lts.Need-returns-2 (
 digits-returns-2 t c =
     let p = c .before .before in
     let d = p .before .before .before .before in
-    rw (decimal-more (d .before .before .before .before .args .n) (d .before .before .if1 .left)) (then (d .digits .ensures) (p .put2 .ensures))
+    let s = d .before .before .before .before in
+    let big = d .before .before .if1 .left in
+    let e = d .digits .ensures in
+    rw (decimal-more (s .args .n) big)
+    (then e (puts-adds _ _ _ (omega (arith, decimal-length (s .args .n) big, e .place, e .size, s .pre .1)) (p .put2 .ensures)))
 
 pub +digits-spec : {M : Type 1} → statement M
 +digits-spec = close μ-digits λ t. digits-lts.spec (

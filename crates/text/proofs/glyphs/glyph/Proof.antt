@@ -1,7 +1,7 @@
 use borrow.Author.Tests.{lt-ltb, le-ltb}
 use borrow.Author.Needs.{needs}
-use Rattle.bench.proofs.glyphs.glyph.Statement.{statement}
-use Rattle.bench.proofs.glyphs.glyph.Tie as tie
+use Rattle.text.proofs.glyphs.glyph.Statement.{statement}
+use Rattle.text.proofs.glyphs.glyph.Tie as tie
 
 returns : tie.Need-returns
 returns c = rw (lt-ltb (c .before .args .d) 10 (c .if1 .taken))
