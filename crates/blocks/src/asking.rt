@@ -1,5 +1,6 @@
 // A question in bytes: what its head says.
 use crate::reading;
+use records::reading::byte_at;
 ghost use mathlib.Core.Path.{_≡_};
 ghost use mathlib.Core.List.{[], _∷_};
 ghost use Prim.Native.Nat.{_≤_};
@@ -17,10 +18,10 @@ fn word(a: u8, b: u8, c: u8, d: u8) -> usize
 pub(crate) fn address_in(head: &[u8]) -> usize
     ensures { λ r. ⌜ r ≡ addressIn (now (head .entry)) ⌝ }
 {
-    let a = reading::at(head, 1);
-    let b = reading::at(head, 2);
-    let c = reading::at(head, 3);
-    let d = reading::at(head, 4);
+    let a = byte_at(head, 1);
+    let b = byte_at(head, 2);
+    let c = byte_at(head, 3);
+    let d = byte_at(head, 4);
     word(a, b, c, d)
 }
 
@@ -28,8 +29,8 @@ pub(crate) fn address_in(head: &[u8]) -> usize
 pub(crate) fn beside_in(head: &[u8]) -> u16
     ensures { λ r. ⌜ r ≡ besideIn (now (head .entry)) ⌝ }
 {
-    let a = reading::at(head, 5);
-    let b = reading::at(head, 6);
+    let a = byte_at(head, 5);
+    let b = byte_at(head, 6);
     reading::pair(a, b)
 }
 
@@ -37,7 +38,7 @@ pub(crate) fn beside_in(head: &[u8]) -> u16
 pub(crate) fn count_in(head: &[u8]) -> usize
     ensures { λ r. ⌜ (r ≡ countIn (now (head .entry))) × (r ≤ 255) ⌝ }
 {
-    reading::at(head, 7) as usize
+    byte_at(head, 7) as usize
 }
 
 // The list, with zeros after it.
@@ -48,8 +49,8 @@ pub(crate) fn list_in(head: &[u8]) -> [u16; 255]
     let count = count_in(head);
     let mut i: usize = 0;
     while i < count {
-        let a = reading::at(head, 8 + 2 * i);
-        let b = reading::at(head, 9 + 2 * i);
+        let a = byte_at(head, 8 + 2 * i);
+        let b = byte_at(head, 9 + 2 * i);
         list[i] = reading::pair(a, b);
         i += 1;
     }
@@ -68,7 +69,7 @@ pub fn end_of(head: &[u8]) -> usize
     ensures { λ r. ⌜ EndsAt (now (head .entry)) r ⌝ }
 {
     let from = record_at(head);
-    let length = reading::at(head, from - 1);
+    let length = byte_at(head, from - 1);
     from + (length as usize)
 }
 
@@ -76,7 +77,7 @@ pub fn end_of(head: &[u8]) -> usize
 pub(crate) fn is_no_head(head: &[u8]) -> bool
     ensures { λ r. ⌜ r ≡ isNoHead (now (head .entry)) ⌝ }
 {
-    if 1 < reading::at(head, 0) {
+    if 1 < byte_at(head, 0) {
         return true;
     }
     head.len() != end_of(head)

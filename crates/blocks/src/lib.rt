@@ -1,6 +1,7 @@
 // The blocks of old boards: the guide's data blocks in a memory image, read as calls, and written from them.
 use records::Got;
 use records::Written;
+use records::reading::byte_at;
 ghost use Rattle.blocks.specs.Asking.{Answers};
 
 pub mod asking;
@@ -27,7 +28,7 @@ pub extern "C" fn quermanic_block(head: &[u8], image: &mut [u8], room: &mut [u8]
     let beside = asking::beside_in(head);
     let list = asking::list_in(head);
     let count = asking::count_in(head);
-    if reading::at(head, 0) == 1 {
+    if byte_at(head, 0) == 1 {
         let from = asking::record_at(head);
         let to = asking::end_of(head);
         return writing::write_record(image, address, &list[..count], &head[from..to], beside);

@@ -5,26 +5,17 @@ use crate::types;
 use records::Call;
 use records::Got;
 use records::TaskNo;
+use records::reading::byte_at;
 ghost use mathlib.Core.Path.{_≡_};
 ghost use mathlib.Core.Bool.{false};
 ghost use mathlib.Core.List.{[], _∷_};
 ghost use Prim.Native.Nat.{_≤_};
-ghost use lib.ListN.{length, getD};
+ghost use lib.ListN.{length};
 ghost use Rattle.records.specs.Numbers.{numberOf};
 ghost use Rattle.records.specs.declared.Got.the-variants as got;
 ghost use Rattle.blocks.specs.Lists.{taskOf};
 ghost use Rattle.blocks.specs.Types.{isNone};
 ghost use Rattle.blocks.specs.Reading.{formIn, calledIn, ReadsBlock};
-
-// The byte at a place, and 0 past the end.
-pub(crate) fn at(bytes: &[u8], i: usize) -> u8
-    ensures { λ r. ⌜ r ≡ getD (now (bytes .entry)) i 0 ⌝ }
-{
-    if i < bytes.len() {
-        return bytes[i];
-    }
-    0
-}
 
 // The number of two bytes, the first the higher.
 pub(crate) fn pair(a: u8, b: u8) -> u16
@@ -46,9 +37,9 @@ fn call_at(image: &[u8], address: usize, list: &[u16], argument: u16) -> Call
     requires { ⌜ (address ≤ 65536) × (length (now list) ≤ 16) × (isNone (formIn (now image) address) ≡ false) ⌝ }
     ensures { λ r. ⌜ calledIn (now (image .entry)) address (now (list .entry)) argument ≡ got.Call r ⌝ }
 {
-    let a = at(image, address + 1);
-    let b = at(image, address + 2);
-    match at(image, address) {
+    let a = byte_at(image, address + 1);
+    let b = byte_at(image, address + 2);
+    match byte_at(image, address) {
         0x00 => Call::Terminate,
         0x01 => Call::Restart {
             parameter: a,
@@ -57,7 +48,7 @@ fn call_at(image: &[u8], address: usize, list: &[u16], argument: u16) -> Call
         0x02 => Call::Pause { unit: a, count: b },
         0x05 => Call::StartOrQueue {
             option: a,
-            task: TaskNo(task_of(list, pair(b, at(image, address + 3)))),
+            task: TaskNo(task_of(list, pair(b, byte_at(image, address + 3)))),
             argument,
         },
         _ => Call::End,
@@ -71,7 +62,7 @@ fn call_at(image: &[u8], address: usize, list: &[u16], argument: u16) -> Call
 pub fn read(image: &[u8], address: usize, list: &[u16], argument: u16) -> Got
     ensures { λ r. ⌜ ReadsBlock (now (image .entry)) address (now (list .entry)) argument r ⌝ }
 {
-    let size = types::length_at(at(image, address));
+    let size = types::length_at(byte_at(image, address));
     let number = refusals::by_place(image.len(), address, size, list);
     if number != 0 {
         return Got::Refused(number);

@@ -1,20 +1,10 @@
 // One number of some bytes, big-endian, at a place of a buffer: read and written.
+use records::reading::byte_at;
 ghost use mathlib.Core.Path.{_≡_};
-ghost use Prim.Native.Nat.{_+_, _≤_, _<_};
-ghost use lib.ListN.{getD};
+ghost use Prim.Native.Nat.{_≤_};
 ghost use Rattle.records.specs.Numbers.{numberOf, part, bytesIn};
 ghost use Rattle.board.specs.Blocks.{written, Number, Room};
 ghost use Rattle.board.specs.Image.{imageLength};
-
-// The byte at a place, and 0 past the end.
-fn byte_at(bytes: &[u8], at: usize) -> u64
-    ensures { λ r. ⌜ (r ≡ getD (now (bytes .entry)) at 0) × (r < 256) ⌝ }
-{
-    if at < bytes.len() {
-        return bytes[at] as u64;
-    }
-    0
-}
 
 // The number of w bytes from a place on, the first byte the highest.
 pub(crate) fn number_at(bytes: &[u8], at: usize, w: usize) -> u64
@@ -24,7 +14,7 @@ pub(crate) fn number_at(bytes: &[u8], at: usize, w: usize) -> u64
     let mut n: u64 = 0;
     let mut i: usize = 0;
     while i < w {
-        n = n * 256 + byte_at(bytes, at + i);
+        n = n * 256 + (byte_at(bytes, at + i) as u64);
         i += 1;
     }
     n

@@ -10,24 +10,14 @@ use crate::decisions::How;
 use crate::places::NO_TASK;
 use crate::pool::NO_REQUEST;
 use records::TaskNo;
+use records::reading::byte_at;
 ghost use mathlib.Core.Path.{_≡_};
 ghost use Prim.Native.Nat.{_<_, _≤_};
-ghost use lib.ListN.{getD};
 ghost use Rattle.executive.specs.Table.{InFlight, enterAllInFlight};
 ghost use Rattle.executive.specs.Lists.{pad, upTo};
 ghost use Rattle.executive.specs.Places.{noTask};
 ghost use Rattle.executive.specs.Configuration.{placeIn, ownIn, markIn, tasksIn, taskRight, isConfiguration, blankRest, withTasks, dormantAt, sleepers};
 ghost use Rattle.executive.specs.Configuration.{markedStart, starters, madeBy, Makes, Measures};
-
-// The byte at a place, and 0 past the end.
-fn at(s: &[u8], i: usize) -> u8
-    ensures { λ r. ⌜ r ≡ getD (now (s .entry)) i 0 ⌝ }
-{
-    if i < s.len() {
-        return s[i];
-    }
-    0
-}
 
 // Where the record of task k stands.
 fn place_in(k: TaskNo) -> usize
@@ -42,7 +32,7 @@ fn own_in(s: &[u8], k: TaskNo) -> u8
     requires { ⌜ 0 < k .0 ⌝ }
     ensures { λ r. ⌜ r ≡ ownIn (now (s .entry)) (k .0) ⌝ }
 {
-    at(s, place_in(k) + 1)
+    byte_at(s, place_in(k) + 1)
 }
 
 // The mark that the record of task k gives.
@@ -50,7 +40,7 @@ fn mark_in(s: &[u8], k: TaskNo) -> u8
     requires { ⌜ 0 < k .0 ⌝ }
     ensures { λ r. ⌜ r ≡ markIn (now (s .entry)) (k .0) ⌝ }
 {
-    at(s, place_in(k) + 2)
+    byte_at(s, place_in(k) + 2)
 }
 
 // How many 41 follow the 40, one after the other; 16 at most.
@@ -59,7 +49,7 @@ fn tasks_in(s: &[u8]) -> u8
 {
     let mut n: u8 = 0;
     while n < 16 {
-        if at(s, place_in(TaskNo(n + 1))) != 0x41 {
+        if byte_at(s, place_in(TaskNo(n + 1))) != 0x41 {
             return n;
         }
         n += 1;
@@ -71,11 +61,11 @@ fn tasks_in(s: &[u8]) -> u8
 pub fn length_in(bytes: &[u8]) -> usize
     ensures { λ r. ⌜ Measures (now (bytes .entry)) r ⌝ }
 {
-    if at(bytes, 0) != 0x40 {
+    if byte_at(bytes, 0) != 0x40 {
         return 0;
     }
     let n = tasks_in(bytes);
-    if at(bytes, place_in(TaskNo(n + 1))) != 0x42 {
+    if byte_at(bytes, place_in(TaskNo(n + 1))) != 0x42 {
         return 0;
     }
     3 * (n as usize) + 3
@@ -118,7 +108,7 @@ fn is_configuration(s: &[u8]) -> bool
     if s.len() != length_in(s) {
         return false;
     }
-    if at(s, 1) < 1 {
+    if byte_at(s, 1) < 1 {
         return false;
     }
     tasks_right(s, n)
@@ -224,7 +214,7 @@ pub fn fresh(bytes: &[u8]) -> Fresh
     }
     let n = tasks_in(bytes);
     let tasks = all_dormant(bytes, n);
-    let rest = blank_rest(n, at(bytes, 1));
+    let rest = blank_rest(n, byte_at(bytes, 1));
     let blank = table_of(tasks, rest);
     let w = blank.begin();
     let v = start_marked(w, bytes, n);

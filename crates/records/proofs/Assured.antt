@@ -23,6 +23,7 @@ promises = record {
   kind-determined = λ b x y p q. p ∙ sym q;
   length-determined = λ k x y p q. p ∙ sym q;
   call-determined = λ k x y p q. p ∙ sym q;
+  byte-determined = λ s i x y p q. p ∙ sym q;
   read-determined = λ s x y p q. p ∙ sym q;
   write-determined = λ c o _ _ x y p q. (p .buffer ∙ sym (q .buffer), p .answer ∙ sym (q .answer));
   there-determined = λ c x y p q. p ∙ sym q;

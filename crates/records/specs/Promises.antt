@@ -9,7 +9,7 @@ use lib.ListN.{length}
 use Rattle.records.specs.Numbers.{Bytes, numberOf, bytesIn, part, total, lay, cut, Wide}
 use Rattle.records.specs.Kinds.{bodyOf, lengthOf, KindIs, LengthIs, CallIs}
 use Rattle.records.specs.Calls.{kindOfCall, fieldsOf, gotOf, GotInRange}
-use Rattle.records.specs.Reading.{firstKind, readOf, Reads, readNumber}
+use Rattle.records.specs.Reading.{ByteIs, firstKind, readOf, Reads, readNumber}
 use Rattle.records.specs.Writing.{bytesOf, writtenOf, Writes, writeNumber}
 use Rattle.records.specs.Trips.{ComesBack, WritesAgain}
 use Rattle.records.specs.Firsts.{Refusal, firstOf, Decides, Never}
@@ -43,6 +43,7 @@ pub record Promises : Type 0 where
   pub kind-determined : (b : ℕ) (x y : Kind) → KindIs b x → KindIs b y → x ≡ y
   pub length-determined : (k : Kind) (x y : ℕ) → LengthIs k x → LengthIs k y → x ≡ y
   pub call-determined : (k : Kind) (x y : Bool) → CallIs k x → CallIs k y → x ≡ y
+  pub byte-determined : (s : List ℕ) (i x y : ℕ) → ByteIs s i x → ByteIs s i y → x ≡ y
   pub read-determined : (s : List ℕ) (x y : Got) → Reads s x → Reads s y → x ≡ y
   pub write-determined : (c : Call) (o p q : List ℕ) (x y : Written) → Writes c o p x → Writes c o q y
       → (p ≡ q) × (x ≡ y)

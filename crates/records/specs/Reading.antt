@@ -12,6 +12,10 @@ use Rattle.records.specs.declared.Kind.{Kind}
 use Rattle.records.specs.declared.Got.{Got}
 use Rattle.records.specs.declared.Got.the-variants as got
 
+-- ---- the contract of the byte at a place: b is the byte at place i of s, and 0 past the end
+abbrev pub ByteIs : List ℕ → ℕ → ℕ → Type 0
+ByteIs s i b = b ≡ getD s i 0
+
 -- the kind that the first byte names
 abbrev pub firstKind : List ℕ → Kind
 firstKind s = kindOf (getD s 0 0)

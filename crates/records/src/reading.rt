@@ -7,15 +7,14 @@ use crate::TaskNo;
 use crate::kinds;
 ghost use mathlib.Core.Path.{_≡_};
 ghost use mathlib.Core.List.{[], _∷_};
-ghost use lib.ListN.{getD};
 ghost use Rattle.records.specs.Numbers.{numberOf, cut};
 ghost use Rattle.records.specs.Kinds.{bodyOf};
 ghost use Rattle.records.specs.Calls.{gotOf};
-ghost use Rattle.records.specs.Reading.{Reads};
+ghost use Rattle.records.specs.Reading.{ByteIs, Reads};
 
 // The byte at a place, and 0 past the end.
-fn at(bytes: &[u8], i: usize) -> u8
-    ensures { λ r. ⌜ r ≡ getD (now (bytes .entry)) i 0 ⌝ }
+pub fn byte_at(bytes: &[u8], i: usize) -> u8
+    ensures { λ r. ⌜ ByteIs (now (bytes .entry)) i r ⌝ }
 {
     if i < bytes.len() {
         return bytes[i];
@@ -41,9 +40,9 @@ fn word(a: u8, b: u8, c: u8, d: u8) -> u32
 fn call_of(kind: Kind, bytes: &[u8]) -> Got
     ensures { λ r. ⌜ r ≡ gotOf kind (cut (bodyOf kind) 1 (now (bytes .entry))) ⌝ }
 {
-    let a = at(bytes, 1);
-    let b = at(bytes, 2);
-    let c = at(bytes, 3);
+    let a = byte_at(bytes, 1);
+    let b = byte_at(bytes, 2);
+    let c = byte_at(bytes, 3);
     let task = TaskNo(b);
     let flag = FlagNo(b);
     match kind {
@@ -59,12 +58,12 @@ fn call_of(kind: Kind, bytes: &[u8]) -> Got
         Kind::StartOrQueue => Got::Call(Call::StartOrQueue {
             option: a,
             task,
-            argument: pair(c, at(bytes, 4)),
+            argument: pair(c, byte_at(bytes, 4)),
         }),
         Kind::Flag => Got::Call(Call::Flag { operation: a, flag }),
         Kind::Wait => Got::Call(Call::Wait {
             mode: a,
-            mask: word(b, c, at(bytes, 4), at(bytes, 5)),
+            mask: word(b, c, byte_at(bytes, 4), byte_at(bytes, 5)),
         }),
         Kind::Alarm => Got::Call(Call::Alarm {
             unit: a,

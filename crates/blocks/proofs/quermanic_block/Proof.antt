@@ -33,7 +33,7 @@ counts m = count-is (head m) (m .before .list-in .result) (m .count-in .result) 
 
 -- what is asked is a read, and this is what it gives
 is-read : (x : tie.After-read) → getD (head (x .before .before .before .before .before)) 0 0 ≡ 1 → ⊥
-is-read x z = x .before .before .before .if2 .left (x .before .before .before .before .at .ensures ∙ z)
+is-read x z = x .before .before .before .if2 .left (x .before .before .before .before .byte-at .ensures ∙ z)
 
 given : (x : tie.After-read) → let m = x .before .before .before .before .before in readIn (head m) (image m) ≡ x .read .result
 given x =
@@ -65,7 +65,7 @@ returns-2 c =
     let f = c .before .before .before .before .before .before in
     let x = f .before .record-at in
     let r = record-is q (x .result) (f .end-of .result) (x .ensures .0) (f .end-of .ensures) in
-    let w = sym (f .before .before .before .at .ensures) ∙ f .before .before .if2 .taken in
+    let w = sym (f .before .before .before .byte-at .ensures) ∙ f .before .before .if2 .taken in
     asked-write q (image m) (room m) (is-head m) _ _ _ _ _ _ w a (list m) r b (c .before .before .write-record .ensures)
 
 slice-aggregate-read : tie.Need-slice-aggregate-read

@@ -14,7 +14,7 @@ returns c =
     let q = now (c .before .before .before .args .head) in
     let r = c .before .record-at .ensures .0 in
     let e : c .before .record-at .result - 1 ≡ 8 + 2 * countIn q = omega arith in
-    let x = c .at .ensures ∙ ap (λ n. getD q n 0) e in
+    let x = c .byte-at .ensures ∙ ap (λ n. getD q n 0) e in
     omega arith
 
 pub end-of-spec : {M : Type 1} → statement M

@@ -20,17 +20,17 @@ abbrev μ-loop : tie.MeasureT-loop
 loop-holds : tie.Need-loop-holds Inv-loop μ-loop
 loop-holds c = (omega arith, length-replicate {A = ℕ} 255 0, refl)
 
-mul-at : tie.Need-mul-at Inv-loop μ-loop
-mul-at c = omega (arith, c .before .before .count-in .ensures .1)
+mul-byte-at : tie.Need-mul-byte-at Inv-loop μ-loop
+mul-byte-at c = omega (arith, c .before .before .count-in .ensures .1)
 
-add-at : tie.Need-add-at Inv-loop μ-loop
-add-at c = omega (arith, c .before .before .count-in .ensures .1)
+add-byte-at : tie.Need-add-byte-at Inv-loop μ-loop
+add-byte-at c = omega (arith, c .before .before .count-in .ensures .1)
 
-mul-at-2 : tie.Need-mul-at-2 Inv-loop μ-loop
-mul-at-2 c = omega (arith, c .before .before .before .count-in .ensures .1)
+mul-byte-at-2 : tie.Need-mul-byte-at-2 Inv-loop μ-loop
+mul-byte-at-2 c = omega (arith, c .before .before .before .count-in .ensures .1)
 
-add-at-2 : tie.Need-add-at-2 Inv-loop μ-loop
-add-at-2 c = omega (arith, c .before .before .before .count-in .ensures .1)
+add-byte-at-2 : tie.Need-add-byte-at-2 Inv-loop μ-loop
+add-byte-at-2 c = omega (arith, c .before .before .before .count-in .ensures .1)
 
 mul-list : tie.Need-mul-list Inv-loop μ-loop
 mul-list c = omega (arith, c .before .before .before .before .before .count-in .ensures .1)
@@ -47,8 +47,8 @@ loop-less c = omega arith
 loop-again : tie.Need-loop-again Inv-loop μ-loop
 loop-again c =
     let v = c .before .before .before .before .loop in
-    let m = c .before .before .at .ensures in
-    let n = c .before .at2 .ensures in
+    let m = c .before .before .byte-at .ensures in
+    let n = c .before .byte-at2 .ensures in
     let x = c .pair .ensures ∙ (λ i. numberOf (m i ∷ n i ∷ [])) in
     let q = now (c .before .before .before .before .before .before .before .args .head) in (
       omega arith,
@@ -76,11 +76,11 @@ list-in-spec =
     μ-loop
     (λ c κs. search needs)
     loop-holds
-    mul-at
-    add-at
+    mul-byte-at
+    add-byte-at
     (λ c κs. search needs)
-    mul-at-2
-    add-at-2
+    mul-byte-at-2
+    add-byte-at-2
     (λ c κs. search needs)
     (λ c κs. search needs)
     mul-list

@@ -16,7 +16,7 @@ returns c =
     let a = d .address in
     let l = now (d .list) in
     let g = d .argument in
-    at-0 s a l g (sym (c .before .at3 .ensures) ∙ c .match .keys1)
+    at-0 s a l g (sym (c .before .byte-at3 .ensures) ∙ c .match .keys1)
 
 returns-2 : tie.Need-returns-2
 returns-2 c =
@@ -25,7 +25,7 @@ returns-2 c =
     let a = d .address in
     let l = now (d .list) in
     let g = d .argument in
-    rw (c .before .before .before .at .ensures, c .before .before .at2 .ensures) (at-1 s a l g (sym (c .before .at3 .ensures) ∙ c .match .keys2))
+    rw (c .before .before .before .byte-at .ensures, c .before .before .byte-at2 .ensures) (at-1 s a l g (sym (c .before .byte-at3 .ensures) ∙ c .match .keys2))
 
 returns-3 : tie.Need-returns-3
 returns-3 c =
@@ -34,7 +34,7 @@ returns-3 c =
     let a = d .address in
     let l = now (d .list) in
     let g = d .argument in
-    rw (c .before .before .before .at .ensures, c .before .before .at2 .ensures) (at-2 s a l g (sym (c .before .at3 .ensures) ∙ c .match .keys3))
+    rw (c .before .before .before .byte-at .ensures, c .before .before .byte-at2 .ensures) (at-2 s a l g (sym (c .before .byte-at3 .ensures) ∙ c .match .keys3))
 
 returns-4 : tie.Need-returns-4
 returns-4 c =
@@ -44,17 +44,17 @@ returns-4 c =
     let l = now (d .list) in
     let g = d .argument in
     let m = c .before .before in
-    let x = m .before .before .before .before .at in
-    let y = m .before .before .before .at2 in
-    let b = m .before .before .at3 in
-    rw (c .task-of .ensures, c .before .pair .ensures, m .at4 .ensures, x .ensures, y .ensures)
+    let x = m .before .before .before .before .byte-at in
+    let y = m .before .before .before .byte-at2 in
+    let b = m .before .before .byte-at3 in
+    rw (c .task-of .ensures, c .before .pair .ensures, m .byte-at4 .ensures, x .ensures, y .ensures)
     (at-5 s a l g (sym (b .ensures) ∙ m .before .match .keys4))
 
 returns-5 : tie.Need-returns-5
 returns-5 c =
     let x = c .match .rest in
-    let b = none-else (c .before .at3 .result) (x .0 .0 .0 .1) (x .0 .0 .1) (x .0 .1) (x .1) in
-    clash (sym b ∙ ap (λ n. isNone (formAt n)) (c .before .at3 .ensures) ∙ c .before .before .before .before .before .before .pre .2)
+    let b = none-else (c .before .byte-at3 .result) (x .0 .0 .0 .1) (x .0 .0 .1) (x .0 .1) (x .1) in
+    clash (sym b ∙ ap (λ n. isNone (formAt n)) (c .before .byte-at3 .ensures) ∙ c .before .before .before .before .before .before .pre .2)
 
 pub call-at-spec : {M : Type 1} → statement M
 call-at-spec =

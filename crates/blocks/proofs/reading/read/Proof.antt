@@ -31,7 +31,7 @@ argument b = b .before .before .before .before .before .args .argument
 -- the number by place, of the form of the byte at the address
 number : (b : tie.After-by-place) → b .by-place .result ≡ firstOf (byPlace (length (image b)) (address b) (sizeOf (formIn (image b) (address b))) (list b))
 number b =
-    let size = b .before .length-at .ensures ∙ ap (λ x. sizeOf (formAt x)) (b .before .before .at .ensures) in
+    let size = b .before .length-at .ensures ∙ ap (λ x. sizeOf (formAt x)) (b .before .before .byte-at .ensures) in
     b .by-place .ensures ∙ ap (λ n. firstOf (byPlace (length (image b)) (address b) n (list b))) size
 
 -- where it is 0, the number that the call's own numbers give is the answer's

@@ -32,14 +32,14 @@ add-n : tie.Need-add-n Inv-loop μ-loop
 add-n c =
     let v = c .before .before .loop in
     let a = c .before .before .before .before .args in
-    omega (arith, digit-fits (v .n) (c .byte-at .result) (v .i) (v .inv .1) (c .byte-at .ensures .1), wide (v .i) (a .w) (c .before .loop-test .taken) (omega arith))
+    omega (arith, digit-fits (v .n) (c .byte-at .result) (v .i) (v .inv .1) (c .byte-at .ok), wide (v .i) (a .w) (c .before .loop-test .taken) (omega arith))
 
 loop-again : tie.Need-loop-again Inv-loop μ-loop
 loop-again c =
     let v = c .before .before .loop in
     let a = c .before .before .before .before .args in
-    let turn = read-turn (now (a .bytes)) (a .at) (a .w) (v .i) (v .n) (c .byte-at .result) (c .before .loop-test .taken) (c .byte-at .ensures .0) in
-    (omega arith, digit-fits (v .n) (c .byte-at .result) (v .i) (v .inv .1) (c .byte-at .ensures .1), sym turn ∙ v .inv .2)
+    let turn = read-turn (now (a .bytes)) (a .at) (a .w) (v .i) (v .n) (c .byte-at .result) (c .before .loop-test .taken) (c .byte-at .ensures) in
+    (omega arith, digit-fits (v .n) (c .byte-at .result) (v .i) (v .inv .1) (c .byte-at .ok), sym turn ∙ v .inv .2)
 
 returns : tie.Need-returns Inv-loop μ-loop
 returns c =
@@ -58,6 +58,7 @@ number-at-spec =
     mul-n
     (λ c. search needs)
     (λ c κs. search needs)
+    (λ c. search needs)
     add-n
     (λ c. search needs)
     (λ c. search needs)

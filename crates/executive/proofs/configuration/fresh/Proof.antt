@@ -46,7 +46,7 @@ returns-2 c =
       c .before .before .begin .ensures,
       c .before .before .before .table-of2 .ensures,
       c .before .before .before .before .blank-rest2 .ensures,
-      m .at .ensures,
+      m .byte-at .ensures,
       m .before .all-dormant2 .ensures,
       m .before .before .tasks-in .ensures .0,
       ← l .is-configuration .ensures,

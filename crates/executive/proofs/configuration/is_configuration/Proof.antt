@@ -33,8 +33,8 @@ returns-3 c =
       le-leb 1 (m .tasks-in .result) (c .before .before .before .before .if1 .left),
       ← l .length-in .ensures,
       eq-eqb (length (m .before .before .args .s .now)) (l .length-in .result) (c .before .before .if2 .left),
-      ← c .before .at .ensures,
-      lt-leb 1 (c .before .at .result) (c .if3 .taken),
+      ← c .before .byte-at .ensures,
+      lt-leb 1 (c .before .byte-at .result) (c .if3 .taken),
     ) refl
 
 returns-4 : tie.Need-returns-4
@@ -47,8 +47,8 @@ returns-4 c =
       le-leb 1 (m .tasks-in .result) (c .before .before .before .before .before .if1 .left),
       ← l .length-in .ensures,
       eq-eqb (length (m .before .before .args .s .now)) (l .length-in .result) (c .before .before .before .if2 .left),
-      ← c .before .before .at .ensures,
-      le-leb 1 (c .before .before .at .result) (c .before .if3 .left),
+      ← c .before .before .byte-at .ensures,
+      le-leb 1 (c .before .before .byte-at .result) (c .before .if3 .left),
     ) (c .tasks-right .ensures)
 
 pub is-configuration-spec : {M : Type 1} → statement M

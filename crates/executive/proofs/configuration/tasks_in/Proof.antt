@@ -28,7 +28,7 @@ unfolding tasksIn
 returns c =
     let s = c .before .before .before .before .before .before .args .s .now in
     let v = c .before .before .before .before .loop in
-    let e = rw (c .before .before .place-in .ensures) at (c .before .at .ensures) in
+    let e = rw (c .before .before .place-in .ensures) at (c .before .byte-at .ensures) in
     (sym (tasks-stop s (v .n) (c .before .before .before .loop-test .taken) (λ z. c .if1 .taken (e ∙ z))) ∙ v .inv .1, v .inv .0)
 
 add-n : tie.Need-add-n Inv-loop μ-loop
@@ -41,7 +41,7 @@ loop-again : tie.Need-loop-again Inv-loop μ-loop
 loop-again c =
     let s = c .before .before .before .before .before .before .args .s .now in
     let v = c .before .before .before .before .loop in
-    let e = rw (c .before .before .place-in .ensures) at (c .before .at .ensures) in
+    let e = rw (c .before .before .place-in .ensures) at (c .before .byte-at .ensures) in
     (omega arith, sym (tasks-turn s (v .n) (c .before .before .before .loop-test .taken) (sym e ∙ c .if1 .left)) ∙ v .inv .1)
 
 returns-2 : tie.Need-returns-2 Inv-loop μ-loop
