@@ -1,13 +1,16 @@
 -- `quermanic_step` meets its contract: its four outcomes are the definition's.
-use mathlib.Core.Path.{ap, _∙_}
+use Prim.Native.Nat.{ℕ, _≤_}
+use mathlib.Core.Path.{_≡_, ap, _∙_}
+use mathlib.Core.List.{List}
 use native.Mathlib.Omega.{arith}
+use lib.ListN.{length}
 use denote.Ref.{now}
 use borrow.Author.Tests.{not-true, not-false}
 use Rattle.executive.specs.Step.{stepOf}
 use Rattle.executive.specs.declared.Outcome.{Outcome}
 use Rattle.board.specs.Blocks.{written}
-use Rattle.board.specs.EntryPoints.{answerBytes}
-use Rattle.board.specs.Image.{loadOf}
+use Rattle.board.specs.EntryPoints.{answerLength, answerBytes}
+use Rattle.board.specs.Image.{loadOf, isImage}
 use Rattle.board.proofs.Owned.{outcome-owned}
 use Rattle.board.proofs.Trips.{image-parts}
 use Rattle.board.proofs.Answered.{holds, told, step-short, step-none, step-refused, step-done}
@@ -21,52 +24,74 @@ returns c =
     let e = step-short (now (a .image)) (now (a .call)) (now (a .answer)) (c .if1 .taken) in
     record { number = e .0; image = e .1 .0; answer = e .1 .1; holds = λ z. absurd (omega arith) }
 
+-- the three buffers as they came
+abbrev image : tie.After-load → List ℕ
+image l = now (l .before .before .before .before .before .before .args .image)
+
+abbrev call : tie.After-load → List ℕ
+call l = now (l .before .before .before .before .before .before .args .call)
+
+abbrev answer : tie.After-load → List ℕ
+answer l = now (l .before .before .before .before .before .before .args .answer)
+
+-- the answer's buffer has room
+room : (l : tie.After-load) → answerLength ≤ length (answer l)
+room l = l .before .before .if1 .left
+
+-- whether the bytes are an image, as it was found
+found : (i : tie.After-is-image-of) → isImage (image (i .before .before)) ≡ i .is-image-of .result
+found i = let l = i .before .before in told (image l) (l .load .result) (l .load .ensures) (i .is-image-of .ensures)
+
+-- the outcome is that of a step from what the image loads to
+stepped : (x : tie.After-step) → let l = x .before .before .before .before in x .step .result ≡ stepOf (loadOf (image l)) (call l)
+stepped x =
+    let l = x .before .before .before .before in
+    x .step .ensures ∙ ap (λ t. stepOf t (call l)) (l .load .ensures)
+
 returns-2 : tie.Need-returns-2
 returns-2 c =
-    let a = c .before .before .before .before .before .before .before .before .before .before .before .before .before .before .args in
-    let s = now (a .image) in
-    let l = c .before .before .before .before .before .before .before .before .load in
-    let i = c .before .before .before .before .before .before .is-image-of in
-    let e =
-    step-none s (now (a .call)) (now (a .answer)) (c .before .before .before .before .before .before .before .before .before .before .if1 .left)
-    (told s (l .result) (l .ensures) (i .ensures) ∙ not-true (i .result) (c .before .before .before .before .before .if2 .taken))
-    (c .before .before .put-answer .ensures ∙ ap (λ x. written (now (a .answer)) 0 (answerBytes x)) (c .before .before .before .before .no-table .ensures)) in
+    let p = c .before .before in
+    let n = p .before .before in
+    let i = n .before .before in
+    let l = i .before .before in
+    let none = p .put-answer .ensures ∙ ap (λ x. written (answer l) 0 (answerBytes x)) (n .no-table .ensures) in
+    let e = step-none (image l) (call l) (answer l) (room l) (found i ∙ not-true (i .is-image-of .result) (n .before .if2 .taken)) none in
     record { number = e .0; image = e .1 .0; answer = e .1 .1; holds = λ z. absurd (omega arith) }
 
 returns-3 : tie.Need-returns-3
 returns-3 c =
-    let a = c .before .before .before .before .before .before .before .before .before .before .before .before .before .before .before .before .args in
-    let s = now (a .image) in
-    let x = c .before .before .before .before .before .before .step in
-    let l = c .before .before .before .before .before .before .before .before .before .before .load in
-    let i = c .before .before .before .before .before .before .before .before .is-image-of in
-    let e = told s (l .result) (l .ensures) (i .ensures) ∙ not-false (i .result) (c .before .before .before .before .before .before .before .if2 .left) in
+    let p = c .before .before .before in
+    let x = p .before .before .before in
+    let i = x .before .before in
+    let l = i .before .before in
+    let e = found i ∙ not-false (i .is-image-of .result) (x .before .if2 .left) in
     let d =
-    step-refused s (now (a .call)) (now (a .answer)) (c .before .before .before .before .before .before .before .before .before .before .before .before .if1 .left) (x .result) (x .ensures ∙ ap (λ t. stepOf t (now (a .call))) (l .ensures)) e (c .if3 .taken) (c .before .before .before .put-answer2 .ensures) in
+    step-refused (image l) (call l) (answer l) (room l) (x .step .result) (stepped x) e (c .if3 .taken)
+    (p .put-answer2 .ensures) in
     record { number = d .0; image = d .1 .0; answer = d .1 .1; holds = λ z. absurd (c .if3 .taken z) }
 
 put-table-requires : tie.Need-put-table-requires
 put-table-requires c κs =
-    let a = c .before .before .before .before .before .before .before .before .before .before .before .before .before .before .before .before .before .before .args in
-    let s = now (a .image) in
-    let l = c .before .before .before .before .before .before .before .before .before .before .before .before .load in
-    let i = c .before .before .before .before .before .before .before .before .before .before .is-image-of in
-    let e = told s (l .result) (l .ensures) (i .ensures) ∙ not-false (i .result) (c .before .before .before .before .before .before .before .before .before .if2 .left) in
-    image-parts s e .0
+    let b = c .before .before .before .before .before .before .before .before .before in
+    let i = b .before in
+    image-parts (image (i .before .before)) (found i ∙ not-false (i .is-image-of .result) (b .if2 .left)) .0
 
 returns-4 : tie.Need-returns-4
 returns-4 c =
-    let a = c .before .before .before .before .before .before .before .before .before .before .before .before .before .before .before .before .before .before .before .before .before .args in
-    let s = now (a .image) in
-    let x = c .before .before .before .before .before .before .before .before .before .before .before .step in
-    let l = c .before .before .before .before .before .before .before .before .before .before .before .before .before .before .before .load in
-    let i = c .before .before .before .before .before .before .before .before .before .before .before .before .before .is-image-of in
-    let e = told s (l .result) (l .ensures) (i .ensures) ∙ not-false (i .result) (c .before .before .before .before .before .before .before .before .before .before .before .before .if2 .left) in
-    let ex = x .ensures ∙ ap (λ t. stepOf t (now (a .call))) (l .ensures) in
+    let s = c .before .before in
+    let b = s .before .before .before in
+    let p = b .before .before .before in
+    let x = p .before .before .before in
+    let i = x .before .before in
+    let l = i .before .before in
+    let e = found i ∙ not-false (i .is-image-of .result) (x .before .if2 .left) in
     let d =
-    step-done s (now (a .call)) (now (a .answer)) (c .before .before .before .before .before .before .before .before .before .before .before .before .before .before .before .before .before .if1 .left) (x .result) (x .ensures ∙ ap (λ t. stepOf t (now (a .call))) (l .ensures)) e (omega (arith, c .before .before .before .before .before .if3 .left)) (c .before .before .before .before .before .before .before .before .put-answer2 .ensures) (c .before .before .put-table .ensures) in
+    step-done (image l) (call l) (answer l) (room l) (x .step .result) (stepped x) e (omega (arith, b .if3 .left))
+    (p .put-answer2 .ensures) (s .put-table .ensures) in
+    let o = outcome-owned (x .step .result) _ (x .step .ok) in
     let h =
-    holds (x .result .table) (stepOf (loadOf s) (now (a .call)) .table) (outcome-owned (x .result) _ (x .ok)) (ap (λ (y : Outcome). y .table) ex) (c .before .before .put-table .ensures) in
+    holds (x .step .result .table) (stepOf (loadOf (image l)) (call l) .table) o (ap (λ (y : Outcome). y .table) (stepped x))
+    (s .put-table .ensures) in
     record { number = d .0; image = d .1 .0; answer = d .1 .1; holds = λ z. h }
 
 pub quermanic-step-spec : {M : Type 1} → statement M
