@@ -19,7 +19,7 @@ mod promises;
 mod queue;
 mod queue_check;
 mod refusals;
-mod rules;
+pub mod rules;
 mod starts;
 pub mod states;
 mod step;

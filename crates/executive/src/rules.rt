@@ -1,4 +1,5 @@
-// The rules on one thing alone: on an entry, a request, an alarm, the counts and the clock.
+// The rules on one thing alone: on an entry, a wait mask, a request, an alarm, the counts and the clock. Public, since an
+// engine or a mender asks the same rules.
 use crate::Millis;
 use crate::Request;
 use crate::State;
@@ -13,7 +14,7 @@ ghost use Rattle.executive.specs.Check.{inBounds, entryInRange, isZero, 
 ghost use Rattle.executive.specs.Check.{isStored, isTimely, alarmRight, isUnmet, namesOthers, dormantEntryRight, isFree, entryRight, requestFits};
 
 // The counts, the granule and the clock are in range.
-pub(crate) fn in_bounds(count: u8, granule: u8, clock: Millis, ready: u8, queued: u8) -> bool
+pub fn in_bounds(count: u8, granule: u8, clock: Millis, ready: u8, queued: u8) -> bool
     ensures { λ r. ⌜ r ≡ inBounds count granule clock ready queued ⌝ }
 {
     if count < 1 {
@@ -34,7 +35,7 @@ pub(crate) fn in_bounds(count: u8, granule: u8, clock: Millis, ready: u8, queued
     queued <= 32
 }
 
-fn entry_in_range(e: Task, count: u8) -> bool
+pub fn entry_in_range(e: Task, count: u8) -> bool
     ensures { λ r. ⌜ r ≡ entryInRange count e ⌝ }
 {
     if 15 < e.own {
@@ -47,7 +48,7 @@ fn entry_in_range(e: Task, count: u8) -> bool
 }
 
 // Zeros but for the own priority and the state.
-fn is_zero(e: Task) -> bool
+pub fn is_zero(e: Task) -> bool
     ensures { λ r. ⌜ r ≡ isZero e ⌝ }
 {
     if e.priority != 0 {
@@ -63,7 +64,7 @@ fn is_zero(e: Task) -> bool
 }
 
 // An entry past the task count.
-pub(crate) fn is_blank(e: Task) -> bool
+pub fn is_blank(e: Task) -> bool
     ensures { λ r. ⌜ r ≡ isBlank e ⌝ }
 {
     let s = e.state;
@@ -77,7 +78,7 @@ pub(crate) fn is_blank(e: Task) -> bool
 }
 
 // A dormant task holds zeros but for its own priority.
-fn dormant_entry_right(e: Task) -> bool
+pub fn dormant_entry_right(e: Task) -> bool
     ensures { λ r. ⌜ r ≡ dormantEntryRight e ⌝ }
 {
     let s = e.state;
@@ -88,13 +89,13 @@ fn dormant_entry_right(e: Task) -> bool
 }
 
 // A stored time is after the clock and at most the longest interval after it.
-fn is_stored(at: Millis, now: Millis) -> bool
+pub fn is_stored(at: Millis, now: Millis) -> bool
     ensures { λ r. ⌜ r ≡ isStored (now .0) (at .0) ⌝ }
 {
     now.0 < at.0 && at.0 - now.0 <= clock::LONGEST
 }
 
-fn is_timely(s: State, now: Millis) -> bool
+pub fn is_timely(s: State, now: Millis) -> bool
     ensures { λ r. ⌜ r ≡ isTimely (now .0) s ⌝ }
 {
     if !states::has_time(s) {
@@ -105,7 +106,7 @@ fn is_timely(s: State, now: Millis) -> bool
 }
 
 // A wait mask is nonzero and its condition is false.
-fn is_unmet(s: State, flags: u32) -> bool
+pub fn is_unmet(s: State, flags: u32) -> bool
     ensures { λ r. ⌜ r ≡ isUnmet flags s ⌝ }
 {
     if !states::has_mask(s) {
@@ -118,7 +119,7 @@ fn is_unmet(s: State, flags: u32) -> bool
 
 // The rules on one entry alone: its numbers, its stored time, its last scheduled start, its wait mask, its zeros
 // while it is dormant.
-pub(crate) fn entry_right(e: Task, count: u8, now: Millis, flags: u32) -> bool
+pub fn entry_right(e: Task, count: u8, now: Millis, flags: u32) -> bool
     ensures { λ r. ⌜ r ≡ entryRight count (now .0) flags e ⌝ }
 {
     let s = e.state;
@@ -137,7 +138,7 @@ pub(crate) fn entry_right(e: Task, count: u8, now: Millis, flags: u32) -> bool
     dormant_entry_right(e)
 }
 
-fn request_in_range(q: Request, count: u8) -> bool
+pub fn request_in_range(q: Request, count: u8) -> bool
     ensures { λ r. ⌜ r ≡ requestInRange count q ⌝ }
 {
     if 15 < q.priority {
@@ -153,7 +154,7 @@ fn request_in_range(q: Request, count: u8) -> bool
 }
 
 // A request's waiter is not its target, and there are not two of them.
-fn names_others(q: Request) -> bool
+pub fn names_others(q: Request) -> bool
     ensures { λ r. ⌜ r ≡ namesOthers q ⌝ }
 {
     if q.target.0 == q.start_waiter.0 {
@@ -168,7 +169,7 @@ fn names_others(q: Request) -> bool
     q.end_waiter.0 == 0
 }
 
-pub(crate) fn is_free(q: Request) -> bool
+pub fn is_free(q: Request) -> bool
     ensures { λ r. ⌜ r ≡ isFree q ⌝ }
 {
     if q.target.0 != 0 {
@@ -187,7 +188,7 @@ pub(crate) fn is_free(q: Request) -> bool
 }
 
 // The rules on one request alone: its numbers and its waiter.
-pub(crate) fn request_fits(q: Request, count: u8) -> bool
+pub fn request_fits(q: Request, count: u8) -> bool
     ensures { λ r. ⌜ r ≡ requestFits count q ⌝ }
 {
     if !request_in_range(q, count) {
@@ -197,7 +198,7 @@ pub(crate) fn request_fits(q: Request, count: u8) -> bool
 }
 
 // An alarm that is running has a stored time.
-pub(crate) fn alarm_right(a: Millis, now: Millis) -> bool
+pub fn alarm_right(a: Millis, now: Millis) -> bool
     ensures { λ r. ⌜ r ≡ alarmRight (now .0) a ⌝ }
 {
     if a.0 == 0 {
