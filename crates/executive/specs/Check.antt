@@ -1,4 +1,5 @@
--- The check of a table as it is computed: a test for each rule of `WellFormed`, in the same order.
+-- The check of a table as it is computed: a test for each rule of `WellFormed`. The queue has its own, and all others
+-- look at the entries and the rest alone.
 use Prim.Native.Nat.{ℕ, suc, _+_, _-_, _<_}
 use mathlib.Core.Path.{_≡_}
 use mathlib.Core.Logic.{_↔_}
@@ -11,19 +12,19 @@ use Rattle.executive.specs.declared.Millis.{Millis}
 use Rattle.executive.specs.declared.State.{State}
 use Rattle.executive.specs.declared.Task.{Task}
 use Rattle.executive.specs.declared.Request.{Request}
+use Rattle.executive.specs.declared.Rest.{Rest}
 use Rattle.executive.specs.declared.Table.{Table}
 use Rattle.executive.specs.declared.waiters.Link.{Link}
 use Rattle.executive.specs.declared.waiters.Link.the-variants.{AtStart, AtEnd}
 use Rattle.executive.specs.Numbers.{mostTasks, mostQueued, flagCount, highest, mostGranule, endOfTime, longest}
 use Rattle.executive.specs.Lists.{one, sumOf, _and_, upTo, allOf}
-use Rattle.executive.specs.Table.{line}
 use Rattle.executive.specs.Pool.{requests}
 use Rattle.executive.specs.Places.{taskAt}
 use Rattle.executive.specs.States.{ready, awaitStart, awaitEnd, timeOf, maskOf, isOf, is, isDormant, hasTime, hasMask, waitMode}
 use Rattle.executive.specs.Flags.{met}
 use Rattle.executive.specs.WellFormed.{WellFormed, startsOf, endsOf, runsOf}
 
--- ---- every number is in range
+-- ---- every number is in range, but how many are ready
 -- a task's entry among n tasks; a request among them
 abbrev pub entryInRange : ℕ → Task → Bool
 entryInRange n e = leb (e .own) highest and leb (e .priority) highest and leb (e .«end_waiter» .0) n
@@ -38,25 +39,20 @@ isZero e = eqb (e .priority) 0 and eqb (e .argument) 0 and eqb (e .start .0) 0 a
 abbrev pub isBlank : Task → Bool
 isBlank e = isDormant (e .state) and eqb (e .own) 0 and isZero e
 
-abbrev pub sizesRight : Table → Bool
-sizesRight t =
-    eqb (length (t .tasks)) mostTasks
-    and eqb (length (t .queue)) mostTasks
-    and eqb (length (t .rest .alarms)) flagCount
-    and eqb (length (t .rest .pool)) mostQueued
+abbrev pub sizesRight : List Task → Rest → Bool
+sizesRight ts r = eqb (length ts) mostTasks and eqb (length (r .alarms)) flagCount and eqb (length (r .pool)) mostQueued
 
--- the task count, the granule, the clock, how many are ready, how many requests are queued
-abbrev pub inBounds : ℕ → ℕ → Millis → ℕ → ℕ → Bool
-inBounds n g c r q =
-    leb 1 n and leb n mostTasks and leb 1 g and leb g mostGranule and leb (c .0) endOfTime and leb r mostTasks and leb q mostQueued
+-- the task count, the granule, the clock, how many requests are queued
+abbrev pub inBounds : ℕ → ℕ → Millis → ℕ → Bool
+inBounds n g c q = leb 1 n and leb n mostTasks and leb 1 g and leb g mostGranule and leb (c .0) endOfTime and leb q mostQueued
 
-unfoldable pub numbersRight : Table → Bool
-numbersRight t =
-    sizesRight t
-    and inBounds (t .rest .count) (t .rest .granule) (t .rest .clock) (t .ready) (t .rest .queued)
-    and allOf (entryInRange (t .rest .count)) (t .tasks)
-    and allOf isBlank (drop (t .rest .count) (t .tasks))
-    and allOf (requestInRange (t .rest .count)) (requests (t .rest))
+unfoldable pub numbersRight : List Task → Rest → Bool
+numbersRight ts r =
+    sizesRight ts r
+    and inBounds (r .count) (r .granule) (r .clock) (r .queued)
+    and allOf (entryInRange (r .count)) ts
+    and allOf isBlank (drop (r .count) ts)
+    and allOf (requestInRange (r .count)) (requests r)
 
 -- ---- the ready queue
 abbrev pub isTask : ℕ → TaskNo → Bool
@@ -77,11 +73,13 @@ standsIn k xs = sumOf (λ (x : TaskNo). one (eqb k (x .0))) xs
 unfoldable pub exactAt : List Task → List TaskNo → ℕ → Bool
 exactAt ts xs k = eqb (standsIn k xs) (is ready (taskAt ts k .state))
 
+-- the queue q, of which the first r places are taken: its own tests, which look at the entries and at nothing else
+abbrev pub lineRight : List Task → ℕ → List TaskNo → Bool
+lineRight ts r q =
+    leb r mostTasks and falls ts mostTasks highest (take r q) and upTo (exactAt ts (take r q)) mostTasks and allOf isNobody (drop r q)
+
 unfoldable pub queueRight : Table → Bool
-queueRight t =
-    falls (t .tasks) (t .rest .count) highest (line t)
-    and upTo (exactAt (t .tasks) (line t)) (t .rest .count)
-    and allOf isNobody (drop (t .ready) (t .queue))
+queueRight t = eqb (length (t .queue)) mostTasks and lineRight (t .tasks) (t .ready) (t .queue)
 
 -- ---- stored times, at the clock c
 abbrev pub isStored : ℕ → ℕ → Bool
@@ -96,15 +94,15 @@ alarmRight c a = cond (eqb (a .0) 0) true (isStored c (a .0))
 abbrev pub taskTimely : ℕ → Task → Bool
 taskTimely c e = isTimely c (e .state)
 
-unfoldable pub timesRight : Table → Bool
-timesRight t = allOf (taskTimely (t .rest .clock .0)) (t .tasks) and allOf (alarmRight (t .rest .clock .0)) (t .rest .alarms)
+unfoldable pub timesRight : List Task → Rest → Bool
+timesRight ts r = allOf (taskTimely (r .clock .0)) ts and allOf (alarmRight (r .clock .0)) (r .alarms)
 
 -- ---- last scheduled starts
 abbrev pub isStarted : ℕ → Task → Bool
 isStarted c e = leb (e .start .0) c
 
-unfoldable pub startedRight : Table → Bool
-startedRight t = allOf (isStarted (t .rest .clock .0)) (t .tasks)
+unfoldable pub startedRight : List Task → Rest → Bool
+startedRight ts r = allOf (isStarted (r .clock .0)) ts
 
 -- ---- wait masks, at the flags fs
 abbrev pub isUnmet : ℕ → State → Bool
@@ -113,15 +111,15 @@ isUnmet fs s = cond (hasMask s) (ltb 0 (maskOf s) and not (met fs (waitMode s) (
 abbrev pub taskUnmet : ℕ → Task → Bool
 taskUnmet fs e = isUnmet fs (e .state)
 
-unfoldable pub masksRight : Table → Bool
-masksRight t = allOf (taskUnmet (t .rest .flags)) (t .tasks)
+unfoldable pub masksRight : List Task → Rest → Bool
+masksRight ts r = allOf (taskUnmet (r .flags)) ts
 
 -- ---- queued requests name busy tasks only
 abbrev pub targetBusy : List Task → Request → Bool
 targetBusy ts r = not (isDormant (taskAt ts (r .target .0) .state))
 
-unfoldable pub busyRight : Table → Bool
-busyRight t = allOf (targetBusy (t .tasks)) (requests (t .rest))
+unfoldable pub busyRight : List Task → Rest → Bool
+busyRight ts r = allOf (targetBusy ts) (requests r)
 
 -- ---- waiters: what is said of number k; what is said of one request
 unfoldable pub waitersAt : List Task → List Request → ℕ → Bool
@@ -136,15 +134,15 @@ namesOthers r =
     and not (eqb (r .target .0) (r .«end_waiter» .0))
     and cond (eqb (r .«start_waiter» .0) 0) true (eqb (r .«end_waiter» .0) 0)
 
-unfoldable pub waitersRight : Table → Bool
-waitersRight t = upTo (waitersAt (t .tasks) (requests (t .rest))) (t .rest .count) and allOf namesOthers (requests (t .rest))
+unfoldable pub waitersRight : List Task → Rest → Bool
+waitersRight ts r = upTo (waitersAt ts (requests r)) (r .count) and allOf namesOthers (requests r)
 
 -- ---- a dormant task's entry
 abbrev pub dormantEntryRight : Task → Bool
 dormantEntryRight e = cond (isDormant (e .state)) (isZero e) true
 
-unfoldable pub dormantRight : Table → Bool
-dormantRight t = allOf dormantEntryRight (t .tasks)
+unfoldable pub dormantRight : List Task → Bool
+dormantRight ts = allOf dormantEntryRight ts
 
 -- ---- the pool's free places
 abbrev pub isFree : Request → Bool
@@ -155,21 +153,24 @@ isFree r =
     and eqb (r .«start_waiter» .0) 0
     and eqb (r .«end_waiter» .0) 0
 
-unfoldable pub poolRight : Table → Bool
-poolRight t = allOf isFree (drop (t .rest .queued) (t .rest .pool))
+unfoldable pub poolRight : Rest → Bool
+poolRight r = allOf isFree (drop (r .queued) (r .pool))
 
--- ---- the check, in 01's order
+-- ---- the check: every rule but the queue's, in 01's order, which the entries and the rest keep or break whatever the
+-- queue is; and the queue's own
+unfoldable pub allButQueue : List Task → Rest → Bool
+allButQueue ts r =
+    numbersRight ts r
+    and timesRight ts r
+    and startedRight ts r
+    and masksRight ts r
+    and busyRight ts r
+    and waitersRight ts r
+    and dormantRight ts
+    and poolRight r
+
 unfoldable pub isWellFormed : Table → Bool
-isWellFormed t =
-    numbersRight t
-    and queueRight t
-    and timesRight t
-    and startedRight t
-    and masksRight t
-    and busyRight t
-    and waitersRight t
-    and dormantRight t
-    and poolRight t
+isWellFormed t = queueRight t and allButQueue (t .tasks) (t .rest)
 
 -- what the check answers: number 0 for a well-formed table, number 1 for any other
 pub record Checked (t : Table) (r : ℕ) : Type 0 where
@@ -200,21 +201,17 @@ isQuiet e = not (isOf awaitStart (e .state)) and not (isOf awaitEnd (e .state)) 
 abbrev pub isLone : Request → Bool
 isLone r = eqb (r .«start_waiter» .0) 0 and eqb (r .«end_waiter» .0) 0
 
--- the ready queue q of r tasks; the pool p of k requests
-abbrev pub lineRight : List Task → ℕ → ℕ → List TaskNo → Bool
-lineRight ts n r q = falls ts n highest (take r q) and upTo (exactAt ts (take r q)) n and allOf isNobody (drop r q)
-
+-- the pool p of k requests
 abbrev pub askedRight : List Task → ℕ → ℕ → List Request → Bool
 askedRight ts n k p = allOf (requestRight ts n) (take k p) and upTo (waitersAt ts (take k p)) n and allOf isFree (drop k p)
 
-unfoldable pub inPasses : Table → Bool
-inPasses t =
-    inBounds (t .rest .count) (t .rest .granule) (t .rest .clock) (t .ready) (t .rest .queued)
-    and allOf (entryRight (t .rest .count) (t .rest .clock .0) (t .rest .flags)) (t .tasks)
-    and allOf isBlank (drop (t .rest .count) (t .tasks))
-    and allOf (alarmRight (t .rest .clock .0)) (t .rest .alarms)
-    and lineRight (t .tasks) (t .rest .count) (t .ready) (t .queue)
-    and askedRight (t .tasks) (t .rest .count) (t .rest .queued) (t .rest .pool)
+unfoldable pub inPasses : List Task → Rest → Bool
+inPasses ts r =
+    inBounds (r .count) (r .granule) (r .clock) (r .queued)
+    and allOf (entryRight (r .count) (r .clock .0) (r .flags)) ts
+    and allOf isBlank (drop (r .count) ts)
+    and allOf (alarmRight (r .clock .0)) (r .alarms)
+    and askedRight ts (r .count) (r .queued) (r .pool)
 
 -- ---- a tally of numbers: how often k stands in a line is told at place k - 1
 pub record Tallies (c : List ℕ) (xs : List TaskNo) : Type 0 where

@@ -1,6 +1,7 @@
-// The check of a table (01, "A table is well formed when"): the rules on one entry and on one request each in one
-// pass; number 0 exactly for a well-formed table, else 1.
+// The check of a table (01, "A table is well formed when"): every rule but the queue's, from the entries and the rest,
+// each in one pass; with the queue's own, number 0 exactly for a well-formed table, else 1.
 use crate::Request;
+use crate::Rest;
 use crate::Table;
 use crate::Task;
 use crate::passes;
@@ -10,7 +11,7 @@ use crate::waiters;
 ghost use mathlib.Core.Path.{_≡_};
 ghost use Prim.Native.Nat.{_≤_};
 ghost use Rattle.executive.specs.States.{ready};
-ghost use Rattle.executive.specs.Check.{askedRight, isWellFormed, Checked};
+ghost use Rattle.executive.specs.Check.{askedRight, allButQueue, queueRight, isWellFormed, Checked};
 
 // The requests, their waiters and those of the runs; the pool's free places are last and zero.
 fn pool_right(tasks: [Task; 16], pool: [Request; 32], queued: usize, count: u8) -> bool
@@ -23,34 +24,46 @@ fn pool_right(tasks: [Task; 16], pool: [Request; 32], queued: usize, count: u8) 
     waiters::waiters_right(tasks, pool, queued, count) && passes::free_from(pool, queued)
 }
 
+// Every rule but the queue's: the numbers, the entries, the alarms, the pool. Each array is taken out once.
+pub fn all_but_queue(tasks: [Task; 16], rest: Rest) -> bool
+    ensures { λ r. ⌜ r ≡ allButQueue tasks rest ⌝ }
+{
+    let count = rest.count;
+    let now = rest.clock;
+    if !rules::in_bounds(count, rest.granule, now, rest.queued) {
+        return false;
+    }
+    if !passes::entries_right(tasks, count, now, rest.flags) {
+        return false;
+    }
+    if !passes::blank_past(tasks, count as usize) {
+        return false;
+    }
+    let alarms = rest.alarms;
+    if !passes::all_alarms(alarms, now) {
+        return false;
+    }
+    let pool = rest.pool;
+    pool_right(tasks, pool, rest.queued as usize, count)
+}
+
 impl Table {
-    // The table keeps every rule: the numbers, the entries, the alarms, the ready queue, the pool. Each array is
-    // taken out once.
+    // The queue's own rules: it holds exactly the ready tasks, once each, in descending priority.
+    pub(crate) fn queue_right(self) -> bool
+        ensures { λ r. ⌜ r ≡ queueRight self ⌝ }
+    {
+        let tasks = self.tasks;
+        let queue = self.queue;
+        queue_check::line_right(tasks, queue, self.ready)
+    }
+
+    // The table keeps every rule.
     pub(crate) fn is_well_formed(self) -> bool
         ensures { λ r. ⌜ r ≡ isWellFormed self ⌝ }
     {
-        let count = self.rest.count;
-        let now = self.rest.clock;
-        if !rules::in_bounds(count, self.rest.granule, now, self.ready, self.rest.queued) {
-            return false;
-        }
         let tasks = self.tasks;
-        if !passes::entries_right(tasks, count, now, self.rest.flags) {
-            return false;
-        }
-        if !passes::blank_past(tasks, count as usize) {
-            return false;
-        }
-        let alarms = self.rest.alarms;
-        if !passes::all_alarms(alarms, now) {
-            return false;
-        }
-        let queue = self.queue;
-        if !queue_check::queue_right(tasks, queue, self.ready as usize, count) {
-            return false;
-        }
-        let pool = self.rest.pool;
-        pool_right(tasks, pool, self.rest.queued as usize, count)
+        let rest = self.rest;
+        self.queue_right() && all_but_queue(tasks, rest)
     }
 
     // The check of a table: 0 if it is well formed, 1 if it is not.

@@ -3,7 +3,7 @@ use records::TaskNo;
 
 pub mod answers;
 mod calls;
-mod check;
+pub mod check;
 mod clock;
 pub mod configuration;
 mod deciding;

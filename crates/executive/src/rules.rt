@@ -1,5 +1,5 @@
-// The rules on one thing alone: on an entry, a wait mask, a request, an alarm, the counts and the clock. Public, since an
-// engine or a mender asks the same rules.
+// The rules on one thing alone: on an entry, a wait mask, a request, an alarm, the counts and the clock. Public, since
+// an engine or a mender asks the same rules.
 use crate::Millis;
 use crate::Request;
 use crate::State;
@@ -14,8 +14,8 @@ ghost use Rattle.executive.specs.Check.{inBounds, entryInRange, isZero, 
 ghost use Rattle.executive.specs.Check.{isStored, isTimely, alarmRight, isUnmet, namesOthers, dormantEntryRight, isFree, entryRight, requestFits};
 
 // The counts, the granule and the clock are in range.
-pub fn in_bounds(count: u8, granule: u8, clock: Millis, ready: u8, queued: u8) -> bool
-    ensures { λ r. ⌜ r ≡ inBounds count granule clock ready queued ⌝ }
+pub fn in_bounds(count: u8, granule: u8, clock: Millis, queued: u8) -> bool
+    ensures { λ r. ⌜ r ≡ inBounds count granule clock queued ⌝ }
 {
     if count < 1 {
         return false;
@@ -27,9 +27,6 @@ pub fn in_bounds(count: u8, granule: u8, clock: Millis, ready: u8, queued: u8) -
         return false;
     }
     if clock::END_OF_TIME < clock.0 {
-        return false;
-    }
-    if 16 < ready {
         return false;
     }
     queued <= 32

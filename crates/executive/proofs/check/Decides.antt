@@ -6,23 +6,25 @@ use mathlib.Core.Bool.{Bool, true, false}
 use native.Mathlib.Omega.{arith}
 use Rattle.executive.specs.declared.Table.{Table}
 use Rattle.executive.specs.WellFormed.{WellFormed}
-use Rattle.executive.specs.Check.{numbersRight, queueRight, timesRight, startedRight, masksRight, busyRight, waitersRight, dormantRight, isWellFormed, Checked, Decided}
+use Rattle.executive.specs.Check.{numbersRight, queueRight, timesRight, startedRight, masksRight, busyRight, waitersRight, dormantRight, allButQueue, isWellFormed, Checked, Decided}
 use Rattle.executive.proofs.Lists.Tests.{and-true, true-and}
-use Rattle.executive.proofs.check.RuleByRule.{Known, numbers-get, numbers-make, queue-get, queue-make, times-get, times-make, started-get, started-make, masks-get, masks-make, busy-get, busy-make, waiters-get, waiters-make, dormant-get, dormant-make, pool-get, pool-make}
+use Rattle.executive.proofs.check.RuleByRule.{Known, lined, numbers-get, numbers-make, queue-get, queue-make, times-get, times-make, started-get, started-make, masks-get, masks-make, busy-get, busy-make, waiters-get, waiters-make, dormant-get, dormant-make, pool-get, pool-make}
 
 module _ (t : Table) where
   formed : isWellFormed t ≡ true → WellFormed t
-  unfolding isWellFormed
+  unfolding isWellFormed allButQueue
   formed e =
-      let a = and-true (numbersRight t) _ e in
-      let b = and-true (queueRight t) _ (a .1) in
-      let c = and-true (timesRight t) _ (b .1) in
-      let d = and-true (startedRight t) _ (c .1) in
-      let f = and-true (masksRight t) _ (d .1) in
-      let g = and-true (busyRight t) _ (f .1) in
-      let h = and-true (waitersRight t) _ (g .1) in
-      let j = and-true (dormantRight t) _ (h .1) in
-      let w : Known t = numbers-get t (a .0) in
+      let ts = t .tasks in
+      let r = t .rest in
+      let b = and-true (queueRight t) _ e in
+      let a = and-true (numbersRight ts r) _ (b .1) in
+      let c = and-true (timesRight ts r) _ (a .1) in
+      let d = and-true (startedRight ts r) _ (c .1) in
+      let f = and-true (masksRight ts r) _ (d .1) in
+      let g = and-true (busyRight ts r) _ (f .1) in
+      let h = and-true (waitersRight ts r) _ (g .1) in
+      let j = and-true (dormantRight ts) _ (h .1) in
+      let w : Known t = numbers-get t (lined t (b .0)) (a .0) in
       record {
         numbers = w .range;
         queue = queue-get t (w .range) (b .0);
@@ -36,16 +38,18 @@ module _ (t : Table) where
       }
 
   passes : WellFormed t → isWellFormed t ≡ true
-  unfolding isWellFormed
+  unfolding isWellFormed allButQueue
   passes w =
-      true-and (numbersRight t) _ (numbers-make t (w .numbers))
-      (true-and (queueRight t) _ (queue-make t (w .numbers) (w .queue))
-      (true-and (timesRight t) _ (times-make t (w .times))
-      (true-and (startedRight t) _ (started-make t (w .started))
-      (true-and (masksRight t) _ (masks-make t (w .masks))
-      (true-and (busyRight t) _ (busy-make t (w .busy))
-      (true-and (waitersRight t) _ (waiters-make t (w .waiters))
-      (true-and (dormantRight t) _ (dormant-make t (w .dormant)) (pool-make t (w .numbers .sizes .pool) (w .pool)))))))))
+      let ts = t .tasks in
+      let r = t .rest in
+      true-and (queueRight t) _ (queue-make t (w .numbers) (w .queue))
+      (true-and (numbersRight ts r) _ (numbers-make t (w .numbers))
+      (true-and (timesRight ts r) _ (times-make t (w .times))
+      (true-and (startedRight ts r) _ (started-make t (w .started))
+      (true-and (masksRight ts r) _ (masks-make t (w .masks))
+      (true-and (busyRight ts r) _ (busy-make t (w .busy))
+      (true-and (waitersRight ts r) _ (waiters-make t (w .waiters))
+      (true-and (dormantRight ts) _ (dormant-make t (w .dormant)) (pool-make t (w .numbers .sizes .pool) (w .pool)))))))))
 
   pub well-formed-iff : (isWellFormed t ≡ true) ↔ WellFormed t
   well-formed-iff = (formed, passes)

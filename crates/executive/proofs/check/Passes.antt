@@ -12,13 +12,13 @@ use lib.ListN.{length, drop, getD}
 use Rattle.records.specs.declared.TaskNo.{TaskNo}
 use Rattle.executive.specs.declared.Task.{Task}
 use Rattle.executive.specs.declared.Request.{Request}
-use Rattle.executive.specs.declared.Table.{Table}
+use Rattle.executive.specs.declared.Rest.{Rest}
 use Rattle.executive.specs.Lists.{one, _and_, upTo, allOf}
 use Rattle.executive.specs.Places.{noTask, taskAt, entryPlace}
 use Rattle.executive.specs.Pool.{requests}
 use Rattle.executive.specs.States.{ready, awaitStart, awaitEnd, isOf, is, isDormant}
 use Rattle.executive.specs.WellFormed.{startsOf, endsOf, runsOf}
-use Rattle.executive.specs.Check.{entryInRange, requestInRange, isBlank, sizesRight, inBounds, numbersRight, standsIn, exactAt, queueRight, alarmRight, taskTimely, timesRight, isStarted, startedRight, taskUnmet, masksRight, targetBusy, busyRight, waitersAt, namesOthers, waitersRight, dormantEntryRight, dormantRight, poolRight, isWellFormed, entryRight, requestFits, requestRight, isQuiet, isLone, lineRight, inPasses, Tallies}
+use Rattle.executive.specs.Check.{entryInRange, requestInRange, isBlank, sizesRight, inBounds, numbersRight, standsIn, exactAt, alarmRight, taskTimely, timesRight, isStarted, startedRight, taskUnmet, masksRight, targetBusy, busyRight, waitersAt, namesOthers, waitersRight, dormantEntryRight, dormantRight, poolRight, allButQueue, entryRight, requestFits, requestRight, isQuiet, isLone, inPasses, Tallies}
 use Rattle.executive.proofs.places.TaskAt.{at-place, at-no-place}
 use Rattle.executive.proofs.Lists.Loops.{both, all-make}
 use Rattle.executive.proofs.Lists.Tests.{and-true, true-and, and-false-right, none-one, of-not, sum-none}
@@ -119,76 +119,69 @@ module _ (ts : List Task) (p : List Request) (q : allOf isQuiet ts ≡ true) (l 
   quiet-right n = all-make (waitersAt ts p) n (λ k g h. quiet-at k g)
 
 -- ---- the whole
-module _ (t : Table) where
+module _ (ts : List Task) (r : Rest) where
   abbrev n : ℕ
-  n = t .rest .count
+  n = r .count
 
   abbrev c : ℕ
-  c = t .rest .clock .0
+  c = r .clock .0
 
   abbrev fs : ℕ
-  fs = t .rest .flags
-
-  abbrev ts : List Task
-  ts = t .tasks
+  fs = r .flags
 
   abbrev ps : List Request
-  ps = requests (t .rest)
+  ps = requests r
 
-  there : sizesRight t ≡ true → inPasses t ≡ true → isWellFormed t ≡ true
-  unfolding inPasses isWellFormed numbersRight queueRight timesRight startedRight masksRight busyRight waitersRight dormantRight poolRight
+  there : sizesRight ts r ≡ true → inPasses ts r ≡ true → allButQueue ts r ≡ true
+  unfolding inPasses allButQueue numbersRight timesRight startedRight masksRight busyRight waitersRight dormantRight poolRight
   there z e =
-      let b = and-true (inBounds n (t .rest .granule) (t .rest .clock) (t .ready) (t .rest .queued)) _ e in
+      let b = and-true (inBounds n (r .granule) (r .clock) (r .queued)) _ e in
       let a = and-true (allOf (entryRight n c fs) ts) _ (b .1) in
       let d = and-true (allOf isBlank (drop n ts)) _ (a .1) in
-      let f = and-true (allOf (alarmRight c) (t .rest .alarms)) _ (d .1) in
-      let l = and-true (lineRight ts n (t .ready) (t .queue)) _ (f .1) in
-      let r = and-true (allOf (requestRight ts n) ps) _ (l .1) in
-      let w = and-true (upTo (waitersAt ts ps) n) _ (r .1) in
+      let f = and-true (allOf (alarmRight c) (r .alarms)) _ (d .1) in
+      let q = and-true (allOf (requestRight ts n) ps) _ (f .1) in
+      let w = and-true (upTo (waitersAt ts ps) n) _ (q .1) in
       let e1 = all-split (entryInRange n) _ ts (a .0) in
       let e2 = all-split (taskTimely c) _ ts (e1 .1) in
       let e3 = all-split (isStarted c) _ ts (e2 .1) in
       let e4 = all-split (taskUnmet fs) dormantEntryRight ts (e3 .1) in
-      let q1 = all-split (requestInRange n) _ ps (r .0) in
+      let q1 = all-split (requestInRange n) _ ps (q .0) in
       let q2 = all-split namesOthers (targetBusy ts) ps (q1 .1) in
-      true-and (numbersRight t) _
-      (true-and (sizesRight t) _ z (true-and (inBounds n (t .rest .granule) (t .rest .clock) (t .ready) (t .rest .queued)) _ (b .0) (true-and (allOf (entryInRange n) ts) _ (e1 .0) (true-and (allOf isBlank (drop n ts)) _ (d .0) (q1 .0)))))
-      (true-and (queueRight t) _ (l .0)
-      (true-and (timesRight t) _ (true-and (allOf (taskTimely c) ts) _ (e2 .0) (f .0))
-      (true-and (startedRight t) _ (e3 .0)
-      (true-and (masksRight t) _ (e4 .0)
-      (true-and (busyRight t) _ (q2 .1)
-      (true-and (waitersRight t) _ (true-and (upTo (waitersAt ts ps) n) _ (w .0) (q2 .0))
-      (true-and (dormantRight t) _ (e4 .1) (w .1))))))))
+      true-and (numbersRight ts r) _
+      (true-and (sizesRight ts r) _ z (true-and (inBounds n (r .granule) (r .clock) (r .queued)) _ (b .0) (true-and (allOf (entryInRange n) ts) _ (e1 .0) (true-and (allOf isBlank (drop n ts)) _ (d .0) (q1 .0)))))
+      (true-and (timesRight ts r) _ (true-and (allOf (taskTimely c) ts) _ (e2 .0) (f .0))
+      (true-and (startedRight ts r) _ (e3 .0)
+      (true-and (masksRight ts r) _ (e4 .0)
+      (true-and (busyRight ts r) _ (q2 .1)
+      (true-and (waitersRight ts r) _ (true-and (upTo (waitersAt ts ps) n) _ (w .0) (q2 .0))
+      (true-and (dormantRight ts) _ (e4 .1) (w .1)))))))
 
-  back : isWellFormed t ≡ true → inPasses t ≡ true
-  unfolding inPasses isWellFormed numbersRight queueRight timesRight startedRight masksRight busyRight waitersRight dormantRight poolRight
+  back : allButQueue ts r ≡ true → inPasses ts r ≡ true
+  unfolding inPasses allButQueue numbersRight timesRight startedRight masksRight busyRight waitersRight dormantRight poolRight
   back e =
-      let a = and-true (numbersRight t) _ e in
-      let b = and-true (queueRight t) _ (a .1) in
-      let d = and-true (timesRight t) _ (b .1) in
-      let f = and-true (startedRight t) _ (d .1) in
-      let g = and-true (masksRight t) _ (f .1) in
-      let h = and-true (busyRight t) _ (g .1) in
-      let j = and-true (waitersRight t) _ (h .1) in
-      let k = and-true (dormantRight t) _ (j .1) in
-      let n1 = and-true (sizesRight t) _ (a .0) in
-      let n2 = and-true (inBounds n (t .rest .granule) (t .rest .clock) (t .ready) (t .rest .queued)) _ (n1 .1) in
+      let a = and-true (numbersRight ts r) _ e in
+      let d = and-true (timesRight ts r) _ (a .1) in
+      let f = and-true (startedRight ts r) _ (d .1) in
+      let g = and-true (masksRight ts r) _ (f .1) in
+      let h = and-true (busyRight ts r) _ (g .1) in
+      let j = and-true (waitersRight ts r) _ (h .1) in
+      let k = and-true (dormantRight ts) _ (j .1) in
+      let n1 = and-true (sizesRight ts r) _ (a .0) in
+      let n2 = and-true (inBounds n (r .granule) (r .clock) (r .queued)) _ (n1 .1) in
       let n3 = and-true (allOf (entryInRange n) ts) _ (n2 .1) in
       let n4 = and-true (allOf isBlank (drop n ts)) _ (n3 .1) in
       let d1 = and-true (allOf (taskTimely c) ts) _ (d .0) in
       let j1 = and-true (upTo (waitersAt ts ps) n) _ (j .0) in
-      true-and (inBounds n (t .rest .granule) (t .rest .clock) (t .ready) (t .rest .queued)) _ (n2 .0)
+      true-and (inBounds n (r .granule) (r .clock) (r .queued)) _ (n2 .0)
       (true-and (allOf (entryRight n c fs) ts) _ (all-join (entryInRange n) _ ts (n3 .0) (all-join (taskTimely c) _ ts (d1 .0) (all-join (isStarted c) _ ts (f .0) (all-join (taskUnmet fs) dormantEntryRight ts (g .0) (k .0)))))
       (true-and (allOf isBlank (drop n ts)) _ (n4 .0)
-      (true-and (allOf (alarmRight c) (t .rest .alarms)) _ (d1 .1)
-      (true-and (lineRight ts n (t .ready) (t .queue)) _ (b .0)
+      (true-and (allOf (alarmRight c) (r .alarms)) _ (d1 .1)
       (true-and (allOf (requestRight ts n) ps) _ (all-join (requestInRange n) _ ps (n4 .1) (all-join namesOthers (targetBusy ts) ps (j1 .1) (h .0)))
-      (true-and (upTo (waitersAt ts ps) n) _ (j1 .0) (k .1)))))))
+      (true-and (upTo (waitersAt ts ps) n) _ (j1 .0) (k .1))))))
 
-  pub in-passes : sizesRight t ≡ true → inPasses t ≡ isWellFormed t
-  in-passes z = same (inPasses t) (isWellFormed t) (there z) back
+  pub in-passes : sizesRight ts r ≡ true → inPasses ts r ≡ allButQueue ts r
+  in-passes z = same (inPasses ts r) (allButQueue ts r) (there z) back
 
-  -- an answer that is right in passes is right, of a table of the right sizes
-  pub sized : {r : Bool} → length (t .tasks) ≡ 16 → length (t .queue) ≡ 16 → length (t .rest .alarms) ≡ 32 → length (t .rest .pool) ≡ 32 → r ≡ inPasses t → r ≡ isWellFormed t
-  sized a b d e h = h ∙ in-passes (rw (eq-eqb _ _ a, eq-eqb _ _ b, eq-eqb _ _ d, eq-eqb _ _ e) refl)
+  -- an answer that is right in passes is right, of arrays of the right sizes
+  pub sized : {b : Bool} → length ts ≡ 16 → length (r .alarms) ≡ 32 → length (r .pool) ≡ 32 → b ≡ inPasses ts r → b ≡ allButQueue ts r
+  sized a d e h = h ∙ in-passes (rw (eq-eqb _ _ a, eq-eqb _ _ d, eq-eqb _ _ e) refl)

@@ -13,6 +13,7 @@ use Rattle.executive.specs.declared.State.{State}
 use Rattle.executive.specs.declared.State.the-variants.{Dormant}
 use Rattle.executive.specs.declared.Task.{Task}
 use Rattle.executive.specs.declared.Request.{Request}
+use Rattle.executive.specs.declared.Rest.{Rest}
 use Rattle.executive.specs.declared.Table.{Table}
 use Rattle.executive.specs.Numbers.{mostTasks, mostQueued, highest, mostGranule, endOfTime, longest}
 use Rattle.executive.specs.Lists.{one, pad, sumOf, _and_, upTo, allOf}
@@ -25,42 +26,38 @@ use Rattle.executive.specs.Flags.{met}
 use Rattle.executive.specs.WellFormed.{InRange, Queue, Stored, Timely, Times, Unmet, Waiters, Zeros, startsOf, endsOf, runsOf, dormantTarget}
 use Rattle.executive.specs.Check.{entryInRange, requestInRange, isBlank, sizesRight, inBounds, numbersRight, isTask, isNobody, falls, standsIn, exactAt, queueRight, isStored, isTimely, alarmRight, taskTimely, timesRight, isStarted, startedRight, isUnmet, taskUnmet, masksRight, targetBusy, busyRight, waitersAt, namesOthers, waitersRight, isZero, dormantEntryRight, dormantRight, isFree, poolRight}
 use Rattle.executive.proofs.states.Laws.{dormant-named, dormant-kind}
-use Rattle.executive.proofs.places.TaskAt.{at-none}
+use Rattle.executive.proofs.places.TaskAt.{at-none, at-no-place, place-past}
 use Rattle.executive.proofs.Lists.Loops.{all-get, all-make, every-get, every-make}
 use Rattle.executive.proofs.Lists.Tests.{and-true, true-and, one-none, none-one, not-of, of-not, leb-none, in-reach, sum-none, none-all}
 use Rattle.executive.proofs.check.Blanks.{blank-pad, pad-blank, nobody-is, free-is, zero-is, is-zero, tasks-get, tasks-make, past-get, past-make}
 use Rattle.executive.proofs.check.Descent.{falls-tasks, falls-desc, desc-falls, low, all-tasks}
 
 -- ---- every number is in range
-module _ (n g : ℕ) (c : Millis) (r q : ℕ) where
+module _ (n g : ℕ) (c : Millis) (q : ℕ) where
   pub record Bounds : Type 0 where
     pub count : (1 ≤ n) × (n ≤ mostTasks)
     pub granule : (1 ≤ g) × (g ≤ mostGranule)
     pub clock : c .0 ≤ endOfTime
-    pub ready : r ≤ mostTasks
     pub queued : q ≤ mostQueued
 
-  pub bounds-get : inBounds n g c r q ≡ true → Bounds
+  pub bounds-get : inBounds n g c q ≡ true → Bounds
   bounds-get e =
       let a1 = and-true (leb 1 n) _ e in
       let a2 = and-true (leb n mostTasks) _ (a1 .1) in
       let a3 = and-true (leb 1 g) _ (a2 .1) in
       let a4 = and-true (leb g mostGranule) _ (a3 .1) in
       let a5 = and-true (leb (c .0) endOfTime) _ (a4 .1) in
-      let a6 = and-true (leb r mostTasks) _ (a5 .1) in
       record {
         count = (leb-true _ _ (a1 .0), leb-true _ _ (a2 .0));
         granule = (leb-true _ _ (a3 .0), leb-true _ _ (a4 .0));
         clock = leb-true _ _ (a5 .0);
-        ready = leb-true _ _ (a6 .0);
-        queued = leb-true _ _ (a6 .1);
+        queued = leb-true _ _ (a5 .1);
       }
 
-  pub bounds-make : Bounds → inBounds n g c r q ≡ true
+  pub bounds-make : Bounds → inBounds n g c q ≡ true
   bounds-make b =
       rw (le-leb 1 n (b .count .0), le-leb n mostTasks (b .count .1), le-leb 1 g (b .granule .0))
-      (rw (le-leb g mostGranule (b .granule .1), le-leb (c .0) endOfTime (b .clock))
-      (rw (le-leb r mostTasks (b .ready), le-leb q mostQueued (b .queued)) refl))
+      (rw (le-leb g mostGranule (b .granule .1), le-leb (c .0) endOfTime (b .clock), le-leb q mostQueued (b .queued)) refl)
 
 module _ (n : ℕ) where
   blank-in-range : entryInRange n noTask ≡ true
@@ -102,27 +99,44 @@ pub record Known (t : Table) : Type 0 where
   pub entries : allOf (entryInRange (t .rest .count)) (t .tasks) ≡ true
   pub asked : allOf (requestInRange (t .rest .count)) (requests (t .rest)) ≡ true
 
+-- the count, the granule, the clock and the number of requests of entries and rest whose numbers are right
+pub bounded : (ts : List Task) (r : Rest) → numbersRight ts r ≡ true → Bounds (r .count) (r .granule) (r .clock) (r .queued)
+unfolding numbersRight
+bounded ts r e =
+    let s = and-true (sizesRight ts r) _ e in
+    bounds-get (r .count) (r .granule) (r .clock) (r .queued) (and-true (inBounds (r .count) (r .granule) (r .clock) (r .queued)) _ (s .1) .0)
+
+-- the queue's own numbers
+pub record Lined (t : Table) : Type 0 where
+  pub size : length (t .queue) ≡ 16
+  pub ready : t .ready ≤ 16
+
+pub lined : (t : Table) → queueRight t ≡ true → Lined t
+unfolding queueRight
+lined t e =
+    let a = and-true (eqb (length (t .queue)) 16) _ e in
+    record { size = eqb-true _ _ (a .0); ready = leb-true _ _ (and-true (leb (t .ready) 16) _ (a .1) .0) }
+
 module _ (t : Table) where
-  pub numbers-get : numbersRight t ≡ true → Known t
+  pub numbers-get : Lined t → numbersRight (t .tasks) (t .rest) ≡ true → Known t
   unfolding numbersRight
-  numbers-get e =
+  numbers-get q e =
       let n = t .rest .count in
-      let s = and-true (sizesRight t) _ e in
+      let s = and-true (sizesRight (t .tasks) (t .rest)) _ e in
       let s1 = and-true (eqb (length (t .tasks)) 16) _ (s .0) in
-      let s2 = and-true (eqb (length (t .queue)) 16) _ (s1 .1) in
-      let s3 = and-true (eqb (length (t .rest .alarms)) 32) _ (s2 .1) in
-      let b = and-true (inBounds n (t .rest .granule) (t .rest .clock) (t .ready) (t .rest .queued)) _ (s .1) in
+      let s2 = and-true (eqb (length (t .rest .alarms)) 32) _ (s1 .1) in
+      let b = and-true (inBounds n (t .rest .granule) (t .rest .clock) (t .rest .queued)) _ (s .1) in
       let m = and-true (allOf (entryInRange n) (t .tasks)) _ (b .1) in
       let p = and-true (allOf isBlank (drop n (t .tasks))) _ (m .1) in
-      let w = bounds-get n (t .rest .granule) (t .rest .clock) (t .ready) (t .rest .queued) (b .0) in
+      let w = bounds-get n (t .rest .granule) (t .rest .clock) (t .rest .queued) (b .0) in
       let h : (k : ℕ) → entryInRange n (taskAt (t .tasks) k) ≡ true = tasks-get (entryInRange n) (t .tasks) (blank-in-range n) (m .0) in
       record {
         range = record {
-          sizes = record { tasks = eqb-true _ _ (s1 .0); queue = eqb-true _ _ (s2 .0); alarms = eqb-true _ _ (s3 .0); pool = eqb-true _ _ (s3 .1) };
+          sizes = record { tasks = eqb-true _ _ (s1 .0); queue = q .size; alarms = eqb-true _ _ (s2 .0); pool = eqb-true _ _ (s2 .1) };
           count = w .count;
           granule = w .granule;
           clock = w .clock;
-          ready = w .ready;
+          ready = q .ready;
           queued = w .queued;
           own = λ k. leb-true _ _ (and-true (leb (taskAt (t .tasks) k .own) highest) _ (h k) .0);
           priority = λ k. leb-true _ _ (and-true (leb (taskAt (t .tasks) k .priority) highest) _ (and-true (leb (taskAt (t .tasks) k .own) highest) _ (h k) .1) .0);
@@ -135,14 +149,14 @@ module _ (t : Table) where
         asked = p .1;
       }
 
-  pub numbers-make : InRange t → numbersRight t ≡ true
+  pub numbers-make : InRange t → numbersRight (t .tasks) (t .rest) ≡ true
   unfolding numbersRight
   numbers-make w =
       let n = t .rest .count in
-      true-and (sizesRight t) _
-      (rw (eq-eqb (length (t .tasks)) 16 (w .sizes .tasks), eq-eqb (length (t .queue)) 16 (w .sizes .queue), eq-eqb (length (t .rest .alarms)) 32 (w .sizes .alarms), eq-eqb (length (t .rest .pool)) 32 (w .sizes .pool)) refl)
-      (true-and (inBounds n (t .rest .granule) (t .rest .clock) (t .ready) (t .rest .queued)) _
-      (bounds-make n (t .rest .granule) (t .rest .clock) (t .ready) (t .rest .queued) (record { count = w .count; granule = w .granule; clock = w .clock; ready = w .ready; queued = w .queued }))
+      true-and (sizesRight (t .tasks) (t .rest)) _
+      (rw (eq-eqb (length (t .tasks)) 16 (w .sizes .tasks), eq-eqb (length (t .rest .alarms)) 32 (w .sizes .alarms), eq-eqb (length (t .rest .pool)) 32 (w .sizes .pool)) refl)
+      (true-and (inBounds n (t .rest .granule) (t .rest .clock) (t .rest .queued)) _
+      (bounds-make n (t .rest .granule) (t .rest .clock) (t .rest .queued) (record { count = w .count; granule = w .granule; clock = w .clock; queued = w .queued }))
       (true-and (allOf (entryInRange n) (t .tasks)) _
       (tasks-make (entryInRange n) (t .tasks) (λ k.
       true-and (leb (taskAt (t .tasks) k .own) highest) _ (le-leb _ _ (w .own k))
@@ -179,51 +193,59 @@ place n (suc i) = go (leb (suc i) n) refl
     go true e = among (omega arith) (leb-true _ _ e)
     go false e = past (leb-false _ _ e)
 
+-- a number past the sixteen has no entry
+at-far : (ts : List Task) → length ts ≡ 16 → (k : ℕ) → 16 < k → taskAt ts k ≡ noTask
+at-far ts l k h = at-no-place ts l k 16 (place-past k h) (omega arith)
+
 module _ (t : Table) (w : InRange t) where
   -- a ready task's number is a task's
-  ready-no : (x : TaskNo) → 0 < is ready (taskAt (t .tasks) (x .0) .state) → isTask (t .rest .count) x ≡ true
-  ready-no x h = go (place (t .rest .count) (x .0))
+  ready-no : (x : TaskNo) → 0 < is ready (taskAt (t .tasks) (x .0) .state) → isTask 16 x ≡ true
+  ready-no x h = go (place 16 (x .0))
     where
-      go : Place (t .rest .count) (x .0) → isTask (t .rest .count) x ≡ true
+      go : Place 16 (x .0) → isTask 16 x ≡ true
       go (nought e) = absurd (let y : is ready (taskAt (t .tasks) (x .0) .state) ≡ 0 = rw (at-none (t .tasks) (x .0) e) refl in omega arith)
       go (among a b) = true-and (ltb 0 (x .0)) _ (lt-ltb 0 (x .0) a) (le-leb _ _ b)
-      go (past l) = absurd (let y : is ready (taskAt (t .tasks) (x .0) .state) ≡ 0 = rw (w .beyond (x .0) l) refl in omega arith)
+      go (past l) = absurd (let y : is ready (taskAt (t .tasks) (x .0) .state) ≡ 0 = rw (at-far (t .tasks) (w .sizes .tasks) (x .0) l) refl in omega arith)
 
   pub queue-make : Queue t → queueRight t ≡ true
   unfolding queueRight exactAt
   queue-make q =
-      true-and (falls (t .tasks) (t .rest .count) 15 (line t)) _
-      (desc-falls (t .tasks) (t .rest .count) 15 (line t)
-      (all-tasks (t .tasks) (t .rest .count) (line t) (λ x h. ready-no x (rw (q .exactly .exact (x .0)) at h)))
-      (low (t .tasks) (t .rest .count) 15 (line t) (w .priority))
+      true-and (eqb (length (t .queue)) 16) _ (eq-eqb _ _ (w .sizes .queue))
+      (true-and (leb (t .ready) 16) _ (le-leb _ _ (w .ready))
+      (true-and (falls (t .tasks) 16 15 (line t)) _
+      (desc-falls (t .tasks) 16 15 (line t)
+      (all-tasks (t .tasks) 16 (line t) (λ x h. ready-no x (rw (q .exactly .exact (x .0)) at h)))
+      (low (t .tasks) 16 15 (line t) (w .priority))
       (q .exactly .sorted))
-      (true-and (upTo (exactAt (t .tasks) (line t)) (t .rest .count)) _
-      (all-make (exactAt (t .tasks) (line t)) (t .rest .count) (λ k g h. eq-eqb _ _ (stands-count (t .tasks) k (line t) ∙ q .exactly .exact k)))
-      (pad-blank isNobody nobody refl 16 (t .ready) (t .queue) (w .sizes .queue) (q .tidy)))
+      (true-and (upTo (exactAt (t .tasks) (line t)) 16) _
+      (all-make (exactAt (t .tasks) (line t)) 16 (λ k g h. eq-eqb _ _ (stands-count (t .tasks) k (line t) ∙ q .exactly .exact k)))
+      (pad-blank isNobody nobody refl 16 (t .ready) (t .queue) (w .sizes .queue) (q .tidy)))))
 
 module _ (t : Table) (w : InRange t) where
-  exact-get : allOf (isTask (t .rest .count)) (line t) ≡ true → upTo (exactAt (t .tasks) (line t)) (t .rest .count) ≡ true
+  exact-get : allOf (isTask 16) (line t) ≡ true → upTo (exactAt (t .tasks) (line t)) 16 ≡ true
       → (k : ℕ) → count k (items (t .tasks) (line t)) ≡ is ready (taskAt (t .tasks) k .state)
   unfolding exactAt
-  exact-get a u k = sym (stands-count (t .tasks) k (line t)) ∙ go (place (t .rest .count) k)
+  exact-get a u k = sym (stands-count (t .tasks) k (line t)) ∙ go (place 16 k)
     where
-      none : (0 < k → t .rest .count < k) → standsIn k (line t) ≡ 0
-      none h = sum-none (isTask (t .rest .count)) (λ (x : TaskNo). one (eqb k (x .0))) (λ x. out-of (t .tasks) (t .rest .count) k x h) (line t) a
+      none : (0 < k → 16 < k) → standsIn k (line t) ≡ 0
+      none h = sum-none (isTask 16) (λ (x : TaskNo). one (eqb k (x .0))) (λ x. out-of (t .tasks) 16 k x h) (line t) a
 
-      go : Place (t .rest .count) k → standsIn k (line t) ≡ is ready (taskAt (t .tasks) k .state)
+      go : Place 16 k → standsIn k (line t) ≡ is ready (taskAt (t .tasks) k .state)
       go (nought e) = none (λ z. absurd (omega arith)) ∙ sym (rw (at-none (t .tasks) k e) refl)
-      go (among g h) = eqb-true _ _ (all-get (exactAt (t .tasks) (line t)) (t .rest .count) k u g h)
-      go (past h) = none (λ z. h) ∙ sym (rw (w .beyond k h) refl)
+      go (among g h) = eqb-true _ _ (all-get (exactAt (t .tasks) (line t)) 16 k u g h)
+      go (past h) = none (λ z. h) ∙ sym (rw (at-far (t .tasks) (w .sizes .tasks) k h) refl)
 
   pub queue-get : queueRight t ≡ true → Queue t
   unfolding queueRight
   queue-get e =
-      let a = and-true (falls (t .tasks) (t .rest .count) 15 (line t)) _ e in
-      let b = and-true (upTo (exactAt (t .tasks) (line t)) (t .rest .count)) _ (a .1) in
+      let y = and-true (eqb (length (t .queue)) 16) _ e in
+      let x = and-true (leb (t .ready) 16) _ (y .1) in
+      let a = and-true (falls (t .tasks) 16 15 (line t)) _ (x .1) in
+      let b = and-true (upTo (exactAt (t .tasks) (line t)) 16) _ (a .1) in
       record {
         exactly = record {
-          exact = exact-get (falls-tasks (t .tasks) (t .rest .count) 15 (line t) (a .0)) (b .0);
-          sorted = falls-desc (t .tasks) (t .rest .count) 15 (line t) (a .0) .1;
+          exact = exact-get (falls-tasks (t .tasks) 16 15 (line t) (a .0)) (b .0);
+          sorted = falls-desc (t .tasks) 16 15 (line t) (a .0) .1;
         };
         tidy = blank-pad isNobody nobody nobody-is 16 (t .ready) (t .queue) (w .sizes .queue) (b .1);
       }
@@ -260,7 +282,7 @@ alarm-make c a h = go (eqb (a .0) 0) refl
     go false e = stored-make c (a .0) (h (omega (arith, eqb-false (a .0) 0 e)))
 
 module _ (t : Table) where
-  pub times-get : timesRight t ≡ true → Times t
+  pub times-get : timesRight (t .tasks) (t .rest) ≡ true → Times t
   unfolding timesRight
   times-get e =
       let c = t .rest .clock .0 in
@@ -270,7 +292,7 @@ module _ (t : Table) where
         alarms = λ i. alarm-get c (getD (t .rest .alarms) i never) (every-get (alarmRight c) never (t .rest .alarms) refl (a .1) i);
       }
 
-  pub times-make : Times t → timesRight t ≡ true
+  pub times-make : Times t → timesRight (t .tasks) (t .rest) ≡ true
   unfolding timesRight
   times-make w =
       let c = t .rest .clock .0 in
@@ -279,11 +301,11 @@ module _ (t : Table) where
       (every-make (alarmRight c) never (t .rest .alarms) (λ i. alarm-make c (getD (t .rest .alarms) i never) (w .alarms i)))
 
   -- ---- last scheduled starts
-  pub started-get : startedRight t ≡ true → (k : ℕ) → taskAt (t .tasks) k .start .0 ≤ t .rest .clock .0
+  pub started-get : startedRight (t .tasks) (t .rest) ≡ true → (k : ℕ) → taskAt (t .tasks) k .start .0 ≤ t .rest .clock .0
   unfolding startedRight
   started-get e k = leb-true _ _ (tasks-get (isStarted (t .rest .clock .0)) (t .tasks) (le-leb 0 (t .rest .clock .0) (omega arith)) e k)
 
-  pub started-make : ((k : ℕ) → taskAt (t .tasks) k .start .0 ≤ t .rest .clock .0) → startedRight t ≡ true
+  pub started-make : ((k : ℕ) → taskAt (t .tasks) k .start .0 ≤ t .rest .clock .0) → startedRight (t .tasks) (t .rest) ≡ true
   unfolding startedRight
   started-make w = tasks-make (isStarted (t .rest .clock .0)) (t .tasks) (λ k. le-leb _ _ (w k))
 
@@ -301,11 +323,11 @@ unmet-make fs s h = go (hasMask s) h
     go false g = refl
 
 module _ (t : Table) where
-  pub masks-get : masksRight t ≡ true → (k : ℕ) → Unmet (t .rest .flags) (taskAt (t .tasks) k .state)
+  pub masks-get : masksRight (t .tasks) (t .rest) ≡ true → (k : ℕ) → Unmet (t .rest .flags) (taskAt (t .tasks) k .state)
   unfolding masksRight
   masks-get e k = unmet-get (t .rest .flags) (taskAt (t .tasks) k .state) (tasks-get (taskUnmet (t .rest .flags)) (t .tasks) refl e k)
 
-  pub masks-make : ((k : ℕ) → Unmet (t .rest .flags) (taskAt (t .tasks) k .state)) → masksRight t ≡ true
+  pub masks-make : ((k : ℕ) → Unmet (t .rest .flags) (taskAt (t .tasks) k .state)) → masksRight (t .tasks) (t .rest) ≡ true
   unfolding masksRight
   masks-make w = tasks-make (taskUnmet (t .rest .flags)) (t .tasks) (λ k. unmet-make (t .rest .flags) (taskAt (t .tasks) k .state) (w k))
 
@@ -313,11 +335,11 @@ module _ (t : Table) where
   idle : Request → ℕ
   idle r = is dormant (taskAt (t .tasks) (r .target .0) .state)
 
-  pub busy-get : busyRight t ≡ true → dormantTarget (t .tasks) (requests (t .rest)) ≡ 0
+  pub busy-get : busyRight (t .tasks) (t .rest) ≡ true → dormantTarget (t .tasks) (requests (t .rest)) ≡ 0
   unfolding busyRight idle
   busy-get e = sum-none (targetBusy (t .tasks)) idle (λ r. none-one (isDormant (taskAt (t .tasks) (r .target .0) .state))) (requests (t .rest)) e
 
-  pub busy-make : dormantTarget (t .tasks) (requests (t .rest)) ≡ 0 → busyRight t ≡ true
+  pub busy-make : dormantTarget (t .tasks) (requests (t .rest)) ≡ 0 → busyRight (t .tasks) (t .rest) ≡ true
   unfolding busyRight idle
   busy-make w = none-all (targetBusy (t .tasks)) idle idle (λ r a b. one-none (isDormant (taskAt (t .tasks) (r .target .0) .state)) a) (requests (t .rest)) w w
 
@@ -353,7 +375,7 @@ none-others r a b =
     (none-twice (eqb (r .«start_waiter» .0) 0) (eqb (r .«end_waiter» .0) 0) b))
 
 module _ (t : Table) where
-  pub waiters-make : Waiters (t .tasks) (requests (t .rest)) → waitersRight t ≡ true
+  pub waiters-make : Waiters (t .tasks) (requests (t .rest)) → waitersRight (t .tasks) (t .rest) ≡ true
   unfolding waitersRight waitersAt selfs twice
   waiters-make w =
       let ts = t .tasks in
@@ -398,7 +420,7 @@ module _ (t : Table) where
         go true e = told-at k (all-get (waitersAt (t .tasks) (requests (t .rest))) (t .rest .count) k u h (leb-true _ _ e))
         go false e = told-past k (leb-false _ _ e)
 
-    pub waiters-get : waitersRight t ≡ true → Waiters (t .tasks) (requests (t .rest))
+    pub waiters-get : waitersRight (t .tasks) (t .rest) ≡ true → Waiters (t .tasks) (requests (t .rest))
     unfolding waitersRight selfs twice Told
     waiters-get e =
         let a = and-true (upTo (waitersAt (t .tasks) (requests (t .rest))) (t .rest .count)) _ e in
@@ -426,21 +448,21 @@ sleeps-make e h = go (isDormant (e .state)) h
     go false f = refl
 
 module _ (t : Table) where
-  pub dormant-get : dormantRight t ≡ true → (k : ℕ) → taskAt (t .tasks) k .state ≡ Dormant → Zeros (taskAt (t .tasks) k)
+  pub dormant-get : dormantRight (t .tasks) ≡ true → (k : ℕ) → taskAt (t .tasks) k .state ≡ Dormant → Zeros (taskAt (t .tasks) k)
   unfolding dormantRight
   dormant-get e k z = sleeps-get (taskAt (t .tasks) k) (tasks-get dormantEntryRight (t .tasks) refl e k) (dormant-kind _ z)
 
   pub dormant-make : ((k : ℕ) → taskAt (t .tasks) k .state ≡ Dormant → Zeros (taskAt (t .tasks) k))
-      → dormantRight t ≡ true
+      → dormantRight (t .tasks) ≡ true
   unfolding dormantRight
   dormant-make w = tasks-make dormantEntryRight (t .tasks) (λ k. sleeps-make (taskAt (t .tasks) k) (λ z. w k (dormant-named _ z)))
 
   -- ---- the pool's free places
   module _ (l : length (t .rest .pool) ≡ 32) where
-    pub pool-get : poolRight t ≡ true → t .rest .pool ≡ pad 32 noRequest (requests (t .rest))
+    pub pool-get : poolRight (t .rest) ≡ true → t .rest .pool ≡ pad 32 noRequest (requests (t .rest))
     unfolding poolRight
     pool-get e = blank-pad isFree noRequest free-is 32 (t .rest .queued) (t .rest .pool) l e
 
-    pub pool-make : t .rest .pool ≡ pad 32 noRequest (requests (t .rest)) → poolRight t ≡ true
+    pub pool-make : t .rest .pool ≡ pad 32 noRequest (requests (t .rest)) → poolRight (t .rest) ≡ true
     unfolding poolRight
     pool-make e = pad-blank isFree noRequest refl 32 (t .rest .queued) (t .rest .pool) l e

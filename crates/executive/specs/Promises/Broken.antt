@@ -132,7 +132,16 @@ strayPlace = withPool (set (asking 1) 1 (record { target = nobody; priority = 0;
 -- the nine tests, in 01's order; refused, and by the test at place i alone
 abbrev pub tests : Table → List Bool
 tests t =
-    numbersRight t ∷ queueRight t ∷ timesRight t ∷ startedRight t ∷ masksRight t ∷ busyRight t ∷ waitersRight t ∷ dormantRight t ∷ poolRight t ∷ []
+    numbersRight (t .tasks) (t .rest)
+    ∷ queueRight t
+    ∷ timesRight (t .tasks) (t .rest)
+    ∷ startedRight (t .tasks) (t .rest)
+    ∷ masksRight (t .tasks) (t .rest)
+    ∷ busyRight (t .tasks) (t .rest)
+    ∷ waitersRight (t .tasks) (t .rest)
+    ∷ dormantRight (t .tasks)
+    ∷ poolRight (t .rest)
+    ∷ []
 
 abbrev pub OnlyBy : ℕ → Table → Type 0
 OnlyBy i t = (isWellFormed t ≡ false) × (tests t ≡ set (replicate 9 true) i false)
