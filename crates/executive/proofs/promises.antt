@@ -1,6 +1,7 @@
 -- What is promised, shown.
 pub mod EveryStart
 pub mod Worked
+pub mod ByDecision
 pub mod CardsAndFresh
 pub mod Skipping
 pub mod Demands

@@ -14,6 +14,7 @@ pub mod WellFormed
 pub mod Check
 pub mod Sheet
 pub mod Refusals
+pub mod Deciding
 pub mod Step
 pub mod Configuration
 pub mod Decisions

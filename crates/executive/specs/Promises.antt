@@ -1,5 +1,6 @@
 -- What is promised: the founder's demands, the queue's law, the fresh table, the cards.
 pub mod Broken
+pub mod ByDecision
 pub mod Cards
 pub mod Demands
 pub mod FreshLaw

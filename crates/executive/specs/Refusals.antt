@@ -15,11 +15,13 @@ use Rattle.records.specs.declared.Got.{Got}
 use Rattle.records.specs.declared.Got.the-variants as got
 use Rattle.records.specs.Kinds.{kindOf, lengthOf, isCall}
 use Rattle.records.specs.Reading.{readOf}
+use Rattle.executive.specs.declared.Task.{Task}
+use Rattle.executive.specs.declared.Rest.{Rest}
 use Rattle.executive.specs.declared.Table.{Table}
 use Rattle.executive.specs.Lists.{_and_}
 use Rattle.executive.specs.Table.{applyInFlight}
 use Rattle.executive.specs.Check.{isWellFormed}
-use Rattle.executive.specs.Sheet.{ruleOf, planOf}
+use Rattle.executive.specs.Sheet.{sheet, ruleOf, planOf}
 
 -- ---- the record: 4 where its first byte is no carried kind, and as a call also 40 to 42
 abbrev pub kindOfRecord : List ℕ → Kind
@@ -40,9 +42,9 @@ isTick t c = ruleOf t c .tick
 unfoldable pub nobodyActive : Table → Call → Bool
 nobodyActive t c = not (isTick t c) and eqb (t .ready) 0
 
--- the same for the code, which knows the caller: whatever the table
+-- the same for the code, which knows the caller: whatever the tasks and the rest
 abbrev pub Idles : TaskNo → Call → Bool → Type 0
-Idles k c b = (t : Table) → b ≡ (not (isTick t c) and eqb (k .0) 0)
+Idles k c b = (ts : List Task) (r : Rest) → b ≡ (not (sheet ts r k c .tick) and eqb (k .0) 0)
 
 -- ---- 6: a number in the body is out of range
 unfoldable pub badBody : Table → Call → Bool

@@ -6,8 +6,6 @@ use mathlib.Core.List.{List}
 use lib.Dec.{eqb}
 use Rattle.records.specs.Firsts.{firstOf}
 use Rattle.records.specs.declared.Call.{Call}
-use Rattle.records.specs.Kinds.{isCall}
-use Rattle.records.specs.Calls as calls
 use Rattle.records.specs.Writing.{bytesOf}
 use Rattle.executive.specs.declared.Table.{Table}
 use Rattle.executive.specs.declared.Marks.{Marks}
@@ -71,7 +69,3 @@ Steps t s o = o ≡ stepOf t s
 
 abbrev pub StepsCall : Table → Call → Outcome → Type 0
 StepsCall t c o = o ≡ stepOf t (bytesOf c)
-
--- ---- for the code: whether a call that was read is one that a step takes; a configuration record is none
-abbrev pub isStep : Call → Bool
-isStep c = isCall (calls.kindOfCall c)

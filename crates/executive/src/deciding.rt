@@ -1,19 +1,26 @@
-// What a step decides of a call that was read, by its kind's function.
+// What a step decides, from the tasks, the rest and the caller alone: of any record's bytes, and of a call that was
+// read, by its kind's function. No queue is looked at.
 use crate::Rest;
 use crate::Task;
 use crate::calls;
+use crate::check;
 use crate::decisions;
 use crate::decisions::Decision;
 use crate::flags;
 use crate::places;
 use crate::refusals;
 use crate::starts;
+use crate::states;
 use records::Call;
+use records::Got;
 use records::TaskNo;
+use records::kinds;
+use records::reading;
 ghost use mathlib.Core.Path.{_≡_};
 ghost use Rattle.executive.specs.Decisions.{Judgeable};
-ghost use Rattle.executive.specs.Sheet.{AllSee, decided, decisionOf};
+ghost use Rattle.executive.specs.Sheet.{decided, decisionOf};
 ghost use Rattle.executive.specs.Refusals.{Idles};
+ghost use Rattle.executive.specs.Deciding.{callerRight, decisionIn, decisionFor};
 
 // 5: a call, not a tick, and nobody is active.
 fn nobody_active(c: TaskNo, call: Call) -> bool
@@ -28,7 +35,7 @@ fn nobody_active(c: TaskNo, call: Call) -> bool
 // Each kind's own decision, from the parts of the table that it looks at.
 fn by_kind(tasks: [Task; 16], rest: Rest, c: TaskNo, call: Call) -> Decision
     requires { ⌜ Judgeable tasks rest c ⌝ }
-    ensures { λ r. ⌜ AllSee tasks rest c (λ t. r ≡ decided t call) ⌝ }
+    ensures { λ r. ⌜ r ≡ decided tasks rest c call ⌝ }
 {
     let now = rest.clock;
     let flags = rest.flags;
@@ -76,12 +83,57 @@ fn by_kind(tasks: [Task; 16], rest: Rest, c: TaskNo, call: Call) -> Decision
 }
 
 // A call's decision: 5 first, then its kind's.
-pub(crate) fn decide_call(tasks: [Task; 16], rest: Rest, c: TaskNo, call: Call) -> Decision
+fn decide_call(tasks: [Task; 16], rest: Rest, c: TaskNo, call: Call) -> Decision
     requires { ⌜ Judgeable tasks rest c ⌝ }
-    ensures { λ r. ⌜ AllSee tasks rest c (λ t. r ≡ decisionOf t call) ⌝ }
+    ensures { λ r. ⌜ r ≡ decisionOf tasks rest c call ⌝ }
 {
     if nobody_active(c, call) {
         return decisions::refused(5);
     }
     by_kind(tasks, rest, c, call)
+}
+
+// A record's decision: 3, 4 and 3, then its call's.
+fn decide_record(tasks: [Task; 16], rest: Rest, c: TaskNo, bytes: &[u8]) -> Decision
+    requires { ⌜ Judgeable tasks rest c ⌝ }
+    ensures { λ r. ⌜ r ≡ decisionIn tasks rest c (now (bytes .entry)) ⌝ }
+{
+    if bytes.len() == 0 {
+        return decisions::refused(3);
+    }
+    let kind = kinds::kind_of(bytes[0]);
+    if kinds::is_call(kind) {
+        return match reading::read(bytes) {
+            Got::Call(call) => decide_call(tasks, rest, c, call),
+            Got::Refused(number) => decisions::refused(number),
+        };
+    }
+    decisions::refused(4)
+}
+
+// The caller is nobody or a ready task.
+fn caller_right(tasks: [Task; 16], c: TaskNo) -> bool
+    ensures { λ r. ⌜ r ≡ callerRight tasks c ⌝ }
+{
+    if c.0 == 0 {
+        return true;
+    }
+    let e = places::task_at(tasks, c);
+    let s = e.state;
+    states::is_of(s, states::READY)
+}
+
+// What any engine asks: the decision of a record's bytes, with the tasks, the rest and the caller of its table,
+// whatever they are. 1 where a rule is broken that is not the queue's, or where there is no such caller; else the first
+// refusal; else 0, the marks of the answer and what is to be done.
+pub fn decide(tasks: [Task; 16], rest: Rest, caller: TaskNo, bytes: &[u8]) -> Decision
+    ensures { λ r. ⌜ r ≡ decisionFor tasks rest caller (now (bytes .entry)) ⌝ }
+{
+    if !check::all_but_queue(tasks, rest) {
+        return decisions::refused(1);
+    }
+    if !caller_right(tasks, caller) {
+        return decisions::refused(1);
+    }
+    decide_record(tasks, rest, caller, bytes)
 }

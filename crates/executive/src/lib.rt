@@ -6,7 +6,7 @@ mod calls;
 pub mod check;
 mod clock;
 pub mod configuration;
-mod deciding;
+pub mod deciding;
 pub mod decisions;
 mod entries;
 mod executing;

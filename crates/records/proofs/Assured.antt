@@ -6,18 +6,20 @@ use Rattle.records.proofs.Firsts.{first-decides, first-not}
 use Rattle.records.proofs.Ranges.{read-in-range}
 use Rattle.records.proofs.RoundTrips.{write-read, read-write}
 use Rattle.records.proofs.CallParts.{call-whole, call-parts}
-use Rattle.records.proofs.reading.Laws.{reads, three, four}
-use Rattle.records.proofs.writing.Laws.{writes, twenty}
+use Rattle.records.proofs.reading.Laws.{reads, refuses, three, four}
+use Rattle.records.proofs.writing.Laws.{writes, twenty, bytes-short}
 
 pub promises : Promises
 promises = record {
   write-read = write-read;
   read-write = read-write;
   reads = reads;
+  refuses = refuses;
   three = three;
   four = four;
   writes = writes;
   twenty = twenty;
+  short = bytes-short;
   number-back = fitting-back;
   read-in-range = read-in-range;
   kind-determined = λ b x y p q. p ∙ sym q;

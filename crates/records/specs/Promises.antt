@@ -1,6 +1,6 @@
 -- What is promised of the definitions: both round trips, when each number is given, one outcome for each contract,
 -- and which of some refusals gives its number.
-use Prim.Native.Nat.{ℕ, _<_, _^_}
+use Prim.Native.Nat.{ℕ, _<_, _≤_, _^_}
 use mathlib.Core.Path.{_≡_}
 use mathlib.Core.Logic.{_↔_, _≢_, _⊎_}
 use mathlib.Core.Bool.{Bool}
@@ -31,11 +31,14 @@ pub record Promises : Type 0 where
   pub read-write : (s : List ℕ) (c : Call) → Bytes s → readOf s ≡ got.Call c → bytesOf c ≡ s
   -- reading refuses only with 3 and 4, and each exactly when
   pub reads : (s : List ℕ) → (readNumber (readOf s) ≡ 0) ⊎ ((readNumber (readOf s) ≡ 3) ⊎ (readNumber (readOf s) ≡ 4))
+  pub refuses : (s : List ℕ) (n : ℕ) → readOf s ≡ got.Refused n → (n ≡ 3) ⊎ (n ≡ 4)
   pub three : (s : List ℕ) → (readNumber (readOf s) ≡ 3) ↔ ((length s ≡ 0) ⊎ Misfit s)
   pub four : (s : List ℕ) → (readNumber (readOf s) ≡ 4) ↔ ((length s ≢ 0) × (firstKind s ≡ kind.Unknown))
   -- writing refuses only with 20, and exactly when the buffer is shorter than the record
   pub writes : (c : Call) (o : List ℕ) → (writeNumber (writtenOf c o) ≡ 0) ⊎ (writeNumber (writtenOf c o) ≡ 20)
   pub twenty : (c : Call) (o : List ℕ) → (writeNumber (writtenOf c o) ≡ 20) ↔ (length o < length (bytesOf c))
+  -- no record is longer than six bytes
+  pub short : (c : Call) → length (bytesOf c) ≤ 6
   -- a number that fits its width is that of its bytes; what is read from bytes is in range
   pub number-back : (w x : ℕ) → x < 256 ^ w → numberOf (bytesIn w x) ≡ x
   pub read-in-range : (s : List ℕ) → Bytes s → GotInRange (readOf s)

@@ -6,25 +6,27 @@ use mathlib.Core.List.{List, [], _∷_}
 use types.Run.{OneOf, miss}
 use denote.Enum.Declared.{tagOf}
 use Rattle.records.proofs.Call.{the-type}
+use Rattle.records.specs.declared.TaskNo.{TaskNo}
 use Rattle.records.specs.declared.Call.{Call}
 use Rattle.records.specs.declared.Call.the-variants as call
-use Rattle.executive.specs.declared.Table.{Table}
-use Rattle.executive.specs.Refusals.{isTick}
+use Rattle.executive.specs.declared.Task.{Task}
+use Rattle.executive.specs.declared.Rest.{Rest}
+use Rattle.executive.specs.Sheet.{sheet}
 
 abbrev but-tick : List ℕ
 but-tick = 0 ∷ 1 ∷ 2 ∷ 3 ∷ 4 ∷ 5 ∷ 6 ∷ 7 ∷ 8 ∷ 10 ∷ 11 ∷ 12 ∷ []
 
-pub no-tick : (t : Table) (c : Call) → OneOf but-tick (tagOf the-type c) → isTick t c ≡ false
-no-tick t call.Terminate o = refl
-no-tick t (call.Restart p n) o = refl
-no-tick t (call.Pause u n) o = refl
-no-tick t (call.CancelPause k) o = refl
-no-tick t (call.StartIfDormant b k) o = refl
-no-tick t (call.StartOrQueue b k a) o = refl
-no-tick t (call.Flag b f) o = refl
-no-tick t (call.Wait m x) o = refl
-no-tick t (call.Alarm u n f) o = refl
-no-tick t call.Tick o = absurd (miss but-tick 9 tt o)
-no-tick t (call.Granule g) o = refl
-no-tick t (call.Task p m) o = refl
-no-tick t call.End o = refl
+pub no-tick : (ts : List Task) (r : Rest) (k : TaskNo) (c : Call) → OneOf but-tick (tagOf the-type c) → sheet ts r k c .tick ≡ false
+no-tick ts r c call.Terminate o = refl
+no-tick ts r c (call.Restart p n) o = refl
+no-tick ts r c (call.Pause u n) o = refl
+no-tick ts r c (call.CancelPause k) o = refl
+no-tick ts r c (call.StartIfDormant b k) o = refl
+no-tick ts r c (call.StartOrQueue b k a) o = refl
+no-tick ts r c (call.Flag b f) o = refl
+no-tick ts r c (call.Wait m x) o = refl
+no-tick ts r c (call.Alarm u n f) o = refl
+no-tick ts r c call.Tick o = absurd (miss but-tick 9 tt o)
+no-tick ts r c (call.Granule g) o = refl
+no-tick ts r c (call.Task p m) o = refl
+no-tick ts r c call.End o = refl

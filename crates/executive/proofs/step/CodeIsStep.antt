@@ -1,30 +1,20 @@
 -- From what is refused early or late to what a call is answered, and from a call to the step of a record's bytes.
 use Prim.Native.Nat.{ℕ}
-use mathlib.Core.Path.{_≡_, refl, ap, sym, _∙_}
+use mathlib.Core.Path.{_≡_, refl}
 use mathlib.Core.Bool.{Bool, true, false, cond}
 use mathlib.Core.List.{List}
-use native.Mathlib.Omega.{arith}
 use borrow.Author.Tests.{ne-eqb}
 use lib.Dec.{eqb}
 use lib.ListN.{length}
 use Rattle.records.specs.Firsts.{firstOf}
-use Rattle.records.specs.declared.Kind.{Kind}
-use Rattle.records.specs.declared.Kind.the-variants as kind
 use Rattle.records.specs.declared.Call.{Call}
-use Rattle.records.specs.declared.Call.the-variants as call
-use Rattle.records.specs.declared.Got.the-variants as got
-use Rattle.records.specs.Numbers.{cut}
-use Rattle.records.specs.Kinds.{bodyOf, lengthOf, kindOf, isCall}
-use Rattle.records.specs.Calls.{gotOf}
-use Rattle.records.specs.Reading.{readAs, readOf}
-use Rattle.records.specs.Writing.{bytesOf}
-use Rattle.records.proofs.Assured.{promises}
+use Rattle.records.specs.Kinds.{lengthOf, isCall}
 use Rattle.executive.specs.declared.Table.{Table}
 use Rattle.executive.specs.Table.{applyInFlight}
-use Rattle.executive.specs.Check.{isWellFormed}
+use Rattle.executive.specs.Check.{queueRight, isWellFormed}
 use Rattle.executive.specs.Sheet.{planOf}
-use Rattle.executive.specs.Refusals.{kindOfRecord, calledBy, callIn, nobodyActive, badBody, namesCaller, alarmRunning, poolFull, endsTime, overfills, callRefusals, refusals, refusalBefore11}
-use Rattle.executive.specs.Step.{isStep, accepted, refused, performed, stepOf}
+use Rattle.executive.specs.Refusals.{kindOfRecord, callIn, nobodyActive, badBody, namesCaller, alarmRunning, poolFull, endsTime, overfills, callRefusals, refusals, refusalBefore11}
+use Rattle.executive.specs.Step.{accepted, refused, performed, stepOf}
 
 -- ---- the first number is an early one, or 11, or 0
 late : (a b c d e f g : Bool)
@@ -57,6 +47,10 @@ module _ (t : Table) (c : Call) where
 
 -- ---- the step of a record's bytes
 module _ (t : Table) (s : List ℕ) where
+  pub step-queue : queueRight t ≡ false → refused t 1 ≡ stepOf t s
+  unfolding stepOf refusals firstOf isWellFormed
+  step-queue q = rw q refl
+
   pub step-ill : isWellFormed t ≡ false → refused t 1 ≡ stepOf t s
   unfolding stepOf refusals firstOf
   step-ill w = rw w refl
@@ -72,97 +66,10 @@ module _ (t : Table) (s : List ℕ) where
       step-no-call k = rw (w, ne-eqb (length s) 0 n, k) refl
 
       module _ (k : isCall (kindOfRecord s) ≡ true) where
-        step-short : eqb (length s) (lengthOf (kindOfRecord s)) ≡ false → refused t 3 ≡ stepOf t s
+        pub step-short : eqb (length s) (lengthOf (kindOfRecord s)) ≡ false → refused t 3 ≡ stepOf t s
         unfolding stepOf refusals firstOf
         step-short l = rw (w, ne-eqb (length s) 0 n, k, l) refl
 
-        step-whole : eqb (length s) (lengthOf (kindOfRecord s)) ≡ true → performed t (callIn s) ≡ stepOf t s
+        pub step-whole : eqb (length s) (lengthOf (kindOfRecord s)) ≡ true → performed t (callIn s) ≡ stepOf t s
         unfolding stepOf refusals firstOf performed
         step-whole l = rw (w, ne-eqb (length s) 0 n, k, l) refl
-
-        -- a call's kind has a length, and a record of that length is read as a call
-        some : (m : Kind) → isCall m ≡ true → eqb (lengthOf m) 0 ≡ false
-        some kind.Unknown h = sym h
-        some kind.Terminate h = refl
-        some kind.Restart h = refl
-        some kind.Pause h = refl
-        some kind.CancelPause h = refl
-        some kind.StartIfDormant h = refl
-        some kind.StartOrQueue h = refl
-        some kind.Flag h = refl
-        some kind.Wait h = refl
-        some kind.Alarm h = refl
-        some kind.Tick h = refl
-        some kind.Granule h = refl
-        some kind.Task h = refl
-        some kind.End h = refl
-
-        called : (m : Kind) (xs : List ℕ) → isCall m ≡ true → gotOf m xs ≡ got.Call (calledBy (gotOf m xs))
-        called kind.Unknown xs h = absurd (let z : _≡_ {A = ℕ} 0 1 = cc in omega arith)
-        called kind.Terminate xs h = refl
-        called kind.Restart xs h = refl
-        called kind.Pause xs h = refl
-        called kind.CancelPause xs h = refl
-        called kind.StartIfDormant xs h = refl
-        called kind.StartOrQueue xs h = refl
-        called kind.Flag xs h = refl
-        called kind.Wait xs h = refl
-        called kind.Alarm xs h = refl
-        called kind.Tick xs h = refl
-        called kind.Granule xs h = refl
-        called kind.Task xs h = refl
-        called kind.End xs h = refl
-
-        refused-not-call : (j : ℕ) (c : Call) → got.Refused j ≡ got.Call c → ⊥
-        refused-not-call j c q = let z : _≡_ {A = ℕ} 0 1 = cc in omega arith
-
-        same : (i j : ℕ) → got.Refused i ≡ got.Refused j → i ≡ j
-        same i j q = cc
-
-        abbrev fields : List ℕ
-        fields = cut (bodyOf (kindOfRecord s)) 1 s
-
-        read-is : (b : Bool) → eqb (length s) (lengthOf (kindOfRecord s)) ≡ b → readOf s ≡ cond b (gotOf (kindOfRecord s) fields) (got.Refused 3)
-        unfolding readOf readAs
-        read-is b l = rw (ne-eqb (length s) 0 n, some (kindOfRecord s) k, l) refl
-
-        pub step-refused : (j : ℕ) → readOf s ≡ got.Refused j → refused t j ≡ stepOf t s
-        step-refused j e = go (eqb (length s) (lengthOf (kindOfRecord s))) refl
-          where
-            go : (b : Bool) → eqb (length s) (lengthOf (kindOfRecord s)) ≡ b → refused t j ≡ stepOf t s
-            go true l = absurd (refused-not-call j _ (sym e ∙ read-is true l ∙ called (kindOfRecord s) fields k))
-            go false l = ap (refused t) (same j 3 (sym e ∙ read-is false l)) ∙ step-short l
-
-        pub step-read : (c : Call) → readOf s ≡ got.Call c → performed t c ≡ stepOf t s
-        step-read c e = go (eqb (length s) (lengthOf (kindOfRecord s))) refl
-          where
-            go : (b : Bool) → eqb (length s) (lengthOf (kindOfRecord s)) ≡ b → performed t c ≡ stepOf t s
-            go true l = ap (λ g. performed t (calledBy g)) (sym e) ∙ step-whole l
-            go false l = absurd (refused-not-call 3 c (sym (read-is false l) ∙ e))
-
--- ---- the step of a call that was read, as its record's
-some-bytes : (c : Call) → length (bytesOf c) ≡ 0 → ⊥
-some-bytes c h = omega arith
-
-step-kind : (c : Call) → isCall (kindOfRecord (bytesOf c)) ≡ isStep c
-unfolding kindOf
-step-kind call.Terminate = refl
-step-kind (call.Restart p n) = refl
-step-kind (call.Pause u n) = refl
-step-kind (call.CancelPause k) = refl
-step-kind (call.StartIfDormant o k) = refl
-step-kind (call.StartOrQueue o k a) = refl
-step-kind (call.Flag o f) = refl
-step-kind (call.Wait m x) = refl
-step-kind (call.Alarm u n f) = refl
-step-kind call.Tick = refl
-step-kind (call.Granule g) = refl
-step-kind (call.Task p m) = refl
-step-kind call.End = refl
-
-module _ (t : Table) (c : Call) (w : isWellFormed t ≡ true) where
-  pub take-call : isStep c ≡ true → performed t c ≡ stepOf t (bytesOf c)
-  take-call h = step-read t (bytesOf c) w (some-bytes c) (step-kind c ∙ h) c (promises .write-read c)
-
-  pub take-no-call : isStep c ≡ false → refused t 4 ≡ stepOf t (bytesOf c)
-  take-no-call h = step-no-call t (bytesOf c) w (some-bytes c) (step-kind c ∙ h)

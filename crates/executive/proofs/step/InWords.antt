@@ -146,7 +146,7 @@ says-dormant x = (dormant-is x, λ e. rw e refl)
 
 -- ---- each number
 module _ (t : Table) where
-  says-no-task : (k : TaskNo) → Says (noSuchTask t k) (NoTask t k)
+  says-no-task : (k : TaskNo) → Says (noSuchTask (t .rest) k) (NoTask t k)
   says-no-task k = says-or (eqb (k .0) 0) (ltb (t .rest .count) (k .0)) (says-eq (k .0) 0) (says-lt (t .rest .count) (k .0))
 
   says-bad : (c : Call) → Says (badBody t c) (BadBody t c)
@@ -155,8 +155,8 @@ module _ (t : Table) where
   says-bad (call.Restart p n) = both-high-bits p
   says-bad (call.Pause u n) = says-lt _ u
   says-bad (call.CancelPause k) = says-no-task k
-  says-bad (call.StartIfDormant o k) = says-or (noSuchTask t k) _ (says-no-task k) (any-bit o)
-  says-bad (call.StartOrQueue o k a) = says-or (noSuchTask t k) _ (says-no-task k) (both-bits o)
+  says-bad (call.StartIfDormant o k) = says-or (noSuchTask (t .rest) k) _ (says-no-task k) (any-bit o)
+  says-bad (call.StartOrQueue o k a) = says-or (noSuchTask (t .rest) k) _ (says-no-task k) (both-bits o)
   says-bad (call.Flag o f) = says-or (ltb 31 (f .0)) (ltb 2 o) (says-lt 31 (f .0)) (says-lt 2 o)
   says-bad (call.Wait m mask) = says-or (ltb 1 m) (eqb mask 0) (says-lt 1 m) (says-eq mask 0)
   says-bad (call.Alarm u n f) = says-or _ (ltb 31 (f .0)) (says-lt _ u) (says-lt 31 (f .0))

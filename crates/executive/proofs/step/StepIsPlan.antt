@@ -49,7 +49,7 @@ and-other true b e f = e
 and-other false b e f = false-not-true f
 
 -- a call that names a task, and is not refused, names one of the count
-such : (t : Table) (k : TaskNo) → noSuchTask t k ≡ false → (0 < k .0) × (k .0 ≤ t .rest .count)
+such : (t : Table) (k : TaskNo) → noSuchTask (t .rest) k ≡ false → (0 < k .0) × (k .0 ≤ t .rest .count)
 such t k e =
     let o = or-none (eqb (k .0) 0) (ltb (t .rest .count) (k .0)) e in
     (omega (arith, eqb-false (k .0) 0 (o .0)), ltb-false (t .rest .count) (k .0) (o .1))
@@ -65,10 +65,10 @@ call-good t (call.Restart p n) w r a = restart-good t w (some-ready t (a .active
 call-good t (call.Pause u n) w r a = pause-good t u n w (some-ready t (a .active)) (omega (arith, ltb-false lastUnit u (a .body))) (r .1 .0)
 call-good t (call.CancelPause k) w r a = cancel-good t w k
 call-good t (call.StartIfDormant o k) w r a =
-    let s = such t k (or-none (noSuchTask t k) (not (eqb (o / 16 % 8) 0)) (a .body) .0) in
+    let s = such t k (or-none (noSuchTask (t .rest) k) (not (eqb (o / 16 % 8) 0)) (a .body) .0) in
     start-only-good t w (some-ready t (a .active)) o k (s .0) (s .1)
 call-good t (call.StartOrQueue o k x) w r a =
-    let s = such t k (or-none (noSuchTask t k) (eqb (o / 32 % 4) 3) (a .body) .0) in
+    let s = such t k (or-none (noSuchTask (t .rest) k) (eqb (o / 32 % 4) 3) (a .body) .0) in
     ask-good t w (some-ready t (a .active)) o k (s .0) (s .1) x (a .another)
     (λ b. leb-false 32 (t .rest .queued) (and-other (not (isDormant (stateAt t k))) (leb 32 (t .rest .queued)) (a .room) (ap not b)))
 call-good t (call.Flag o f) w r a = flag-good t w o f

@@ -1,7 +1,7 @@
 -- Which case of `readOf` holds, from what the tests of `read` give; the four cases of any record; when 3 and 4 are
 -- given.
 use Prim.Native.Nat.{ℕ}
-use mathlib.Core.Path.{_≡_, refl, ap, _∙_}
+use mathlib.Core.Path.{_≡_, refl, ap, sym, _∙_}
 use mathlib.Core.Logic.{_↔_, _≢_, _⊎_, inl, inr, ⊎-elim}
 use mathlib.Core.Bool.{Bool, true, false}
 use mathlib.Core.List.{List}
@@ -16,6 +16,7 @@ use Rattle.records.specs.Reading.{firstKind, readOf, readAs, readNumber}
 use Rattle.records.specs.Promises.{Misfit}
 use Rattle.records.specs.declared.Kind.{Kind}
 use Rattle.records.specs.declared.Kind.the-variants as kind
+use Rattle.records.specs.declared.Got.{Got}
 use Rattle.records.specs.declared.Got.the-variants as got
 
 -- by cases on a test
@@ -46,22 +47,34 @@ module _ (s : List ℕ) where
       unfolding readAs
       as-whole n = rw (ne-eqb (lengthOf k) 0 known, eq-eqb (length s) (lengthOf k) n)
 
+-- what is got is a call
+abbrev Called : Got → Type 0
+Called (got.Call c) = Unit {0}
+Called (got.Refused n) = ⊥
+
+called-number : (g : Got) → Called g → readNumber g ≡ 0
+called-number (got.Call c) u = refl
+called-number (got.Refused n) u = absurd u
+
+called-not : (g : Got) (n : ℕ) → g ≡ got.Refused n → Called g → ⊥
+called-not g n e u = rw e at u
+
 -- a kind is Unknown, or has a length and a call for any numbers
-known : (k : Kind) → (k ≡ kind.Unknown) ⊎ ((lengthOf k ≢ 0) × ((xs : List ℕ) → readNumber (gotOf k xs) ≡ 0))
+known : (k : Kind) → (k ≡ kind.Unknown) ⊎ ((lengthOf k ≢ 0) × ((xs : List ℕ) → Called (gotOf k xs)))
 known kind.Unknown = inl refl
-known kind.Terminate = inr (λ e. omega arith, λ xs. refl)
-known kind.Restart = inr (λ e. omega arith, λ xs. refl)
-known kind.Pause = inr (λ e. omega arith, λ xs. refl)
-known kind.CancelPause = inr (λ e. omega arith, λ xs. refl)
-known kind.StartIfDormant = inr (λ e. omega arith, λ xs. refl)
-known kind.StartOrQueue = inr (λ e. omega arith, λ xs. refl)
-known kind.Flag = inr (λ e. omega arith, λ xs. refl)
-known kind.Wait = inr (λ e. omega arith, λ xs. refl)
-known kind.Alarm = inr (λ e. omega arith, λ xs. refl)
-known kind.Tick = inr (λ e. omega arith, λ xs. refl)
-known kind.Granule = inr (λ e. omega arith, λ xs. refl)
-known kind.Task = inr (λ e. omega arith, λ xs. refl)
-known kind.End = inr (λ e. omega arith, λ xs. refl)
+known kind.Terminate = inr (λ e. omega arith, λ xs. tt)
+known kind.Restart = inr (λ e. omega arith, λ xs. tt)
+known kind.Pause = inr (λ e. omega arith, λ xs. tt)
+known kind.CancelPause = inr (λ e. omega arith, λ xs. tt)
+known kind.StartIfDormant = inr (λ e. omega arith, λ xs. tt)
+known kind.StartOrQueue = inr (λ e. omega arith, λ xs. tt)
+known kind.Flag = inr (λ e. omega arith, λ xs. tt)
+known kind.Wait = inr (λ e. omega arith, λ xs. tt)
+known kind.Alarm = inr (λ e. omega arith, λ xs. tt)
+known kind.Tick = inr (λ e. omega arith, λ xs. tt)
+known kind.Granule = inr (λ e. omega arith, λ xs. tt)
+known kind.Task = inr (λ e. omega arith, λ xs. tt)
+known kind.End = inr (λ e. omega arith, λ xs. tt)
 
 -- the four cases of reading
 pub read-cases : {P : Type 0} (s : List ℕ)
@@ -85,7 +98,7 @@ read-cases s empty unknown misfit whole =
     (λ t.
     let n = eqb-true (length s) (lengthOf k) t in
     let r = read-some s some ∙ as-whole s k (q .0) n in
-    whole some carried n r (ap readNumber r ∙ q .1 (cut (bodyOf k) 1 s)))
+    whole some carried n r (ap readNumber r ∙ called-number (gotOf k (cut (bodyOf k) 1 s)) (q .1 (cut (bodyOf k) 1 s))))
     (λ l. let n = eqb-false (length s) (lengthOf k) l in misfit some (carried, n) (read-some s some ∙ as-length s k (q .0) n)))
     (known k))
 
@@ -97,6 +110,17 @@ module _ (s : List ℕ) where
       (λ e u r. inr (inr (ap readNumber r)))
       (λ e m r. inr (inl (ap readNumber r)))
       (λ e k n r z. inl z)
+
+  pub refuses : (n : ℕ) → readOf s ≡ got.Refused n → (n ≡ 3) ⊎ (n ≡ 4)
+  refuses n e =
+      read-cases s
+      (λ z r. inl (same n 3 (sym e ∙ r)))
+      (λ z u r. inr (same n 4 (sym e ∙ r)))
+      (λ z m r. inl (same n 3 (sym e ∙ r)))
+      (λ z k l r o. ⊎-elim (λ u. absurd (k u)) (λ q. absurd (called-not (gotOf (firstKind s) (cut (bodyOf (firstKind s)) 1 s)) n (sym r ∙ e) (q .1 (cut (bodyOf (firstKind s)) 1 s)))) (known (firstKind s)))
+    where
+      same : (i j : ℕ) → got.Refused i ≡ got.Refused j → i ≡ j
+      same i j q = cc
 
   pub three : (readNumber (readOf s) ≡ 3) ↔ ((length s ≡ 0) ⊎ Misfit s)
   three =

@@ -24,55 +24,55 @@ tick-requires c κs = c .before .before .before .before .pre .clock
 
 returns : tie.Need-returns
 unfolding decided
-returns c = λ t s. rw (c .terminate .ensures, c .before .before .enum-told .given .1, s .tasks, s .rest, s .calls) refl
+returns c = rw (c .terminate .ensures, c .before .before .enum-told .given .1) refl
 
 returns-2 : tie.Need-returns-2
 unfolding decided
-returns-2 c = λ t s. rw (c .restart .ensures, c .before .task-at .ensures, c .before .before .before .call .given .1, s .tasks, s .rest, s .calls) refl
+returns-2 c = rw (c .restart .ensures, c .before .task-at .ensures, c .before .before .before .call .given .1) refl
 
 returns-3 : tie.Need-returns-3
 unfolding decided
-returns-3 c = λ t s. rw (c .pause .ensures, c .before .before .call2 .given .1, s .rest) refl
+returns-3 c = rw (c .pause .ensures, c .before .before .call2 .given .1) refl
 
 returns-4 : tie.Need-returns-4
 unfolding decided
-returns-4 c = λ t s. rw (c .cancel-pause .ensures, c .before .task-at2 .ensures, c .before .before .before .call3 .given .1, s .tasks, s .rest) refl
+returns-4 c = rw (c .cancel-pause .ensures, c .before .task-at2 .ensures, c .before .before .before .call3 .given .1) refl
 
 returns-5 : tie.Need-returns-5
 unfolding decided
-returns-5 c = λ t s. rw (c .start-if-dormant .ensures, c .before .task-at3 .ensures, c .before .before .before .call4 .given .1, s .tasks, s .rest, s .calls) refl
+returns-5 c = rw (c .start-if-dormant .ensures, c .before .task-at3 .ensures, c .before .before .before .call4 .given .1) refl
 
 returns-6 : tie.Need-returns-6
 unfolding decided
-returns-6 c = λ t s. rw (c .start-or-queue .ensures, c .before .task-at4 .ensures, c .before .before .before .call5 .given .1, s .tasks, s .rest, s .calls) refl
+returns-6 c = rw (c .start-or-queue .ensures, c .before .task-at4 .ensures, c .before .before .before .call5 .given .1) refl
 
 returns-7 : tie.Need-returns-7
 unfolding decided
-returns-7 c = λ t s. rw (c .flag .ensures, c .before .before .call6 .given .1, s .tasks, s .rest) refl
+returns-7 c = rw (c .flag .ensures, c .before .before .call6 .given .1) refl
 
 returns-8 : tie.Need-returns-8
 unfolding decided
-returns-8 c = λ t s. rw (c .wait .ensures, c .before .before .call7 .given .1, s .rest) refl
+returns-8 c = rw (c .wait .ensures, c .before .before .call7 .given .1) refl
 
 returns-9 : tie.Need-returns-9
 unfolding decided
-returns-9 c = λ t s. rw (c .alarm .ensures, c .before .alarm-at .ensures, c .before .before .before .before .call8 .given .1, s .tasks, s .rest) refl
+returns-9 c = rw (c .alarm .ensures, c .before .alarm-at .ensures, c .before .before .before .before .call8 .given .1) refl
 
 returns-10 : tie.Need-returns-10
 unfolding decided
-returns-10 c = λ t s. rw (c .tick .ensures (c .before .before .before .before .before .args .rest) refl refl refl refl, c .before .before .enum-told2 .given .1, s .tasks, s .rest) refl
+returns-10 c = rw (c .tick .ensures (c .before .before .before .before .before .args .rest) refl refl refl refl, c .before .before .enum-told2 .given .1) refl
 
 returns-11 : tie.Need-returns-11
 unfolding decided
-returns-11 c = λ t s. rw (c .no-call .ensures, c .before .enum-told3 .given .1) refl
+returns-11 c = rw (c .no-call .ensures, c .before .enum-told3 .given .1) refl
 
 returns-12 : tie.Need-returns-12
 unfolding decided
-returns-12 c = λ t s. rw (c .no-call2 .ensures, c .before .enum-told4 .given .1) refl
+returns-12 c = rw (c .no-call2 .ensures, c .before .enum-told4 .given .1) refl
 
 returns-13 : tie.Need-returns-13
 unfolding decided
-returns-13 c = λ t s. rw (c .no-call3 .ensures, c .before .enum-told5 .given .1) refl
+returns-13 c = rw (c .no-call3 .ensures, c .before .enum-told5 .given .1) refl
 
 pub by-kind-spec : {M : Type 1} → statement M
 by-kind-spec =
