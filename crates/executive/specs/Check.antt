@@ -73,13 +73,17 @@ standsIn k xs = sumOf (λ (x : TaskNo). one (eqb k (x .0))) xs
 unfoldable pub exactAt : List Task → List TaskNo → ℕ → Bool
 exactAt ts xs k = eqb (standsIn k xs) (is ready (taskAt ts k .state))
 
--- the queue q, of which the first r places are taken: its own tests, which look at the entries and at nothing else
-abbrev pub lineRight : List Task → ℕ → List TaskNo → Bool
-lineRight ts r q =
-    leb r mostTasks and falls ts mostTasks highest (take r q) and upTo (exactAt ts (take r q)) mostTasks and allOf isNobody (drop r q)
+-- the queue q, of which the first r places are taken, of n tasks: its own tests, which look at the entries besides
+abbrev pub lineRight : List Task → ℕ → ℕ → List TaskNo → Bool
+lineRight ts n r q =
+    leb n mostTasks
+    and leb r mostTasks
+    and falls ts n highest (take r q)
+    and upTo (exactAt ts (take r q)) n
+    and allOf isNobody (drop r q)
 
 unfoldable pub queueRight : Table → Bool
-queueRight t = eqb (length (t .queue)) mostTasks and lineRight (t .tasks) (t .ready) (t .queue)
+queueRight t = eqb (length (t .queue)) mostTasks and lineRight (t .tasks) (t .rest .count) (t .ready) (t .queue)
 
 -- ---- stored times, at the clock c
 abbrev pub isStored : ℕ → ℕ → Bool

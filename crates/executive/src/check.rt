@@ -54,7 +54,7 @@ impl Table {
     {
         let tasks = self.tasks;
         let queue = self.queue;
-        queue_check::line_right(tasks, queue, self.ready)
+        queue_check::line_right(tasks, queue, self.ready, self.rest.count)
     }
 
     // The table keeps every rule.

@@ -28,15 +28,15 @@ fn blank_from(queue: [TaskNo; 16], ready: usize) -> bool
 }
 
 // Those ready are tasks, in descending priority.
-fn descends(tasks: [Task; 16], queue: [TaskNo; 16], ready: usize) -> bool
-    requires { ⌜ ready ≤ 16 ⌝ }
-    ensures { λ r. ⌜ r ≡ falls tasks 16 15 (take ready queue) ⌝ }
+fn descends(tasks: [Task; 16], queue: [TaskNo; 16], ready: usize, count: u8) -> bool
+    requires { ⌜ (ready ≤ 16) × (count ≤ 16) ⌝ }
+    ensures { λ r. ⌜ r ≡ falls tasks count 15 (take ready queue) ⌝ }
 {
     let mut p: u8 = 15;
     let mut i: usize = 0;
     while i < ready {
         let k = places::entry_place(queue[i]);
-        if 15 < k {
+        if count as usize <= k {
             return false;
         }
         let e = tasks[k];
@@ -90,16 +90,16 @@ fn exact_at(s: State, n: u8) -> bool
     n == want
 }
 
-fn all_exact(tasks: [Task; 16], queue: [TaskNo; 16], ready: usize) -> bool
-    requires { ⌜ ready ≤ 16 ⌝ }
-    ensures { λ r. ⌜ r ≡ upTo (exactAt tasks (take ready queue)) 16 ⌝ }
+fn all_exact(tasks: [Task; 16], queue: [TaskNo; 16], ready: usize, count: u8) -> bool
+    requires { ⌜ (ready ≤ 16) × (count ≤ 16) ⌝ }
+    ensures { λ r. ⌜ r ≡ upTo (exactAt tasks (take ready queue)) count ⌝ }
 {
     let c = tally(queue, ready);
-    let mut k: usize = 0;
-    while k < 16 {
-        let e = tasks[k];
+    let mut k: u8 = 0;
+    while k < count {
+        let e = tasks[k as usize];
         let s = e.state;
-        let n = c.of[k];
+        let n = c.of[k as usize];
         if !exact_at(s, n) {
             return false;
         }
@@ -109,15 +109,18 @@ fn all_exact(tasks: [Task; 16], queue: [TaskNo; 16], ready: usize) -> bool
 }
 
 // The ready queue holds exactly the ready tasks, once each, in descending priority; its free places are zero.
-pub(crate) fn line_right(tasks: [Task; 16], queue: [TaskNo; 16], ready: u8) -> bool
-    ensures { λ r. ⌜ r ≡ lineRight tasks ready queue ⌝ }
+pub(crate) fn line_right(tasks: [Task; 16], queue: [TaskNo; 16], ready: u8, count: u8) -> bool
+    ensures { λ r. ⌜ r ≡ lineRight tasks count ready queue ⌝ }
 {
+    if 16 < count {
+        return false;
+    }
     if 16 < ready {
         return false;
     }
     let n = ready as usize;
-    if !descends(tasks, queue, n) {
+    if !descends(tasks, queue, n, count) {
         return false;
     }
-    all_exact(tasks, queue, n) && blank_from(queue, n)
+    all_exact(tasks, queue, n, count) && blank_from(queue, n)
 }

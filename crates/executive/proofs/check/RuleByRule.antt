@@ -26,7 +26,7 @@ use Rattle.executive.specs.Flags.{met}
 use Rattle.executive.specs.WellFormed.{InRange, Queue, Stored, Timely, Times, Unmet, Waiters, Zeros, startsOf, endsOf, runsOf, dormantTarget}
 use Rattle.executive.specs.Check.{entryInRange, requestInRange, isBlank, sizesRight, inBounds, numbersRight, isTask, isNobody, falls, standsIn, exactAt, queueRight, isStored, isTimely, alarmRight, taskTimely, timesRight, isStarted, startedRight, isUnmet, taskUnmet, masksRight, targetBusy, busyRight, waitersAt, namesOthers, waitersRight, isZero, dormantEntryRight, dormantRight, isFree, poolRight}
 use Rattle.executive.proofs.states.Laws.{dormant-named, dormant-kind}
-use Rattle.executive.proofs.places.TaskAt.{at-none, at-no-place, place-past}
+use Rattle.executive.proofs.places.TaskAt.{at-none}
 use Rattle.executive.proofs.Lists.Loops.{all-get, all-make, every-get, every-make}
 use Rattle.executive.proofs.Lists.Tests.{and-true, true-and, one-none, none-one, not-of, of-not, leb-none, in-reach, sum-none, none-all}
 use Rattle.executive.proofs.check.Blanks.{blank-pad, pad-blank, nobody-is, free-is, zero-is, is-zero, tasks-get, tasks-make, past-get, past-make}
@@ -115,7 +115,8 @@ pub lined : (t : Table) → queueRight t ≡ true → Lined t
 unfolding queueRight
 lined t e =
     let a = and-true (eqb (length (t .queue)) 16) _ e in
-    record { size = eqb-true _ _ (a .0); ready = leb-true _ _ (and-true (leb (t .ready) 16) _ (a .1) .0) }
+    let b = and-true (leb (t .rest .count) 16) _ (a .1) in
+    record { size = eqb-true _ _ (a .0); ready = leb-true _ _ (and-true (leb (t .ready) 16) _ (b .1) .0) }
 
 module _ (t : Table) where
   pub numbers-get : Lined t → numbersRight (t .tasks) (t .rest) ≡ true → Known t
@@ -193,59 +194,57 @@ place n (suc i) = go (leb (suc i) n) refl
     go true e = among (omega arith) (leb-true _ _ e)
     go false e = past (leb-false _ _ e)
 
--- a number past the sixteen has no entry
-at-far : (ts : List Task) → length ts ≡ 16 → (k : ℕ) → 16 < k → taskAt ts k ≡ noTask
-at-far ts l k h = at-no-place ts l k 16 (place-past k h) (omega arith)
-
 module _ (t : Table) (w : InRange t) where
   -- a ready task's number is a task's
-  ready-no : (x : TaskNo) → 0 < is ready (taskAt (t .tasks) (x .0) .state) → isTask 16 x ≡ true
-  ready-no x h = go (place 16 (x .0))
+  ready-no : (x : TaskNo) → 0 < is ready (taskAt (t .tasks) (x .0) .state) → isTask (t .rest .count) x ≡ true
+  ready-no x h = go (place (t .rest .count) (x .0))
     where
-      go : Place 16 (x .0) → isTask 16 x ≡ true
+      go : Place (t .rest .count) (x .0) → isTask (t .rest .count) x ≡ true
       go (nought e) = absurd (let y : is ready (taskAt (t .tasks) (x .0) .state) ≡ 0 = rw (at-none (t .tasks) (x .0) e) refl in omega arith)
       go (among a b) = true-and (ltb 0 (x .0)) _ (lt-ltb 0 (x .0) a) (le-leb _ _ b)
-      go (past l) = absurd (let y : is ready (taskAt (t .tasks) (x .0) .state) ≡ 0 = rw (at-far (t .tasks) (w .sizes .tasks) (x .0) l) refl in omega arith)
+      go (past l) = absurd (let y : is ready (taskAt (t .tasks) (x .0) .state) ≡ 0 = rw (w .beyond (x .0) l) refl in omega arith)
 
   pub queue-make : Queue t → queueRight t ≡ true
   unfolding queueRight exactAt
   queue-make q =
       true-and (eqb (length (t .queue)) 16) _ (eq-eqb _ _ (w .sizes .queue))
+      (true-and (leb (t .rest .count) 16) _ (le-leb _ _ (w .count .1))
       (true-and (leb (t .ready) 16) _ (le-leb _ _ (w .ready))
-      (true-and (falls (t .tasks) 16 15 (line t)) _
-      (desc-falls (t .tasks) 16 15 (line t)
-      (all-tasks (t .tasks) 16 (line t) (λ x h. ready-no x (rw (q .exactly .exact (x .0)) at h)))
-      (low (t .tasks) 16 15 (line t) (w .priority))
+      (true-and (falls (t .tasks) (t .rest .count) 15 (line t)) _
+      (desc-falls (t .tasks) (t .rest .count) 15 (line t)
+      (all-tasks (t .tasks) (t .rest .count) (line t) (λ x h. ready-no x (rw (q .exactly .exact (x .0)) at h)))
+      (low (t .tasks) (t .rest .count) 15 (line t) (w .priority))
       (q .exactly .sorted))
-      (true-and (upTo (exactAt (t .tasks) (line t)) 16) _
-      (all-make (exactAt (t .tasks) (line t)) 16 (λ k g h. eq-eqb _ _ (stands-count (t .tasks) k (line t) ∙ q .exactly .exact k)))
-      (pad-blank isNobody nobody refl 16 (t .ready) (t .queue) (w .sizes .queue) (q .tidy)))))
+      (true-and (upTo (exactAt (t .tasks) (line t)) (t .rest .count)) _
+      (all-make (exactAt (t .tasks) (line t)) (t .rest .count) (λ k g h. eq-eqb _ _ (stands-count (t .tasks) k (line t) ∙ q .exactly .exact k)))
+      (pad-blank isNobody nobody refl 16 (t .ready) (t .queue) (w .sizes .queue) (q .tidy))))))
 
 module _ (t : Table) (w : InRange t) where
-  exact-get : allOf (isTask 16) (line t) ≡ true → upTo (exactAt (t .tasks) (line t)) 16 ≡ true
+  exact-get : allOf (isTask (t .rest .count)) (line t) ≡ true → upTo (exactAt (t .tasks) (line t)) (t .rest .count) ≡ true
       → (k : ℕ) → count k (items (t .tasks) (line t)) ≡ is ready (taskAt (t .tasks) k .state)
   unfolding exactAt
-  exact-get a u k = sym (stands-count (t .tasks) k (line t)) ∙ go (place 16 k)
+  exact-get a u k = sym (stands-count (t .tasks) k (line t)) ∙ go (place (t .rest .count) k)
     where
-      none : (0 < k → 16 < k) → standsIn k (line t) ≡ 0
-      none h = sum-none (isTask 16) (λ (x : TaskNo). one (eqb k (x .0))) (λ x. out-of (t .tasks) 16 k x h) (line t) a
+      none : (0 < k → t .rest .count < k) → standsIn k (line t) ≡ 0
+      none h = sum-none (isTask (t .rest .count)) (λ (x : TaskNo). one (eqb k (x .0))) (λ x. out-of (t .tasks) (t .rest .count) k x h) (line t) a
 
-      go : Place 16 k → standsIn k (line t) ≡ is ready (taskAt (t .tasks) k .state)
+      go : Place (t .rest .count) k → standsIn k (line t) ≡ is ready (taskAt (t .tasks) k .state)
       go (nought e) = none (λ z. absurd (omega arith)) ∙ sym (rw (at-none (t .tasks) k e) refl)
-      go (among g h) = eqb-true _ _ (all-get (exactAt (t .tasks) (line t)) 16 k u g h)
-      go (past h) = none (λ z. h) ∙ sym (rw (at-far (t .tasks) (w .sizes .tasks) k h) refl)
+      go (among g h) = eqb-true _ _ (all-get (exactAt (t .tasks) (line t)) (t .rest .count) k u g h)
+      go (past h) = none (λ z. h) ∙ sym (rw (w .beyond k h) refl)
 
   pub queue-get : queueRight t ≡ true → Queue t
   unfolding queueRight
   queue-get e =
-      let y = and-true (eqb (length (t .queue)) 16) _ e in
+      let z = and-true (eqb (length (t .queue)) 16) _ e in
+      let y = and-true (leb (t .rest .count) 16) _ (z .1) in
       let x = and-true (leb (t .ready) 16) _ (y .1) in
-      let a = and-true (falls (t .tasks) 16 15 (line t)) _ (x .1) in
-      let b = and-true (upTo (exactAt (t .tasks) (line t)) 16) _ (a .1) in
+      let a = and-true (falls (t .tasks) (t .rest .count) 15 (line t)) _ (x .1) in
+      let b = and-true (upTo (exactAt (t .tasks) (line t)) (t .rest .count)) _ (a .1) in
       record {
         exactly = record {
-          exact = exact-get (falls-tasks (t .tasks) 16 15 (line t) (a .0)) (b .0);
-          sorted = falls-desc (t .tasks) 16 15 (line t) (a .0) .1;
+          exact = exact-get (falls-tasks (t .tasks) (t .rest .count) 15 (line t) (a .0)) (b .0);
+          sorted = falls-desc (t .tasks) (t .rest .count) 15 (line t) (a .0) .1;
         };
         tidy = blank-pad isNobody nobody nobody-is 16 (t .ready) (t .queue) (w .sizes .queue) (b .1);
       }

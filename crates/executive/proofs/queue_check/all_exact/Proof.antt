@@ -11,13 +11,13 @@ use Rattle.executive.proofs.queue_check.all_exact.Statement.{statement}
 use Rattle.executive.proofs.queue_check.all_exact.Tie as tie
 
 abbrev Inv-loop : tie.InvT-loop
-Inv-loop ready tasks c k₀ k = (k ≤ 16) × (upTo (talliedAt (c .of) tasks) k ≡ true)
+Inv-loop ready count tasks c k₀ k = (k ≤ count) × (upTo (talliedAt (c .of) tasks) k ≡ true)
 
 abbrev μ-loop : tie.MeasureT-loop
-μ-loop ready tasks c k₀ k = 16 - k
+μ-loop ready count tasks c k₀ k = count - k
 
 tally-requires : tie.Need-tally-requires Inv-loop μ-loop
-tally-requires c κs = c .pre
+tally-requires c κs = c .pre .0
 
 loop-holds : tie.Need-loop-holds Inv-loop μ-loop
 loop-holds c = (omega arith, all-none (talliedAt (c .tally .result .of) (c .before .args .t1)))
@@ -28,8 +28,8 @@ returns c =
     let v = l .before .loop in
     let t = l .before .before .tally in
     let a = l .before .before .before .args in
-    sym (sym (tallied-exact (t .result .of) (a .t1) (take (a .ready) (a .queue)) 16 (omega arith) (t .ensures))
-    ∙ all-not (talliedAt (t .result .of) (a .t1)) 16 (v .k) (l .loop-test .taken) (sym (tallied-next (t .result .of) (a .t1) (v .k)) ∙ sym (c .before .exact-at .ensures) ∙ not-true _ (c .if1 .taken)))
+    sym (sym (tallied-exact (t .result .of) (a .t1) (take (a .ready) (a .queue)) (a .count) (l .before .before .before .pre .1) (t .ensures))
+    ∙ all-not (talliedAt (t .result .of) (a .t1)) (a .count) (v .k) (l .loop-test .taken) (sym (tallied-next (t .result .of) (a .t1) (v .k)) ∙ sym (c .before .exact-at .ensures) ∙ not-true _ (c .if1 .taken)))
 
 loop-again : tie.Need-loop-again Inv-loop μ-loop
 loop-again c =
@@ -44,8 +44,8 @@ returns-2 c =
     let v = c .before .loop in
     let t = c .before .before .tally in
     let a = c .before .before .before .args in
-    let e : v .k ≡ 16 = omega arith in
-    sym (sym (tallied-exact (t .result .of) (a .t1) (take (a .ready) (a .queue)) 16 (omega arith) (t .ensures)) ∙ rw e at (v .inv .1))
+    let e : v .k ≡ a .count = omega arith in
+    sym (sym (tallied-exact (t .result .of) (a .t1) (take (a .ready) (a .queue)) (a .count) (c .before .before .before .pre .1) (t .ensures)) ∙ rw e at (v .inv .1))
 
 pub all-exact-spec : {M : Type 1} → statement M
 all-exact-spec =
@@ -55,6 +55,8 @@ all-exact-spec =
     μ-loop
     tally-requires
     loop-holds
+    (λ c. omega arith)
+    (λ c. omega arith)
     (λ c. omega arith)
     (λ c. omega arith)
     (λ c. omega arith)
