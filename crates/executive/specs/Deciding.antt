@@ -1,5 +1,5 @@
--- What a step decides of a record's bytes: from the tasks, the rest and the caller alone. No queue is looked at; what is
--- decided at a table is what its step does (`Promises/ByDecision`).
+-- What a step decides of a record's bytes: from the tasks, the rest and the caller alone. No queue is looked at; what
+-- is decided at a table is what its step does (`Promises/ByDecision`).
 use Prim.Native.Nat.{ℕ}
 use mathlib.Core.Bool.{Bool, not, cond, _||_}
 use mathlib.Core.List.{List}

@@ -1,23 +1,23 @@
 -- The steps that the book enters, told by records, answers and tables alone.
-use mathlib.Core.Path.{_≡_, refl, sym, ap}
+use mathlib.Core.Path.{_≡_, refl, sym, ap, _∙_}
+use mathlib.Core.Logic.{⊎-elim}
 use mathlib.Core.Bool.{Bool, true, false, not, cond, _||_}
 use mathlib.Core.List.{List, [], _∷_}
 use Prim.Native.Nat.{ℕ}
 use native.Mathlib.Omega.{arith}
-use borrow.Author.Tests.{eqb-true, eq-eqb}
+use borrow.Author.Tests.{eqb-true, eqb-false, eq-eqb}
 use lib.Dec.{eqb}
 use lib.ListN.{length, getD}
 use Rattle.records.specs.Firsts.{firstOf}
-use Rattle.records.specs.declared.Kind.{Kind}
 use Rattle.records.specs.declared.Kind.the-variants as kind
 use Rattle.records.specs.declared.Call.{Call}
 use Rattle.records.specs.declared.Call.the-variants as call
+use Rattle.records.specs.declared.Got.{Got}
 use Rattle.records.specs.declared.Got.the-variants as got
-use Rattle.records.specs.Numbers.{Bytes, cut}
-use Rattle.records.specs.Kinds.{byteOf, bodyOf, lengthOf, isCall}
-use Rattle.records.specs.Calls.{gotOf}
+use Rattle.records.specs.Numbers.{Bytes}
+use Rattle.records.specs.Kinds.{byteOf, lengthOf, isCall}
 use Rattle.records.specs.Calls as calls
-use Rattle.records.specs.Reading.{readAs, readOf}
+use Rattle.records.specs.Reading.{firstKind, readOf, readNumber}
 use Rattle.records.proofs.Assured.{promises}
 use Rattle.executive.specs.declared.State.the-variants.{Ready}
 use Rattle.executive.specs.declared.Request.{Request}
@@ -44,34 +44,26 @@ not-false : (b : Bool) → not b ≡ false → b ≡ true
 not-false true e = refl
 not-false false e = false-not-true (sym e)
 
+-- what is not refused is a call
+call-got : (g : Got) → ((n : ℕ) → g ≡ got.Refused n → ⊥) → g ≡ got.Call (calledBy g)
+call-got (got.Call c) h = refl
+call-got (got.Refused n) h = absurd (h n refl)
+
 -- ---- an accepted record was read, and so its first byte is its call's
 module _ (t : Table) (s : List ℕ) (e : stepOf t s .answer .number ≡ 0) where
-  read-kind : (k : Kind) (xs : List ℕ) → isCall k ≡ true
-      → cond (eqb (lengthOf k) 0) (got.Refused 4) (gotOf k xs) ≡ got.Call (calledBy (cond (eqb (lengthOf k) 0) (got.Refused 4) (gotOf k xs)))
-  read-kind kind.Unknown xs h = false-not-true h
-  read-kind kind.Terminate xs h = refl
-  read-kind kind.Restart xs h = refl
-  read-kind kind.Pause xs h = refl
-  read-kind kind.CancelPause xs h = refl
-  read-kind kind.StartIfDormant xs h = refl
-  read-kind kind.StartOrQueue xs h = refl
-  read-kind kind.Flag xs h = refl
-  read-kind kind.Wait xs h = refl
-  read-kind kind.Alarm xs h = refl
-  read-kind kind.Tick xs h = refl
-  read-kind kind.Granule xs h = false-not-true h
-  read-kind kind.Task xs h = false-not-true h
-  read-kind kind.End xs h = false-not-true h
-
   was-read : readOf s ≡ got.Call (callIn s)
-  unfolding readOf readAs refusals
+  unfolding refusals
   was-read =
       let a = first-none 1 _ _ (omega arith) (allowed t s e) in
       let b = first-none 3 (eqb (length s) 0) _ (omega arith) (a .1) in
       let c = first-none 4 (not (isCall (kindOfRecord s))) _ (omega arith) (b .1) in
       let d = first-none 3 (not (eqb (length s) (lengthOf (kindOfRecord s)))) _ (omega arith) (c .1) in
-      rw (b .0, not-false (eqb (length s) (lengthOf (kindOfRecord s))) (d .0))
-      (read-kind (kindOfRecord s) (cut (bodyOf (kindOfRecord s)) 1 s) (not-false (isCall (kindOfRecord s)) (c .0)))
+      let k : firstKind s ≡ kind.Unknown → ⊥ = λ u. false-not-true (sym (ap isCall u) ∙ not-false (isCall (kindOfRecord s)) (c .0)) in
+      let l : length s ≡ lengthOf (kindOfRecord s) = eqb-true _ _ (not-false (eqb (length s) (lengthOf (kindOfRecord s))) (d .0)) in
+      call-got (readOf s)
+      (λ n r.
+      ⊎-elim (λ x. ⊎-elim (λ z. eqb-false (length s) 0 (b .0) z) (λ m. m .1 l) (promises .three s .0 (ap readNumber r ∙ x)))
+      (λ x. k (promises .four s .0 (ap readNumber r ∙ x) .1)) (promises .refuses s n r))
 
   first-byte : Bytes s → getD s 0 0 ≡ byteOf (calls.kindOfCall (callIn s))
   first-byte b = ap (λ (l : List ℕ). getD l 0 0) (sym (promises .read-write s (callIn s) b was-read))

@@ -1,5 +1,5 @@
--- A step is its decision, which looks at no queue: what `decide` says of the tasks, the rest and the caller of a table is
--- what the table's step does.
+-- A step is its decision, which looks at no queue: what `decide` says of the tasks, the rest and the caller of a table
+-- is what the table's step does.
 use mathlib.Core.Path.{_≡_}
 use mathlib.Core.Bool.{cond}
 use mathlib.Core.List.{List}
