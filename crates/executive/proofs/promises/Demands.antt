@@ -44,6 +44,7 @@ use Rattle.executive.proofs.refusals.NothingRefuses.{early, end-owed, r
 use Rattle.executive.proofs.step.StepIsPlan.{call-allowed, step-is, step-kept}
 use Rattle.executive.proofs.step.FirstThatHolds.{number-decided, unformed, order, allowed, allowed-formed, refusal-keeps, answers-active}
 use Rattle.executive.proofs.step.InWords.{given}
+use Rattle.executive.proofs.step.NeverEleven.{never-eleven}
 use Rattle.executive.proofs.check.Decides.{well-formed-iff, checked-once}
 use Rattle.executive.proofs.states.Laws.{ready-named, ready-kind}
 use Rattle.executive.proofs.step.Dispatched.{prio-is, dispatches}
@@ -230,6 +231,7 @@ demands = record {
   given = given;
   unformed = unformed;
   order = order;
+  never-eleven = never-eleven;
   kept = kept;
   executed = executed;
   dispatched = dispatched;

@@ -29,7 +29,7 @@ late false false false false false true g = refl
 late false false false false false false g = refl
 
 module _ (t : Table) (c : Call) where
-  late-of : firstOf (callRefusals t c) ≡ cond (eqb (refusalBefore11 t c) 0) (cond (overfills t c) 11 0) (refusalBefore11 t c)
+  pub late-of : firstOf (callRefusals t c) ≡ cond (eqb (refusalBefore11 t c) 0) (cond (overfills t c) 11 0) (refusalBefore11 t c)
   unfolding firstOf refusalBefore11
   late-of = late (nobodyActive t c) (badBody t c) (namesCaller t c) (alarmRunning t c) (poolFull t c) (endsTime t c) (overfills t c)
 

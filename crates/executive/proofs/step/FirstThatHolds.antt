@@ -93,7 +93,7 @@ unfolding stepOf
 answers-active t s w = active-is t (firstOf (refusals t s)) (callIn s) (not-one t s w)
 
 -- ---- number 1: exactly for a table that is not well formed
-one-first : (t : Table) (s : List ℕ) → isWellFormed t ≡ false → firstOf (refusals t s) ≡ 1
+pub one-first : (t : Table) (s : List ℕ) → isWellFormed t ≡ false → firstOf (refusals t s) ≡ 1
 unfolding refusals firstOf
 one-first t s w = rw w refl
 
