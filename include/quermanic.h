@@ -19,7 +19,7 @@ extern "C" {
 
 /* The version. The second number rises with each landing (docs/CHANGES.md); the first, with the second at 0 again,
  * where a board must change: the image, a part of the answer that stands already, what a function takes and returns. */
-#define QUERMANIC_VERSION "1.0"
+#define QUERMANIC_VERSION "1.1"
 
 /* A length in bytes. The code takes 64 bits on every machine; size_t has 32 on some, and would be wrong there. */
 typedef uint64_t quermanic_length;
@@ -57,7 +57,6 @@ typedef uint64_t quermanic_length;
 #define QUERMANIC_POOL_FULL 8          /* 05, the target is busy, and 32 requests are queued */
 #define QUERMANIC_ALARM_RUNNING 9      /* 0B, and the flag's alarm is running */
 #define QUERMANIC_END_OF_TIME 10       /* a tick would carry the clock past 2^40 ms */
-#define QUERMANIC_QUEUE_FULL 11        /* a task must enter a ready queue that holds 16 */
 /* The board's own number, judged before any other: a buffer that is to be written to has not the length it needs. */
 #define QUERMANIC_NO_ROOM 30
 
@@ -152,10 +151,10 @@ uint8_t quermanic_check(const uint8_t *image, quermanic_length image_length);
 
 /*
  * Takes a step: the call, or the tick, whose record is given, from the active task of the table whose image is given.
- * Returns the answer's number (0 to 11), or 30.
+ * Returns the answer's number (0 to 10), or 30.
  *
  *   0        `image` now holds the image of the table after the step
- *   1 to 11  refused: no byte of `image` is changed. 1 also where `image_length` is not QUERMANIC_IMAGE_LENGTH
+ *   1 to 10  refused: no byte of `image` is changed. 1 also where `image_length` is not QUERMANIC_IMAGE_LENGTH
  *   30       `answer_length` is less than QUERMANIC_ANSWER_LENGTH: no byte of `image` or of `answer` is changed
  *
  * But for 30, the answer is written to the first QUERMANIC_ANSWER_LENGTH bytes of `answer`; the bytes after it keep their content.

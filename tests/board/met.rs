@@ -4,7 +4,7 @@ use crate::book::Book;
 use model::table::{State, Table, FLAGS, TASKS};
 use std::collections::BTreeMap;
 
-/// The numbers that must be met: by steps, and by the making of fresh tables. From a well-formed table 11 never arises.
+/// The numbers that must be met: by steps, and by the making of fresh tables.
 const OF_STEPS: [u8; 11] = [0, 1, 3, 4, 5, 6, 7, 8, 9, 10, 30];
 const OF_FRESH: [u8; 3] = [0, 2, 30];
 /// What waits for a time.

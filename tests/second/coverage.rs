@@ -22,10 +22,9 @@ const KINDS: [(u8, &str); 10] = [
 /// The refusal numbers that a bench run can reach.
 const REACHABLE: [usize; 9] = [2, 3, 4, 5, 6, 7, 8, 9, 12];
 /// Those that it cannot, and why.
-const UNREACHABLE: [(usize, &str); 4] = [
+const UNREACHABLE: [(usize, &str); 3] = [
     (1, "a step leaves a well-formed table"),
     (10, "65,536 bytes are too few ticks for 2^40 ms"),
-    (11, "a full queue holds every task"),
     (20, "nothing is written into a buffer"),
 ];
 

@@ -4,7 +4,6 @@ pub mod CodeIsStep
 pub mod Dispatched
 pub mod FirstThatHolds
 pub mod InWords
-pub mod NeverEleven
 pub mod StepIsPlan
 pub mod OthersStay
 pub mod OfRecord

@@ -33,7 +33,7 @@ use Rattle.executive.specs.Numbers.{mostTasks, mostQueued, flagCount, en
 use Rattle.executive.specs.Lists.{pad, nextOf}
 use Rattle.executive.specs.Places.{nobody, never, noRequest, taskAt}
 use Rattle.executive.specs.Pool.{requests, withRequests, placeOf, removed}
-use Rattle.executive.specs.Table.{ArraysInOrder, Out, stays, leaves, Join, Plan}
+use Rattle.executive.specs.Table.{ArraysInOrder, Out, stays, leaves, Join, Plan, depart}
 use Rattle.executive.specs.Entries.{withState, asDormant, begun, dueAt, risen}
 use Rattle.executive.specs.Clock.{interval, aimAt, withAlarm, isDue, advanced}
 use Rattle.executive.specs.Flags.{withFlags, flagSet, flagReset, met, modeOf}
@@ -135,7 +135,7 @@ firstDue r = nextOf (isDue (r .clock .0 + r .granule)) 0 (r .alarms)
 unfoldable pub rungIn : ℕ → List Millis → ℕ → ℕ → ℕ
 rungIn c alarms fs i = cond (isDue c (getD alarms i never)) (flagSet fs i) fs
 
--- what an executor asks of a change and of a deed
+-- what an executor asks of a change, and of a deed: also room for all who enter
 abbrev pub Able : Change → Rest → Type 0
 Able change.Same r = Unit {0}
 Able (change.Flags fs) r = Unit {0}
@@ -146,7 +146,7 @@ Able (change.Clock i) r = (r .clock .0 + r .granule ≤ endOfTime) × (i ≡ fir
 
 pub record Doable (d : Deed) (t : Table) : Type 0 where
   pub fit : ArraysInOrder t
-  pub few : d .entrants .count ≤ mostTasks
+  pub room : depart (outFor (d .leave)) t .ready + d .entrants .count ≤ mostTasks
   pub able : Able (d .change) (t .rest)
 
 -- ---- each kind's deed, from the parts of the table that it looks at

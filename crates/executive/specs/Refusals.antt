@@ -2,11 +2,11 @@
 -- sheet. The first whose condition holds is the answer's.
 use Prim.Native.Nat.{ℕ}
 use mathlib.Core.Path.{_≡_}
-use mathlib.Core.Bool.{Bool, not, cond}
+use mathlib.Core.Bool.{Bool, not}
 use mathlib.Core.List.{List, [], _∷_}
 use lib.Dec.{eqb}
 use lib.ListN.{length, getD}
-use Rattle.records.specs.Firsts.{Refusal, when, firstOf}
+use Rattle.records.specs.Firsts.{Refusal, when}
 use Rattle.records.specs.declared.TaskNo.{TaskNo}
 use Rattle.records.specs.declared.Kind.{Kind}
 use Rattle.records.specs.declared.Call.{Call}
@@ -19,9 +19,8 @@ use Rattle.executive.specs.declared.Task.{Task}
 use Rattle.executive.specs.declared.Rest.{Rest}
 use Rattle.executive.specs.declared.Table.{Table}
 use Rattle.executive.specs.Lists.{_and_}
-use Rattle.executive.specs.Table.{applyInFlight}
 use Rattle.executive.specs.Check.{isWellFormed}
-use Rattle.executive.specs.Sheet.{sheet, ruleOf, planOf}
+use Rattle.executive.specs.Sheet.{sheet, ruleOf}
 
 -- ---- the record: 4 where its first byte is no carried kind, and as a call also 40 to 42
 abbrev pub kindOfRecord : List ℕ → Kind
@@ -66,10 +65,6 @@ poolFull t c = ruleOf t c .full
 unfoldable pub endsTime : Table → Call → Bool
 endsTime t c = ruleOf t c .late
 
--- ---- 11: a task must enter a ready queue that holds 16
-unfoldable pub overfills : Table → Call → Bool
-overfills t c = applyInFlight (planOf t c) t .full
-
 -- ---- the list, in 01's order
 -- what can be refused of a call that was read
 abbrev pub callRefusals : Table → Call → List Refusal
@@ -80,7 +75,6 @@ callRefusals t c =
     ∷ when 9 (alarmRunning t c)
     ∷ when 8 (poolFull t c)
     ∷ when 10 (endsTime t c)
-    ∷ when 11 (overfills t c)
     ∷ []
 
 unfoldable pub refusals : Table → List ℕ → List Refusal
@@ -90,13 +84,3 @@ refusals t s =
     ∷ when 4 (not (isCall (kindOfRecord s)))
     ∷ when 3 (not (eqb (length s) (lengthOf (kindOfRecord s))))
     ∷ callRefusals t (callIn s)
-
--- ---- for the code, which judges 11 on what the call comes to: the number of the first of all but the last of a
--- call's refusals
-abbrev pub butLast : List Refusal → List Refusal
-butLast [] = []
-butLast (r ∷ []) = []
-butLast (r ∷ s ∷ rs) = r ∷ butLast (s ∷ rs)
-
-unfoldable pub refusalBefore11 : Table → Call → ℕ
-refusalBefore11 t c = firstOf (butLast (callRefusals t c))

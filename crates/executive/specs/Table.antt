@@ -3,8 +3,7 @@
 use mathlib.Core.Path.{_≡_}
 use mathlib.Core.Bool.{Bool, true, false, cond}
 use mathlib.Core.List.{List, [], _∷_, tail, _++_}
-use Prim.Native.Nat.{ℕ, suc, _≤_, _+_, _-_}
-use lib.Dec.{ltb}
+use Prim.Native.Nat.{ℕ, suc, _≤_, _<_, _+_, _-_}
 use lib.ListN.{length, take, drop}
 use Rattle.records.specs.declared.TaskNo.{TaskNo}
 use Rattle.executive.specs.declared.Task.{Task}
@@ -12,7 +11,7 @@ use Rattle.executive.specs.declared.Rest.{Rest}
 use Rattle.executive.specs.declared.Table.{Table}
 use Rattle.executive.specs.declared.Work.{Work}
 use Rattle.executive.specs.Numbers.{mostTasks, endOfTime}
-use Rattle.executive.specs.Queue.{Item, Moves, behind}
+use Rattle.executive.specs.Queue.{Item, Moves, behind, count}
 use Rattle.executive.specs.Lists.{pad}
 use Rattle.executive.specs.Places.{taskAt, nobody, putAt}
 use Rattle.executive.specs.Pool.{PoolInOrder}
@@ -91,33 +90,32 @@ unfoldable pub joins : List Join → Table → Table
 joins [] t = t
 joins (j ∷ js) t = joins js (join j t)
 
+-- one after the other, each that enters stands nowhere in the queue at that moment, and one place at least is free
+abbrev pub FindsRoom : List Join → Table → Type 0
+FindsRoom [] t = Unit {0}
+FindsRoom (j ∷ js) t = (count (j .who .0) (view t) ≡ 0) × (t .ready < mostTasks) × FindsRoom js (join j t)
+
 unfoldable pub apply : Plan → Table → Table
 apply p t = withRest (p .rest) (joins (p .ins) (depart (p .out) t))
 
--- ---- the same in flight: a task that must enter a queue that holds 16 leaves the mark (number 11)
+-- ---- the same in flight
 abbrev pub begin : Table → Work
-begin t = record { table = t; full = false }
-
--- task k takes its place; it is turned away
-abbrev pub seated : TaskNo → Task → Work → Work
-seated k e w = record { table = entered k e (w .table); full = w .full }
-
-abbrev pub away : Work → Work
-away w = record { table = w .table; full = true }
+begin t = record { table = t }
 
 unfoldable pub enterInFlight : TaskNo → Task → Work → Work
-enterInFlight k e w = cond (ltb (w .table .ready) mostTasks) (seated k e w) (away w)
+enterInFlight k e w = record { table = entered k e (w .table) }
 
--- what every method in flight asks
-pub record InFlight (w : Work) : Type 0 where
+-- what every method in flight asks: the arrays in order, and room for the n who are still to enter
+pub record InFlight (n : ℕ) (w : Work) : Type 0 where
   pub fit : ArraysInOrder (w .table)
+  pub room : w .table .ready + n ≤ mostTasks
 
 unfoldable pub enterAllInFlight : List Join → Work → Work
 enterAllInFlight [] w = w
 enterAllInFlight (j ∷ js) w = enterAllInFlight js (enterInFlight (j .who) (j .change (taskAt (w .table .tasks) (j .who .0))) w)
 
 abbrev pub restInFlight : Rest → Work → Work
-restInFlight r w = record { table = withRest r (w .table); full = w .full }
+restInFlight r w = record { table = withRest r (w .table) }
 
 unfoldable pub applyInFlight : Plan → Table → Work
 applyInFlight p t = restInFlight (p .rest) (enterAllInFlight (p .ins) (begin (depart (p .out) t)))

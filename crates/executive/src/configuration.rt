@@ -167,7 +167,7 @@ fn table_of(tasks: [Task; 16], rest: Rest) -> Table
 
 // Task k starts if it is marked: at its own priority, with argument 0 and scheduled start 0.
 fn start_at(w: Work, s: &[u8], k: TaskNo) -> Work
-    requires { ⌜ InFlight w × (0 < k .0) ⌝ }
+    requires { ⌜ InFlight 1 w × (0 < k .0) ⌝ }
     ensures { λ r. ⌜ r ≡ enterAllInFlight (markedStart (now (s .entry)) (k .0)) w ⌝ }
 {
     if mark_in(s, k) != 1 {
@@ -182,7 +182,7 @@ fn start_at(w: Work, s: &[u8], k: TaskNo) -> Work
 
 // The marked tasks of 1 to n start, in ascending number.
 fn start_marked(w: Work, s: &[u8], n: u8) -> Work
-    requires { ⌜ InFlight w × (n ≤ 16) ⌝ }
+    requires { ⌜ InFlight n w ⌝ }
     ensures { λ r. ⌜ r ≡ enterAllInFlight (starters (now (s .entry)) n 1) w ⌝ }
 {
     let mut v = w;

@@ -9,7 +9,6 @@ use crate::decisions::Deed;
 use crate::decisions::Entrants;
 use crate::decisions::Leave;
 ghost use mathlib.Core.Path.{_≡_};
-ghost use Prim.Native.Nat.{_≤_};
 ghost use Rattle.executive.specs.Table.{ArraysInOrder, InFlight, left?, depart, enterAllInFlight, restInFlight, applyInFlight};
 ghost use Rattle.executive.specs.Pool.{PoolInOrder};
 ghost use Rattle.executive.specs.Decisions.{named, outFor, joinsFor, alters, changed, meant, Able, Doable};
@@ -60,7 +59,7 @@ impl Rest {
 impl Work {
     // Those who are listed enter, in order.
     fn enter_all(mut self, list: Entrants, q: Request, now: Millis) -> Work
-        requires { ⌜ InFlight self × (list .count ≤ 16) ⌝ }
+        requires { ⌜ InFlight (list .count) self ⌝ }
         ensures { λ r. ⌜ r ≡ enterAllInFlight (joinsFor q now (named list)) self ⌝ }
     {
         let entrants = list.places;

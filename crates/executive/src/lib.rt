@@ -85,10 +85,9 @@ pub struct Table {
     pub rest: Rest,
 }
 
-// A step in flight: full once a task had to enter a queue that held 16.
+// A step in flight: the caller may have departed, and perhaps not all have entered.
 struct Work {
     table: Table,
-    full: bool,
 }
 
 // What a caller of kind 05 waits for.

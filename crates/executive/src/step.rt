@@ -11,8 +11,7 @@ ghost use Rattle.executive.specs.Check.{queueRight};
 ghost use Rattle.executive.specs.Step.{stepOf, Steps, StepsCall};
 
 impl Table {
-    // A step at a table whose queue is right: refused with the first number that is given, or accepted. Number 11 is
-    // judged on what the call comes to.
+    // A step at a table whose queue is right: refused with the first number that is given, or accepted.
     fn perform(self, bytes: &[u8]) -> Outcome
         requires { ⌜ queueRight self ≡ true ⌝ }
         ensures { λ r. ⌜ r ≡ stepOf self (now (bytes .entry)) ⌝ }
@@ -26,9 +25,6 @@ impl Table {
         }
         let deed = d.deed;
         let w = self.execute(deed);
-        if w.full {
-            return self.refuse(11);
-        }
         let table = w.table;
         let m = d.marks;
         let answer = table.answer(0, m);

@@ -41,7 +41,7 @@ use Rattle.executive.proofs.Plans.GoodIsKept.{puts}
 use Rattle.executive.proofs.Plans.Links.{place-target}
 use Rattle.executive.proofs.Plans.Shared.{Runs, runs}
 use Rattle.executive.proofs.Plans.Tick.{advanced-alone}
-use Rattle.executive.proofs.refusals.NothingRefuses.{early, end-owed}
+use Rattle.executive.proofs.refusals.NothingRefuses.{end-owed}
 use Rattle.executive.proofs.step.StepIsPlan.{picked, call-allowed, step-is}
 use Rattle.executive.proofs.step.FirstThatHolds.{allowed, refusal-keeps}
 use Rattle.executive.proofs.step.OthersStay.{plan-tasks}
@@ -157,7 +157,7 @@ module _ (t : Table) (w : WellFormed t) where
 
   call-does : (c : Call) → firstOf (callRefusals t c) ≡ 0 → MovesAreLegal (planOf t c) t → Does rs (apply (planOf t c) t) (turnOf t c)
   unfolding planOf turnOf apply restartPlan pausePlan cancelPausePlan startIfDormantPlan startNowPlan flagPlan resetPlan setPlan waitPlan alarmPlan tickPlan
-  call-does call.Terminate z s = end-does (end-owed t w (early t call.Terminate z) .1) s
+  call-does call.Terminate z s = end-does (end-owed t w z .1) s
   call-does (call.Restart p n) z s = refl
   call-does (call.Pause u n) z s = either (eqb n 0) _ _ refl refl
   call-does (call.CancelPause k) z s = either (isPaused (stateAt t k)) _ _ refl refl

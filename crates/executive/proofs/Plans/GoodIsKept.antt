@@ -1,23 +1,21 @@
--- A plan that is good keeps the table well formed, is sound, and never overfills the queue: shown once, for every plan.
+-- A plan that is good keeps the table well formed, is sound, and has room for all who enter: shown once, for every plan.
 use mathlib.Core.Path.{_≡_, refl, ap, _∙_}
-use mathlib.Core.Bool.{false}
 use mathlib.Core.List.{List, [], _∷_, tail}
-use Prim.Native.Nat.{ℕ, _<_}
+use Prim.Native.Nat.{ℕ, suc, _+_, _≤_, _<_}
 use native.Mathlib.Omega.{arith}
-use borrow.Author.Tests.{lt-ltb}
 use lib.ListN.{length}
 use Rattle.records.specs.declared.TaskNo.{TaskNo}
 use Rattle.executive.specs.declared.Task.{Task}
 use Rattle.executive.specs.declared.Table.{Table}
 use Rattle.executive.specs.declared.Work.{Work}
 use Rattle.executive.specs.Queue.{count}
-use Rattle.executive.specs.Table.{ArraysInOrder, line, items, headOf, Out, stays, leaves, Join, Plan, entered, depart, join, joins, withRest, apply, begin, enterInFlight, enterAllInFlight, applyInFlight, change-at, outTasks}
+use Rattle.executive.specs.Table.{ArraysInOrder, line, items, headOf, Out, stays, leaves, Join, Plan, FindsRoom, entered, depart, join, joins, withRest, apply, begin, enterInFlight, enterAllInFlight, applyInFlight, change-at, outTasks}
 use Rattle.executive.specs.Pool.{requests}
 use Rattle.executive.specs.Places.{taskAt, putAt}
 use Rattle.executive.specs.States.{ready, is}
 use Rattle.executive.specs.WellFormed.{Line}
 use Rattle.executive.proofs.Plans.WorkingForm.{EntriesOk, LinksOk, RestOk, WellFormedByPart}
-use Rattle.executive.proofs.queue.ArraysAreLists.{line-length, departed-fit, entered-fit}
+use Rattle.executive.proofs.queue.ArraysAreLists.{enter-length, line-length, departed-fit, entered-fit}
 use Rattle.executive.proofs.Plans.Moves.{Entering, MovesAreLegal, out-tasks, leave-line}
 use Rattle.executive.proofs.Plans.QueueKept.{Joins, join-kept, head-is, line-out}
 use Rattle.executive.proofs.Plans.Size.{room-to-enter}
@@ -52,34 +50,39 @@ unfolding joins puts join entered
 joins-tasks [] t = refl
 joins-tasks (j ∷ js) t = joins-tasks js (join j t)
 
--- the entries in flight come to the same table, and nobody finds the queue full
-pub record FlightIsJoins (js : List Join) (w : Work) (t : Table) : Type 0 where
-  pub table : enterAllInFlight js w .table ≡ joins js t
-  pub full : enterAllInFlight js w .full ≡ w .full
+-- in flight the same table comes about
+joins-in-flight : (js : List Join) (w : Work) → enterAllInFlight js w .table ≡ joins js (w .table)
+unfolding joins join enterAllInFlight enterInFlight
+joins-in-flight [] w = refl
+joins-in-flight (j ∷ js) w = joins-in-flight js _
+
+pub plan-in-flight : (p : Plan) (t : Table) → applyInFlight p t .table ≡ apply p t
+unfolding apply applyInFlight
+plan-in-flight p t = ap (withRest (p .rest)) (joins-in-flight (p .ins) (begin (depart (p .out) t)))
 
 -- what the entries come to, one after the other
 pub record JoinsKeep (js : List Join) (t : Table) : Type 0 where
   pub queue : Line ready (joins js t .tasks) (line (joins js t))
   pub entering : Entering js t
   pub fit : ArraysInOrder (joins js t)
-  pub room : (w : Work) → w .table ≡ t → FlightIsJoins js w t
+  pub room : FindsRoom js t
+  pub size : t .ready + length js ≤ 16
 
 joined-fit : (j : Join) (t : Table) → ArraysInOrder t → t .ready < 16 → ArraysInOrder (join j t)
 unfolding join
 joined-fit j t f m = entered-fit t f (j .who) (j .change (taskAt (t .tasks) (j .who .0))) m
 
-admit-room : (j : Join) (w : Work) (t : Table) → w .table ≡ t → t .ready < 16
-    → (enterInFlight (j .who) (j .change (taskAt (w .table .tasks) (j .who .0))) w .table ≡ join j t) × (enterInFlight (j .who) (j .change (taskAt (w .table .tasks) (j .who .0))) w .full ≡ w .full)
-unfolding join enterInFlight
-admit-room j w t e m = rw (e, lt-ltb (t .ready) 16 m) (refl, refl)
+joined-ready : (j : Join) (t : Table) → join j t .ready ≡ suc (length (line t))
+unfolding join entered
+joined-ready j t = enter-length _ (j .who) (line t)
 
 joined-tasks : (j : Join) (t : Table) → join j t .tasks ≡ change-at (t .tasks) (j .who .0) (j .change)
 unfolding join entered
 joined-tasks j t = refl
 
 pub joins-kept : (js : List Join) (t : Table) → ArraysInOrder t → Line ready (t .tasks) (line t) → JoinsAll js (t .tasks) → JoinsKeep js t
-unfolding joins enterAllInFlight
-joins-kept [] t f q h = record { queue = q; entering = tt; fit = f; room = λ w e. record { table = e; full = refl } }
+unfolding joins
+joins-kept [] t f q h = record { queue = q; entering = tt; fit = f; room = tt; size = omega (arith, f .few) }
 joins-kept (j ∷ js) t f q h =
     let l : length (line t) < 16 = room-to-enter j (t .tasks) (line t) (f .all) q (h .0) in
     let n : length (line t) ≡ t .ready = line-length t f in
@@ -89,10 +92,8 @@ joins-kept (j ∷ js) t f q h =
       queue = r .queue;
       entering = (record { names = h .0 .names; absent = q .exact (j .who .0) ∙ h .0 .before }, r .entering);
       fit = r .fit;
-      room = λ w e.
-          let a = admit-room j w t e m in
-          let x = r .room (enterInFlight (j .who) (j .change (taskAt (w .table .tasks) (j .who .0))) w) (a .0) in
-          record { table = x .table; full = x .full ∙ a .1 };
+      room = (q .exact (j .who .0) ∙ h .0 .before, m, r .room);
+      size = omega (arith, r .size, joined-ready j t);
     }
 
 nobody-put : (ts : List Task) (e : Task) → Line ready ts [] → Line ready (putAt ts 0 e) []
@@ -116,11 +117,11 @@ once ts (c ∷ r) q = head-is ready ts c r (omega arith) q .alone
 pub record GoodOutcome (p : Plan) (t : Table) : Type 0 where
   pub formed : WellFormedByPart (apply p t)
   pub sound : MovesAreLegal p t
-  pub table : applyInFlight p t .table ≡ apply p t
-  pub never-full : applyInFlight p t .full ≡ false
+  pub room : FindsRoom (p .ins) (depart (p .out) t)
+  pub size : depart (p .out) t .ready + length (p .ins) ≤ 16
 
 pub apply-kept : (p : Plan) (t : Table) → WellFormedByPart t → Good p t → GoodOutcome p t
-unfolding apply applyInFlight
+unfolding apply
 apply-kept p t w g =
     let d : Table = depart (p .out) t in
     let e : d .tasks ≡ outTasks (p .out) (t .tasks) (headOf (line t) .0) = out-tasks (p .out) t in
@@ -136,6 +137,6 @@ apply-kept p t w g =
         rested = g .rested;
       };
       sound = record { once = once (t .tasks) (line t) (w .queue); entering = k .entering };
-      table = ap (withRest (p .rest)) (k .room (begin d) refl .table);
-      never-full = k .room (begin d) refl .full;
+      room = k .room;
+      size = k .size;
     }

@@ -6,6 +6,7 @@ use Prim.Native.Nat.{ℕ, _+_, _≤_, _<_}
 use native.Mathlib.Omega.{arith}
 use borrow.Author.Tests.{leb-true, leb-false, eqb-true}
 use lib.Dec.{leb, eqb}
+use lib.ListN.{length, length-append}
 use Rattle.records.specs.declared.TaskNo.{TaskNo}
 use Rattle.executive.specs.Numbers.{longest}
 use Rattle.executive.specs.declared.Millis.{Millis}
@@ -16,7 +17,7 @@ use Rattle.executive.specs.Entries.{risen, dueAt}
 use Rattle.executive.specs.Plans.{endWaiter, waking, raising, restartBy, restartPlan}
 use Rattle.executive.specs.Pool.{requests}
 use Rattle.executive.specs.Places.{Names, taskAt, putAt}
-use Rattle.executive.specs.Table.{line, headOf, leaves}
+use Rattle.executive.specs.Table.{line, headOf, leaves, departed, depart}
 use Rattle.executive.specs.States.{ready}
 use Rattle.executive.specs.Clock.{aimAt}
 use Rattle.executive.proofs.Plans.WorkingForm.{EntriesOk, WellFormedByPart, busy-own}
@@ -25,7 +26,7 @@ use Rattle.executive.proofs.clock.Interval.{aim-most}
 use Rattle.executive.proofs.places.TaskAt.{at-same, put-length}
 use Rattle.executive.proofs.Plans.LinksKept.{put-all, links-up, up-links}
 use Rattle.executive.proofs.Plans.Links.{alike, release}
-use Rattle.executive.proofs.Plans.GoodIsKept.{puts, Good}
+use Rattle.executive.proofs.Plans.GoodIsKept.{puts, Good, apply-kept}
 use Rattle.executive.proofs.Plans.Shared.{EntryOkIn, ready-own, runs, Woken, ender-in, joins-append, puts-append, wake-other, wake-length, inside}
 
 module _ (t : Table) (w : WellFormedByPart t) (h : 0 < t .ready) where
@@ -113,3 +114,14 @@ module _ (t : Table) (w : WellFormedByPart t) (h : 0 < t .ready) where
           by : (b : Bool) → leb (aim .0) now ≡ b → Good (record { out = leaves (dueAt aim); ins = waking (endWaiter t c) ++ cond b (raising c ∷ []) []; rest = restartBy t c aim .rest }) t
           by true z = now-good aim (leb-true (aim .0) now z)
           by false z = later-good aim far (leb-false (aim .0) now z)
+
+  -- there is room, whatever the time aimed at: for the one that enters at once there is, and no other lets more enter
+  pub restart-room : (p n : ℕ) → depart (restartPlan t p n .out) t .ready + length (restartPlan t p n .ins) ≤ 16
+  unfolding restartPlan depart departed
+  restart-room p n =
+      let a : Millis = aimAt (e .start) (t .rest .clock) p n in
+      omega (arith, apply-kept _ t w (now-good (t .rest .clock) (omega arith)) .size, no-more (leb (a .0) now))
+    where
+      no-more : (b : Bool) → length (waking (endWaiter t c) ++ cond b (raising c ∷ []) []) ≤ length (waking (endWaiter t c) ++ (raising c ∷ []))
+      no-more true = omega arith
+      no-more false = omega (arith, length-append (waking (endWaiter t c)) [], length-append (waking (endWaiter t c)) (raising c ∷ []))

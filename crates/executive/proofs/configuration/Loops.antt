@@ -1,16 +1,20 @@
 -- Laws of a configuration's bytes: what the loops over its tasks come to.
 use Prim.Native.Nat.{ℕ, zero, suc, _+_, _-_, _≤_, _<_}
 use mathlib.Core.Path.{_≡_, refl, ap, sym, _∙_}
+use mathlib.Core.Bool.{Bool, true, false, cond}
 use mathlib.Core.List.{List, [], _∷_, _++_, append-assoc, append-nil}
 use native.Mathlib.Omega.{arith}
 use borrow.Author.Tests.{eq-eqb, ne-eqb}
+use lib.Dec.{eqb}
 use lib.ListN.{length, getD, set}
 use Rattle.executive.specs.declared.Task.{Task}
 use Rattle.executive.specs.declared.Work.{Work}
-use Rattle.executive.specs.Places.{noTask}
+use Rattle.executive.specs.declared.AwaitedMoment.the-variants.{ForNothing}
+use Rattle.executive.specs.Places.{nobody, never, noTask}
+use Rattle.executive.specs.Plans.{asks, begins}
 use Rattle.executive.specs.Lists.{pad}
 use Rattle.executive.specs.Table.{ArraysInOrder, Join, enterAllInFlight}
-use Rattle.executive.specs.Configuration.{placeIn, ownIn, tasksFrom, withTasks, blankRest, dormantAt, sleepers, markedStart, starters}
+use Rattle.executive.specs.Configuration.{placeIn, ownIn, markIn, tasksFrom, withTasks, blankRest, dormantAt, sleepers, markedStart, starters}
 use Rattle.executive.proofs.Lists.Pad.{pad-more, length-pad}
 use Rattle.executive.proofs.queue.InFlight.{admits-append}
 
@@ -70,6 +74,14 @@ module _ (s : List ℕ) where
   starters-more (suc n) k =
       let z : k + suc n ≡ suc k + n = omega arith in
       rw z (ap (λ (l : List Join). markedStart s k ++ l) (starters-more n (suc k)) ∙ sym (append-assoc (markedStart s k) (starters s n (suc k)) (markedStart s (suc k + n))))
+
+  pub marked-short : (k : ℕ) → length (markedStart s k) ≤ 1
+  unfolding markedStart
+  marked-short k = go (eqb (markIn s k) 1)
+    where
+      go : (b : Bool) → length (cond b (begins (record { 0 = k }) (asks nobody ForNothing (record { 0 = k }) (ownIn s k) 0) never ∷ []) []) ≤ 1
+      go true = omega arith
+      go false = omega arith
 
   pub start-more : (n : ℕ) (w : Work) → enterAllInFlight (markedStart s (n + 1)) (enterAllInFlight (starters s n 1) w) ≡ enterAllInFlight (starters s (n + 1) 1) w
   start-more n w =

@@ -21,7 +21,7 @@ use Rattle.executive.specs.Configuration.{granuleIn, ownIn, markIn, task
 use Rattle.executive.specs.Promises.FreshLaw.{Entry, Configuration, startedAt, entryOf, marked, SaidOut}
 use Rattle.executive.proofs.queue.InFlight.{admits-rest}
 use Rattle.executive.proofs.Plans.Moves.{apply-view}
-use Rattle.executive.proofs.Plans.GoodIsKept.{puts}
+use Rattle.executive.proofs.Plans.GoodIsKept.{plan-in-flight, puts}
 use Rattle.executive.proofs.step.OthersStay.{plan-tasks}
 use Rattle.executive.proofs.configuration.Shape.{configured}
 use Rattle.executive.proofs.configuration.Exactly.{entriesIn, entries-back, tested}
@@ -86,7 +86,7 @@ module _ (s : List ℕ) where
     n = tasksIn s
 
     is-plan : freshTable s ≡ apply (startsPlan s) (dormantTable s)
-    is-plan = fresh-is s ∙ starts-kept s b (tested s c) .table
+    is-plan = fresh-is s ∙ plan-in-flight (startsPlan s) (dormantTable s)
 
     tasks-are : freshTable s .tasks ≡ pad 16 noTask (map entryOf (entriesIn s n 1))
     unfolding dormantTable

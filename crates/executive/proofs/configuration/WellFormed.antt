@@ -13,7 +13,7 @@ use Rattle.executive.specs.declared.Work.{Work}
 use Rattle.executive.specs.Lists.{one, pad, sumOf}
 use Rattle.executive.specs.Queue.{count}
 use Rattle.executive.specs.Places.{nobody, never, noTask, Names, taskAt, putAt}
-use Rattle.executive.specs.Table.{items, stays, Join, Plan, depart, apply, begin, enterAllInFlight, applyInFlight}
+use Rattle.executive.specs.Table.{items, stays, Join, Plan, FindsRoom, depart, apply, begin, enterAllInFlight, applyInFlight}
 use Rattle.executive.specs.States.{dormant, ready, awaitStart, awaitEnd, is}
 use Rattle.executive.specs.Plans.{asks, begins}
 use Rattle.executive.specs.WellFormed.{WellFormed, runsOf, Line}
@@ -29,7 +29,7 @@ use Rattle.executive.proofs.Plans.QueueKept.{not-both}
 use Rattle.executive.proofs.Plans.LinksKept.{put-all, LinksUpTo, links-up, up-links}
 use Rattle.executive.proofs.Plans.Links as links
 use Rattle.executive.proofs.Plans.WorkingForm.{EntryOk, blank-own, busy-own, LinksOk, RestOk, WellFormedByPart, formed, well-formed}
-use Rattle.executive.proofs.Plans.GoodIsKept.{puts, Good, GoodOutcome, apply-kept}
+use Rattle.executive.proofs.Plans.GoodIsKept.{puts, Good, GoodOutcome, plan-in-flight, apply-kept}
 use Rattle.executive.proofs.Plans.Rising.{Done, differ}
 use Rattle.executive.proofs.configuration.Loops.{dormant-fit}
 use Rattle.executive.proofs.configuration.Shape.{Configured, configured}
@@ -187,11 +187,11 @@ fresh-is s = ap (λ (w : Work). w .table) (sym (starts-are s))
 
 pub fresh-formed : (s : List ℕ) → Bytes s → isConfiguration s ≡ true → WellFormed (freshTable s)
 fresh-formed s b e =
-    let k = starts-kept s b e in
-    rw (fresh-is s ∙ k .table) (well-formed (apply (startsPlan s) (dormantTable s)) (k .formed))
+    rw (fresh-is s ∙ plan-in-flight (startsPlan s) (dormantTable s)) (well-formed (apply (startsPlan s) (dormantTable s)) (starts-kept s b e .formed))
 
-pub fresh-room : (s : List ℕ) → Bytes s → isConfiguration s ≡ true → enterAllInFlight (starters s (tasksIn s) 1) (begin (dormantTable s)) .full ≡ false
-fresh-room s b e = rw (← starts-are s) (starts-kept s b e .never-full)
+pub fresh-room : (s : List ℕ) → Bytes s → isConfiguration s ≡ true → FindsRoom (starters s (tasksIn s) 1) (dormantTable s)
+unfolding depart
+fresh-room s b e = starts-kept s b e .room
 
 pub fresh-clock : (s : List ℕ) → freshTable s .rest .clock .0 ≡ 0
 unfolding freshTable dormantTable

@@ -6,7 +6,6 @@ use mathlib.Core.List.{List}
 use borrow.Author.Tests.{eqb-true, eqb-false}
 use lib.Dec.{eqb}
 use Rattle.records.specs.declared.Call.{Call}
-use Rattle.records.specs.Numbers.{Bytes}
 use Rattle.executive.specs.declared.Table.{Table}
 use Rattle.executive.specs.declared.Marks.{Marks}
 use Rattle.executive.specs.declared.decisions.Decision.{Decision}
@@ -19,25 +18,21 @@ use Rattle.executive.specs.Refusals.{callIn}
 use Rattle.executive.specs.Deciding.{decisionFor}
 use Rattle.executive.specs.Step.{answerOf, accepted, refused, stepOf}
 use Rattle.executive.specs.Promises.ByDecision.{done, enacted, AlikeButQueue, ByDecision}
-use Rattle.executive.proofs.refusals.NothingRefuses.{clear-of}
-use Rattle.executive.proofs.Plans.WorkingForm.{formed}
-use Rattle.executive.proofs.Plans.GoodIsKept.{GoodOutcome, apply-kept}
+use Rattle.executive.proofs.Plans.GoodIsKept.{plan-in-flight}
 use Rattle.executive.proofs.decisions.DeedIsPlan.{means}
-use Rattle.executive.proofs.step.StepIsPlan.{call-good, call-in-range}
-use Rattle.executive.proofs.step.CodeIsStep.{step-queue, not-refused}
+use Rattle.executive.proofs.step.CodeIsStep.{step-queue, none-refuses}
 use Rattle.executive.proofs.step.ByDecision.{Accepts, Follows, follows}
 
-module _ (t : Table) (s : List ℕ) (b : Bytes s) where
+module _ (t : Table) (s : List ℕ) where
   accept : (d : Decision) → Accepts t s d → done t d ≡ stepOf t s
   unfolding done accepted
   accept d a =
       let c : Call = callIn s in
-      let k : GoodOutcome (planOf t c) t = apply-kept (planOf t c) t (formed (a .formed)) (call-good t c (formed (a .formed)) (call-in-range s b) (clear-of t c (a .early))) in
       let p : meant (d .deed) t ≡ planOf t c = ap (λ (x : Decision). meant (x .deed) t) (a .said) ∙ means t c in
-      let q : apply (meant (d .deed) t) t ≡ applyInFlight (planOf t c) t .table = ap (λ (x : Plan). apply x t) p ∙ sym (k .table) in
+      let q : apply (meant (d .deed) t) t ≡ applyInFlight (planOf t c) t .table = ap (λ (x : Plan). apply x t) p ∙ sym (plan-in-flight (planOf t c) t) in
       let m : d .marks ≡ marksOf t c = ap (λ (x : Decision). x .marks) (a .said) in
       let e : done t d ≡ accepted t c = λ i. record { answer = answerOf 0 (m i) (q i); table = q i } in
-      e ∙ not-refused t c (a .early) (k .never-full) ∙ a .step
+      e ∙ none-refuses t c (a .early) ∙ a .step
 
   enact : (d : Decision) → Follows t s d → stepOf t s ≡ enacted t d
   unfolding enacted

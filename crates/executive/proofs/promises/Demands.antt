@@ -28,7 +28,7 @@ use Rattle.executive.specs.Clock.{aimAt}
 use Rattle.executive.specs.Plans.{caller, endWaiter, waking, terminatePlan, restartPlan}
 use Rattle.executive.specs.WellFormed.{WellFormed}
 use Rattle.executive.specs.Sheet.{planOf}
-use Rattle.executive.specs.Refusals.{callIn, refusals, refusalBefore11}
+use Rattle.executive.specs.Refusals.{callIn, callRefusals, refusals}
 use Rattle.executive.specs.Step.{stepOf}
 use Rattle.executive.specs.Promises.Demands.{planOfRecord, after, history, AllBytes, IsReady, Dispatched, NotYet, Overtaking, departedOf, enteredOf, Restarts, RestartsBy, Demands}
 use Rattle.executive.proofs.Lists.Tests.{eqb-self, not-zero}
@@ -40,11 +40,10 @@ use Rattle.executive.proofs.Plans.QueueKept.{is-le}
 use Rattle.executive.proofs.Plans.LinksKept.{links-up}
 use Rattle.executive.proofs.Plans.Links.{take, place-target}
 use Rattle.executive.proofs.Plans.Shared.{runs}
-use Rattle.executive.proofs.refusals.NothingRefuses.{early, end-owed, restart-owed}
+use Rattle.executive.proofs.refusals.NothingRefuses.{end-owed, restart-owed}
 use Rattle.executive.proofs.step.StepIsPlan.{call-allowed, step-is, step-kept}
 use Rattle.executive.proofs.step.FirstThatHolds.{number-decided, unformed, order, allowed, allowed-formed, refusal-keeps, answers-active}
 use Rattle.executive.proofs.step.InWords.{given}
-use Rattle.executive.proofs.step.NeverEleven.{never-eleven}
 use Rattle.executive.proofs.check.Decides.{well-formed-iff, checked-once}
 use Rattle.executive.proofs.states.Laws.{ready-named, ready-kind}
 use Rattle.executive.proofs.step.Dispatched.{prio-is, dispatches}
@@ -194,8 +193,8 @@ module _ (t : Table) (w : WellFormed t) (h : 0 < t .ready) where
 
 -- ---- the same in the history of an accepted record: its plan is its call's
 module _ (t : Table) (s : List ℕ) (e : stepOf t s .answer .number ≡ 0) where
-  nothing-early : refusalBefore11 t (callIn s) ≡ 0
-  nothing-early = early t (callIn s) (call-allowed t s (allowed t s e))
+  unrefused : firstOf (callRefusals t (callIn s)) ≡ 0
+  unrefused = call-allowed t s (allowed t s e)
 
   planned-so : planOfRecord t s ≡ planOf t (callIn s)
   unfolding planOfRecord
@@ -214,14 +213,14 @@ unfolding planOf readOf readAs kindOf
 restarts-by t p n e l =
     let s : List ℕ = 0x01 ∷ p ∷ n ∷ [] in
     let w : WellFormed t = allowed-formed t s e in
-    restarted t s e (restarts t w (restart-owed t w p n (nothing-early t s e) .1) p n l)
+    restarted t s e (restarts t w (restart-owed t w p n (unrefused t s e) .1) p n l)
 
 pub begins-again-by : (t : Table) → stepOf t (0x00 ∷ []) .answer .number ≡ 0
     → placeOf (caller t .0) (requests (t .rest)) < length (requests (t .rest)) → RestartsBy (0x00 ∷ []) t
 unfolding planOf readOf readAs kindOf
 begins-again-by t e l =
     let w : WellFormed t = allowed-formed t (0x00 ∷ []) e in
-    restarted t (0x00 ∷ []) e (begins-again t w (end-owed t w (nothing-early t (0x00 ∷ []) e) .1) l)
+    restarted t (0x00 ∷ []) e (begins-again t w (end-owed t w (unrefused t (0x00 ∷ []) e) .1) l)
 
 -- ---- all of them
 pub demands : Demands
@@ -231,9 +230,9 @@ demands = record {
   given = given;
   unformed = unformed;
   order = order;
-  never-eleven = never-eleven;
   kept = kept;
   executed = executed;
+  room = λ t s w b. step-is t s w b .kept .room;
   dispatched = dispatched;
   overtaking = overtaking;
   accounted = accounted;

@@ -29,7 +29,7 @@ use Rattle.executive.specs.Plans.{caller, endWaiter, waking, restartPlan
 use Rattle.executive.specs.WellFormed.{WellFormed}
 use Rattle.executive.specs.Check.{isWellFormed, allButQueue, numbersRight, falls, exactAt, queueRight, timesRight, startedRight, masksRight, busyRight, waitersAt, waitersRight, dormantRight, poolRight}
 use Rattle.executive.specs.Sheet.{planOf, marksOf, marks}
-use Rattle.executive.specs.Refusals.{nobodyActive, badBody, namesCaller, alarmRunning, poolFull, endsTime, overfills, refusals, callIn}
+use Rattle.executive.specs.Refusals.{nobodyActive, badBody, namesCaller, alarmRunning, poolFull, endsTime, refusals, callIn}
 use Rattle.executive.specs.Step.{accepted, refused, outcomeOf, stepOf, noTable, answerOf, hasV}
 use Rattle.executive.specs.Promises.Demands.{planOfRecord, after}
 use Rattle.executive.specs.Promises.Skipping.{NextOnGrid, Skip, DueNext, Skips, Skipping}
@@ -41,7 +41,7 @@ use Rattle.executive.proofs.Plans.GoodIsKept.{puts, joins-tasks}
 use Rattle.executive.proofs.Plans.Shared.{puts-append}
 use Rattle.executive.proofs.Plans.Restart.{still}
 use Rattle.executive.proofs.refusals.NothingRefuses.{Clear}
-use Rattle.executive.proofs.step.StepIsPlan.{never-full, step-is}
+use Rattle.executive.proofs.step.StepIsPlan.{step-is}
 use Rattle.executive.proofs.step.FirstThatHolds.{number-is}
 use Rattle.executive.specs.Configuration.{tasksFrom, tasksIn, configurationIn, taskRight, isConfiguration, sleepers, dormantTable, markedStart, starters, freshTable, freshOf}
 use Rattle.executive.specs.Pool.{placeOf}
@@ -137,7 +137,7 @@ module _ (t : Table) (p n : ℕ) (w : WellFormed t) (h : 0 < t .ready) (hp : p <
 
   allowed : firstOf (refusals t bytes) ≡ 0
   unfolding refusals firstOf readOf readAs kindOf nobodyActive badBody namesCaller alarmRunning poolFull endsTime
-  allowed = rw (well-formed-iff t .1 w, clear .active, clear .body, never-full t (call.Restart p n) w (hp, (hn, tt)) clear) refl
+  allowed = rw (well-formed-iff t .1 w, clear .active, clear .body) refl
 
   planOfCall : planOfRecord t bytes ≡ restartPlan t p n
   unfolding planOfRecord planOf readOf readAs kindOf
@@ -224,7 +224,7 @@ elsewhere t s z =
     marks-skip t s (number-is t (firstOf (refusals t s)) (callIn s) ∙ o .0) (callIn s) refl (o .1)
 
 pub skipping : Skipping
-unfolding tasksFrom tasksIn configurationIn kindOf readAs readOf behind pad taskAt putAt enterAt departed entered depart enterInFlight enterAllInFlight applyInFlight interval aimAt placeOf isSet each rung advanced waking terminatePlan restartPlan pausePlan cancelPausePlan priorityOf waitOf argumentOf startNowPlan queueRequestPlan startIfDormantPlan requestOf startOrQueuePlan rises risers setPlan resetPlan flagPlan waitPlan alarmPlan tickPlan upTo allOf sumOf numbersRight falls exactAt queueRight timesRight startedRight masksRight busyRight waitersAt waitersRight dormantRight poolRight allButQueue isWellFormed planOf nobodyActive badBody namesCaller alarmRunning poolFull endsTime overfills refusals firstOf marksOf accepted refused stepOf taskRight isConfiguration sleepers dormantTable markedStart starters freshTable freshOf after missed nextOnGrid skippedOf
+unfolding tasksFrom tasksIn configurationIn kindOf readAs readOf behind pad taskAt putAt enterAt departed entered depart enterInFlight enterAllInFlight applyInFlight interval aimAt placeOf isSet each rung advanced waking terminatePlan restartPlan pausePlan cancelPausePlan priorityOf waitOf argumentOf startNowPlan queueRequestPlan startIfDormantPlan requestOf startOrQueuePlan rises risers setPlan resetPlan flagPlan waitPlan alarmPlan tickPlan upTo allOf sumOf numbersRight falls exactAt queueRight timesRight startedRight masksRight busyRight waitersAt waitersRight dormantRight poolRight allButQueue isWellFormed planOf nobodyActive badBody namesCaller alarmRunning poolFull endsTime refusals firstOf marksOf accepted refused stepOf taskRight isConfiguration sleepers dormantTable markedStart starters freshTable freshOf after missed nextOnGrid skippedOf
 skipping = record {
   next = next;
   only = only;

@@ -13,14 +13,14 @@ use Rattle.executive.specs.Flags.{isSet}
 use Rattle.executive.specs.Plans.{waking, terminatePlan, restartPlan, pausePlan, cancelPausePlan, priorityOf, waitOf, argumentOf, startNowPlan, queueRequestPlan, startIfDormantPlan, requestOf, startOrQueuePlan, rises, risers, setPlan, resetPlan, flagPlan, waitPlan, alarmPlan, tickPlan}
 use Rattle.executive.specs.Check.{allButQueue, numbersRight, falls, exactAt, queueRight, timesRight, startedRight, masksRight, busyRight, waitersAt, waitersRight, dormantRight, poolRight, isWellFormed}
 use Rattle.executive.specs.Sheet.{planOf, marksOf}
-use Rattle.executive.specs.Refusals.{nobodyActive, badBody, namesCaller, alarmRunning, poolFull, endsTime, overfills, refusals}
+use Rattle.executive.specs.Refusals.{nobodyActive, badBody, namesCaller, alarmRunning, poolFull, endsTime, refusals}
 use Rattle.executive.specs.Step.{accepted, refused, stepOf}
 use Rattle.executive.specs.Configuration.{tasksFrom, tasksIn, configurationIn, taskRight, isConfiguration, sleepers, dormantTable, markedStart, starters, freshTable, freshOf}
 use Rattle.executive.specs.Promises.Demands.{planOfRecord, history}
 use Rattle.executive.specs.Promises.Worked.{along, Worked}
 
 pub worked : Worked
-unfolding tasksFrom tasksIn configurationIn kindOf readAs readOf behind insert count ahead prioIn activeOf departures above entriesAbove pad taskAt putAt items enterAt departed entered depart join joins apply enterInFlight enterAllInFlight applyInFlight entries movesOf interval aimAt placeOf isSet each rung advanced waking terminatePlan restartPlan pausePlan cancelPausePlan priorityOf waitOf argumentOf startNowPlan queueRequestPlan startIfDormantPlan requestOf startOrQueuePlan rises risers setPlan resetPlan flagPlan waitPlan alarmPlan tickPlan upTo allOf sumOf numbersRight falls exactAt queueRight timesRight startedRight masksRight busyRight waitersAt waitersRight dormantRight poolRight allButQueue isWellFormed planOf nobodyActive badBody namesCaller alarmRunning poolFull endsTime overfills refusals firstOf marksOf accepted refused stepOf taskRight isConfiguration sleepers dormantTable markedStart starters freshTable freshOf planOfRecord history along
+unfolding tasksFrom tasksIn configurationIn kindOf readAs readOf behind insert count ahead prioIn activeOf departures above entriesAbove pad taskAt putAt items enterAt departed entered depart join joins apply enterInFlight enterAllInFlight applyInFlight entries movesOf interval aimAt placeOf isSet each rung advanced waking terminatePlan restartPlan pausePlan cancelPausePlan priorityOf waitOf argumentOf startNowPlan queueRequestPlan startIfDormantPlan requestOf startOrQueuePlan rises risers setPlan resetPlan flagPlan waitPlan alarmPlan tickPlan upTo allOf sumOf numbersRight falls exactAt queueRight timesRight startedRight masksRight busyRight waitersAt waitersRight dormantRight poolRight allButQueue isWellFormed planOf nobodyActive badBody namesCaller alarmRunning poolFull endsTime refusals firstOf marksOf accepted refused stepOf taskRight isConfiguration sleepers dormantTable markedStart starters freshTable freshOf planOfRecord history along
 worked = record {
   started = refl;
   well-formed = refl;

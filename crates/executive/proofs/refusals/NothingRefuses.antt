@@ -1,8 +1,8 @@
 -- A call that nothing refuses has what its decision asks.
 use Prim.Native.Nat.{ℕ, _+_, _≤_, _<_, _^_}
 use mathlib.Core.Path.{_≡_, refl, sym}
-use mathlib.Core.Bool.{Bool, true, false, cond, _||_}
-use mathlib.Core.List.{List, [], _∷_}
+use mathlib.Core.Bool.{Bool, true, false, _||_}
+use mathlib.Core.List.{List, _∷_}
 use native.Mathlib.Omega.{arith}
 use borrow.Author.Tests.{ltb-false, leb-false, eqb-false}
 use lib.Dec.{ltb}
@@ -17,7 +17,7 @@ use Rattle.executive.specs.Table.{ArraysInOrder, TimesInOrder}
 use Rattle.executive.specs.States.{isDormant}
 use Rattle.executive.specs.Plans.{stateAt}
 use Rattle.executive.specs.WellFormed.{WellFormed, Times}
-use Rattle.executive.specs.Refusals.{isTick, nobodyActive, badBody, namesCaller, alarmRunning, poolFull, endsTime, callRefusals, butLast, refusalBefore11}
+use Rattle.executive.specs.Refusals.{isTick, nobodyActive, badBody, namesCaller, alarmRunning, poolFull, endsTime, callRefusals}
 use Rattle.executive.proofs.Lists.Tests.{false-not-true}
 use Rattle.executive.proofs.calls.InOrder.{fit-of, standing-of}
 
@@ -27,22 +27,7 @@ unfolding firstOf
 first-none n true rs h e = absurd (omega arith)
 first-none n false rs h e = (refl, e)
 
-under : (b : Bool) (n : ℕ) {l m : ℕ} → (l ≡ 0 → m ≡ 0) → cond b n l ≡ 0 → cond b n m ≡ 0
-under true n f e = e
-under false n f e = f e
-
--- of a list that gives no number, no front part gives one
-but-last : (rs : List Refusal) → firstOf rs ≡ 0 → firstOf (butLast rs) ≡ 0
-unfolding firstOf
-but-last [] e = refl
-but-last (r ∷ []) e = refl
-but-last (r ∷ s ∷ rs) e = under (r .given) (r .number) (but-last (s ∷ rs)) e
-
-pub early : (t : Table) (c : Call) → firstOf (callRefusals t c) ≡ 0 → refusalBefore11 t c ≡ 0
-unfolding refusalBefore11
-early t c e = but-last (callRefusals t c) e
-
--- none of what can be refused of a call holds, but for number 11, which need not be said
+-- none of what can be refused of a call holds
 pub record Clear (t : Table) (c : Call) : Type 0 where
   pub active : nobodyActive t c ≡ false
   pub body : badBody t c ≡ false
@@ -50,8 +35,7 @@ pub record Clear (t : Table) (c : Call) : Type 0 where
   pub room : poolFull t c ≡ false
   pub time : endsTime t c ≡ false
 
-pub clear-of : (t : Table) (c : Call) → refusalBefore11 t c ≡ 0 → Clear t c
-unfolding refusalBefore11
+pub clear-of : (t : Table) (c : Call) → firstOf (callRefusals t c) ≡ 0 → Clear t c
 clear-of t c h =
     let a = first-none 5 (nobodyActive t c) _ (omega arith) h in
     let b = first-none 6 (badBody t c) _ (omega arith) (a .1) in
@@ -72,25 +56,25 @@ alarm-low t u n f h = let l = ltb-false 31 (f .0) (or-none (ltb lastUnit u) (ltb
 
 -- ---- what each method asks
 module _ (t : Table) (w : WellFormed t) where
-  active : (c : Call) → isTick t c ≡ false → refusalBefore11 t c ≡ 0 → 0 < t .ready
+  active : (c : Call) → isTick t c ≡ false → firstOf (callRefusals t c) ≡ 0 → 0 < t .ready
   unfolding nobodyActive
   active c n h = let z = eqb-false (t .ready) 0 (rw n at (clear-of t c h .active)) in omega arith
 
-  pub end-owed : refusalBefore11 t call.Terminate ≡ 0 → ArraysInOrder t × (0 < t .ready)
+  pub end-owed : firstOf (callRefusals t call.Terminate) ≡ 0 → ArraysInOrder t × (0 < t .ready)
   end-owed h = (fit-of t w, active call.Terminate refl h)
 
-  pub restart-owed : (p n : ℕ) → refusalBefore11 t (call.Restart p n) ≡ 0 → TimesInOrder t × (0 < t .ready)
+  pub restart-owed : (p n : ℕ) → firstOf (callRefusals t (call.Restart p n)) ≡ 0 → TimesInOrder t × (0 < t .ready)
   restart-owed p n h = (standing-of t w, active (call.Restart p n) refl h)
 
-  pub ask-owed : (o : ℕ) (k : TaskNo) (a : ℕ) → refusalBefore11 t (call.StartOrQueue o k a) ≡ 0
+  pub ask-owed : (o : ℕ) (k : TaskNo) (a : ℕ) → firstOf (callRefusals t (call.StartOrQueue o k a)) ≡ 0
       → ArraysInOrder t × (0 < t .ready) × (isDormant (stateAt t k) ≡ false → t .rest .queued < 32)
   unfolding poolFull
   ask-owed o k a h = (fit-of t w, active (call.StartOrQueue o k a) refl h, λ d. leb-false 32 (t .rest .queued) (rw d at (clear-of t (call.StartOrQueue o k a) h .room)))
 
-  pub alarm-owed : (u n : ℕ) (f : FlagNo) → refusalBefore11 t (call.Alarm u n f) ≡ 0 → f .0 < 32
+  pub alarm-owed : (u n : ℕ) (f : FlagNo) → firstOf (callRefusals t (call.Alarm u n f)) ≡ 0 → f .0 < 32
   alarm-owed u n f h = alarm-low t u n f (clear-of t (call.Alarm u n f) h .body)
 
-  pub tick-owed : refusalBefore11 t call.Tick ≡ 0 → ArraysInOrder t × (t .rest .clock .0 + t .rest .granule ≤ 2 ^ 40)
+  pub tick-owed : firstOf (callRefusals t call.Tick) ≡ 0 → ArraysInOrder t × (t .rest .clock .0 + t .rest .granule ≤ 2 ^ 40)
   unfolding endsTime
   tick-owed h = (fit-of t w, ltb-false (2 ^ 40) (t .rest .clock .0 + t .rest .granule) (clear-of t call.Tick h .time))
 

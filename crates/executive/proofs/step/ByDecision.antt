@@ -8,6 +8,7 @@ use native.Mathlib.Omega.{arith}
 use borrow.Author.Tests.{eqb-true, eqb-false}
 use lib.Dec.{eqb}
 use lib.ListN.{length}
+use Rattle.records.specs.Firsts.{firstOf}
 use Rattle.records.specs.Kinds.{lengthOf, isCall}
 use Rattle.executive.specs.declared.Table.{Table}
 use Rattle.executive.specs.declared.decisions.Decision.{Decision}
@@ -18,13 +19,13 @@ use Rattle.executive.specs.WellFormed.{WellFormed}
 use Rattle.executive.specs.Check.{queueRight, allButQueue, isWellFormed}
 use Rattle.executive.specs.Decisions.{refusing, doing}
 use Rattle.executive.specs.Sheet.{ruleOf, decisionOf, marksOf}
-use Rattle.executive.specs.Refusals.{kindOfRecord, callIn, refusalBefore11}
+use Rattle.executive.specs.Refusals.{kindOfRecord, callIn, callRefusals}
 use Rattle.executive.specs.Deciding.{callerRight, decisionIn, decisionFor}
 use Rattle.executive.specs.Step.{refused, performed, stepOf}
 use Rattle.executive.proofs.check.Decides.{well-formed-iff}
 use Rattle.executive.proofs.Plans.WorkingForm.{formed}
 use Rattle.executive.proofs.step.Dispatched.{dispatches}
-use Rattle.executive.proofs.step.CodeIsStep.{refused-early, step-ill, step-empty, step-no-call, step-short, step-whole}
+use Rattle.executive.proofs.step.CodeIsStep.{first-refuses, step-ill, step-empty, step-no-call, step-short, step-whole}
 use Rattle.executive.proofs.decisions.OfBytes.{for-right, for-broken}
 use Rattle.executive.proofs.decisions.CanBeDone.{decision-number, decision-done}
 
@@ -32,7 +33,7 @@ module _ (t : Table) (s : List ℕ) where
   -- a decision that accepts: the table is well formed, nothing refuses the call, and the decision is the sheet's
   pub record Accepts (d : Decision) : Type 0 where
     pub formed : WellFormed t
-    pub early : refusalBefore11 t (callIn s) ≡ 0
+    pub early : firstOf (callRefusals t (callIn s)) ≡ 0
     pub said : d ≡ doing (marksOf t (callIn s)) (ruleOf t (callIn s) .deed)
     pub step : performed t (callIn s) ≡ stepOf t s
 
@@ -46,9 +47,9 @@ module _ (t : Table) (s : List ℕ) where
 
   call-so : WellFormed t → performed t (callIn s) ≡ stepOf t s → Follows (decisionOf (t .tasks) (t .rest) (caller t) (callIn s))
   call-so w e = record {
-    refuses = λ z. refused-early t (callIn s) _ (decision-number t w (callIn s)) z ∙ e;
+    refuses = λ z. first-refuses t (callIn s) _ (decision-number t w (callIn s)) z ∙ e;
     accepts = λ z.
-        let y : refusalBefore11 t (callIn s) ≡ 0 = sym (decision-number t w (callIn s)) ∙ z in
+        let y : firstOf (callRefusals t (callIn s)) ≡ 0 = sym (decision-number t w (callIn s)) ∙ z in
         record { formed = w; early = y; said = decision-done t w (callIn s) y; step = e };
   }
 

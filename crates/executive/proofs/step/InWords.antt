@@ -23,12 +23,11 @@ use Rattle.executive.specs.declared.Table.{Table}
 use Rattle.executive.specs.Lists.{_and_}
 use Rattle.executive.specs.Numbers.{mostQueued, endOfTime}
 use Rattle.executive.specs.Places.{never}
-use Rattle.executive.specs.Table.{applyInFlight}
 use Rattle.executive.specs.Plans.{caller, stateAt}
 use Rattle.executive.specs.States.{isDormant}
 use Rattle.executive.specs.Check.{isWellFormed}
-use Rattle.executive.specs.Sheet.{noSuchTask, planOf}
-use Rattle.executive.specs.Refusals.{kindOfRecord, callIn, isTick, nobodyActive, badBody, namesCaller, alarmRunning, poolFull, endsTime, overfills, refusals}
+use Rattle.executive.specs.Sheet.{noSuchTask}
+use Rattle.executive.specs.Refusals.{kindOfRecord, callIn, isTick, nobodyActive, badBody, namesCaller, alarmRunning, poolFull, endsTime, refusals}
 use Rattle.executive.specs.Step.{stepOf}
 use Rattle.executive.specs.Promises.InWords.{Bit, NoCall, NoTask, BadBody, NamesCaller, AlarmRunning, PoolFull, Case, cases, First, Given}
 use Rattle.executive.proofs.Lists.Tests.{false-not-true}
@@ -238,10 +237,6 @@ module _ (t : Table) where
     unfolding endsTime
     says-late = (tells c .late, λ x. rw (x .0) (late-said .1 (x .1)))
 
-    says-overfull : Says (overfills t c) (applyInFlight (planOf t c) t .full ≡ true)
-    unfolding overfills
-    says-overfull = (λ e. e, λ e. e)
-
 -- ---- the list: the same numbers, and each test says its sentence
 abbrev Matches : List Refusal → List Case → Type 0
 Matches [] [] = Unit {0}
@@ -276,7 +271,7 @@ matches t s =
           (
             refl,
             says-not _ (says-eq (length s) (lengthOf (kindOfRecord s))),
-            (refl, says-idle t c, (refl, says-bad t c, (refl, says-caller t c, (refl, says-running t c, (refl, says-full t c, (refl, says-late t c, (refl, says-overfull t c, tt))))))),
+            (refl, says-idle t c, (refl, says-bad t c, (refl, says-caller t c, (refl, says-running t c, (refl, says-full t c, (refl, says-late t c, tt)))))),
           ),
         ),
       ),

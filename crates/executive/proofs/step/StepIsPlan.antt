@@ -1,13 +1,15 @@
 -- The step is its plan, and the plan is good: for a call that was read, and for a record's bytes.
 use mathlib.Core.Path.{_≡_, refl, sym, ap, _∙_}
 use mathlib.Core.Bool.{Bool, true, false, not, cond}
-use mathlib.Core.List.{List}
-use Prim.Native.Nat.{ℕ, _/_, _%_, _≤_, _<_}
+use mathlib.Core.List.{List, []}
+use Prim.Native.Nat.{ℕ, _+_, _/_, _%_, _≤_, _<_}
 use native.Mathlib.Omega.{arith}
 use borrow.Author.Tests.{eqb-true, eqb-false, ltb-false, leb-false}
 use lib.Dec.{leb, ltb, eqb}
+use lib.ListN.{length}
 use Rattle.records.specs.Firsts.{firstOf}
 use Rattle.records.specs.declared.TaskNo.{TaskNo}
+use Rattle.records.specs.declared.FlagNo.{FlagNo}
 use Rattle.records.specs.declared.Call.{Call}
 use Rattle.records.specs.declared.Call.the-variants as call
 use Rattle.records.specs.declared.Got.{Got}
@@ -20,26 +22,27 @@ use Rattle.executive.specs.Numbers.{lastUnit}
 use Rattle.executive.specs.declared.Table.{Table}
 use Rattle.executive.specs.declared.Outcome.{Outcome}
 use Rattle.executive.specs.Lists.{_and_}
-use Rattle.executive.specs.Table.{Plan, depart, joins, apply}
+use Rattle.executive.specs.Table.{Out, Join, Plan, depart, joins, apply}
 use Rattle.executive.specs.States.{isDormant}
-use Rattle.executive.specs.Plans.{stateAt, nothing}
+use Rattle.executive.specs.Plans.{stateAt, nothing, pausePlan, alarmPlan}
 use Rattle.executive.specs.WellFormed.{WellFormed}
 use Rattle.executive.specs.Sheet.{planOf, noSuchTask, marks}
-use Rattle.executive.specs.Refusals.{nobodyActive, badBody, namesCaller, poolFull, endsTime, overfills, callRefusals, refusals, calledBy, callIn}
+use Rattle.executive.specs.Refusals.{nobodyActive, badBody, namesCaller, poolFull, endsTime, callRefusals, refusals, calledBy, callIn}
 use Rattle.executive.specs.Step.{noTable, answerOf, hasV, accepted, refused, outcomeOf, performed, stepOf}
 use Rattle.executive.specs.Promises.Demands.{planFor, planOfCall, planOfRecord}
 use Rattle.executive.proofs.Lists.Tests.{false-not-true}
-use Rattle.executive.proofs.refusals.NothingRefuses.{Clear, clear-of, early, first-none, or-none}
+use Rattle.executive.proofs.queue.InFlight.{depart-fit}
+use Rattle.executive.proofs.refusals.NothingRefuses.{Clear, clear-of, first-none, or-none}
 use Rattle.executive.proofs.Plans.WorkingForm.{WellFormedByPart, formed, well-formed}
-use Rattle.executive.proofs.Plans.GoodIsKept.{Good, GoodOutcome, apply-kept}
+use Rattle.executive.proofs.Plans.GoodIsKept.{Good, GoodOutcome, plan-in-flight, apply-kept}
 use Rattle.executive.proofs.Plans.Shared.{nothing-good}
 use Rattle.executive.proofs.Plans.Pause.{pause-good}
 use Rattle.executive.proofs.Plans.Terminate.{terminate-good}
-use Rattle.executive.proofs.Plans.Restart.{restart-good}
+use Rattle.executive.proofs.Plans.Restart.{restart-good, restart-room}
 use Rattle.executive.proofs.Plans.CancelPause.{cancel-good}
 use Rattle.executive.proofs.Plans.StartIfDormant.{start-only-good}
 use Rattle.executive.proofs.Plans.StartOrQueue.{ask-good}
-use Rattle.executive.proofs.Plans.Flag.{flag-good}
+use Rattle.executive.proofs.Plans.Flag.{set-good, flag-good}
 use Rattle.executive.proofs.Plans.Wait.{wait-good}
 use Rattle.executive.proofs.Plans.Alarm.{alarm-good}
 use Rattle.executive.proofs.Plans.Tick.{tick-good}
@@ -57,32 +60,73 @@ such t k e =
 some-ready : (t : Table) → eqb (t .ready) 0 ≡ false → 0 < t .ready
 some-ready t e = omega (arith, eqb-false (t .ready) 0 e)
 
--- ---- a call that nothing refuses has a good plan
-pub call-good : (t : Table) (c : Call) → WellFormedByPart t → InRange c → Clear t c → Good (planOf t c) t
-unfolding planOf nobodyActive badBody namesCaller poolFull endsTime
-call-good t call.Terminate w r a = terminate-good t w (some-ready t (a .active))
-call-good t (call.Restart p n) w r a = restart-good t w (some-ready t (a .active)) p n (r .1 .0)
-call-good t (call.Pause u n) w r a = pause-good t u n w (some-ready t (a .active)) (omega (arith, ltb-false lastUnit u (a .body))) (r .1 .0)
-call-good t (call.CancelPause k) w r a = cancel-good t w k
-call-good t (call.StartIfDormant o k) w r a =
-    let s = such t k (or-none (noSuchTask (t .rest) k) (not (eqb (o / 16 % 8) 0)) (a .body) .0) in
-    start-only-good t w (some-ready t (a .active)) o k (s .0) (s .1)
-call-good t (call.StartOrQueue o k x) w r a =
-    let s = such t k (or-none (noSuchTask (t .rest) k) (eqb (o / 32 % 4) 3) (a .body) .0) in
-    ask-good t w (some-ready t (a .active)) o k (s .0) (s .1) x (a .another)
-    (λ b. leb-false 32 (t .rest .queued) (and-other (not (isDormant (stateAt t k))) (leb 32 (t .rest .queued)) (a .room) (ap not b)))
-call-good t (call.Flag o f) w r a = flag-good t w o f
-call-good t (call.Wait m mask) w r a = wait-good t w (some-ready t (a .active)) m mask (or-none (ltb 1 m) (eqb mask 0) (a .body) .1)
-call-good t (call.Alarm u n f) w r a = alarm-good t w u n f (omega (arith, ltb-false lastUnit u (or-none (ltb lastUnit u) (ltb 31 (f .0)) (a .body) .0))) (r .1 .0)
-call-good t call.Tick w r a = tick-good t w (ltb-false _ _ (a .time))
-call-good t (call.Granule g) w r a = nothing-good t w
-call-good t (call.Task p m) w r a = nothing-good t w
-call-good t call.End w r a = nothing-good t w
+-- ---- a call that nothing refuses: there is room for all who enter, and its plan is good. For room the widths of its
+-- numbers do not matter; what is stored is in range where the count of an interval is that of a byte
+module _ (t : Table) (w : WellFormedByPart t) where
+  abbrev Roomy : Plan → Type 0
+  Roomy p = depart (p .out) t .ready + length (p .ins) ≤ 16
 
--- number 11 never arises
-pub never-full : (t : Table) (c : Call) → WellFormed t → InRange c → Clear t c → overfills t c ≡ false
-unfolding overfills
-never-full t c w r a = apply-kept (planOf t c) t (formed w) (call-good t c (formed w) r a) .never-full
+  record Sound (c : Call) : Type 0 where
+    pub room : Roomy (planOf t c)
+    pub good : InRange c → Good (planOf t c) t
+
+  sized : (p : Plan) → Good p t → Roomy p
+  sized p g = apply-kept p t w g .size
+
+  sound : (c : Call) → Good (planOf t c) t → Sound c
+  sound c g = record { room = sized (planOf t c) g; good = λ r. g }
+
+  -- where nobody enters; whichever plan is picked
+  alone : (o : Out) → depart o t .ready + length {A = Join} [] ≤ 16
+  alone o = omega (arith, depart-fit o t (w .fit) .few)
+
+  either : (b : Bool) (p q : Plan) → Roomy p → Roomy q → Roomy (cond b p q)
+  either true p q x y = x
+  either false p q x y = y
+
+  pause-room : (u n : ℕ) → Roomy (pausePlan t u n)
+  unfolding pausePlan
+  pause-room u n = either (eqb n 0) _ _ (alone _) (alone _)
+
+  alarm-room : (u n : ℕ) (f : FlagNo) → Roomy (alarmPlan t u n f)
+  unfolding alarmPlan
+  alarm-room u n f = either (eqb n 0) _ _ (sized _ (set-good t w f)) (alone _)
+
+  call-sound : (c : Call) → Clear t c → Sound c
+  unfolding planOf nobodyActive badBody namesCaller poolFull endsTime
+  call-sound call.Terminate a = sound _ (terminate-good t w (some-ready t (a .active)))
+  call-sound (call.Restart p n) a =
+      let h = some-ready t (a .active) in
+      record { room = restart-room t w h p n; good = λ r. restart-good t w h p n (r .1 .0) }
+  call-sound (call.Pause u n) a = record {
+    room = pause-room u n;
+    good = λ r. pause-good t u n w (some-ready t (a .active)) (omega (arith, ltb-false lastUnit u (a .body))) (r .1 .0);
+  }
+  call-sound (call.CancelPause k) a = sound _ (cancel-good t w k)
+  call-sound (call.StartIfDormant o k) a =
+      let s = such t k (or-none (noSuchTask (t .rest) k) (not (eqb (o / 16 % 8) 0)) (a .body) .0) in
+      sound _ (start-only-good t w (some-ready t (a .active)) o k (s .0) (s .1))
+  call-sound (call.StartOrQueue o k x) a =
+      let s = such t k (or-none (noSuchTask (t .rest) k) (eqb (o / 32 % 4) 3) (a .body) .0) in
+      sound _
+      (ask-good t w (some-ready t (a .active)) o k (s .0) (s .1) x (a .another)
+      (λ b. leb-false 32 (t .rest .queued) (and-other (not (isDormant (stateAt t k))) (leb 32 (t .rest .queued)) (a .room) (ap not b))))
+  call-sound (call.Flag o f) a = sound _ (flag-good t w o f)
+  call-sound (call.Wait m mask) a = sound _ (wait-good t w (some-ready t (a .active)) m mask (or-none (ltb 1 m) (eqb mask 0) (a .body) .1))
+  call-sound (call.Alarm u n f) a = record {
+    room = alarm-room u n f;
+    good = λ r. alarm-good t w u n f (omega (arith, ltb-false lastUnit u (or-none (ltb lastUnit u) (ltb 31 (f .0)) (a .body) .0))) (r .1 .0);
+  }
+  call-sound call.Tick a = sound _ (tick-good t w (ltb-false _ _ (a .time)))
+  call-sound (call.Granule g) a = sound _ (nothing-good t w)
+  call-sound (call.Task p m) a = sound _ (nothing-good t w)
+  call-sound call.End a = sound _ (nothing-good t w)
+
+pub call-good : (t : Table) (c : Call) → WellFormedByPart t → InRange c → Clear t c → Good (planOf t c) t
+call-good t c w r a = call-sound t w c a .good r
+
+pub call-room : (t : Table) (c : Call) → WellFormed t → firstOf (callRefusals t c) ≡ 0 → depart (planOf t c .out) t .ready + length (planOf t c .ins) ≤ 16
+call-room t c w e = call-sound t (formed w) c (clear-of t c e) .room
 
 -- ---- an outcome is its plan
 pub record Executes (t u : Table) (p : Plan) : Type 0 where
@@ -109,12 +153,12 @@ unfolding accepted
 outcome-is t n c w g = go (eqb n 0) refl
   where
     go : (b : Bool) → eqb n 0 ≡ b → Executes t (cond b (accepted t c) (refused t n) .table) (cond b (planOf t c) (nothing t))
-    go true e = let k = apply-kept (planOf t c) t w (g (eqb-true n 0 e)) in record { table = k .table; kept = k }
+    go true e = let k = apply-kept (planOf t c) t w (g (eqb-true n 0 e)) in record { table = plan-in-flight (planOf t c) t; kept = k }
     go false e = record { table = refused-table t n ∙ sym (idle-plan t); kept = apply-kept (nothing t) t w (nothing-good t w) }
 
 pub performed-is : (t : Table) (c : Call) → WellFormed t → InRange c → Executes t (performed t c .table) (planOfCall t c)
 unfolding performed planOfCall
-performed-is t c w r = outcome-is t (firstOf (callRefusals t c)) c (formed w) (λ e. call-good t c (formed w) r (clear-of t c (early t c e)))
+performed-is t c w r = outcome-is t (firstOf (callRefusals t c)) c (formed w) (λ e. call-good t c (formed w) r (clear-of t c e))
 
 -- ---- a record's bytes: the call that is read from bytes fits its bytes
 pub call-in-range : (s : List ℕ) → Bytes s → InRange (callIn s)
@@ -136,7 +180,7 @@ call-allowed t s e =
 pub step-is : (t : Table) (s : List ℕ) → WellFormed t → Bytes s → Executes t (stepOf t s .table) (planOfRecord t s)
 unfolding stepOf planOfRecord
 step-is t s w b = outcome-is t (firstOf (refusals t s)) (callIn s) (formed w)
-    (λ e. call-good t (callIn s) (formed w) (call-in-range s b) (clear-of t (callIn s) (early t (callIn s) (call-allowed t s e))))
+    (λ e. call-good t (callIn s) (formed w) (call-in-range s b) (clear-of t (callIn s) (call-allowed t s e)))
 
 pub step-kept : (t : Table) (s : List ℕ) → WellFormed t → Bytes s → WellFormed (stepOf t s .table)
 step-kept t s w b = let x = step-is t s w b in rw (x .table) (well-formed (apply (planOfRecord t s) t) (x .kept .formed))

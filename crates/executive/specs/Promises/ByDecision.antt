@@ -6,7 +6,6 @@ use mathlib.Core.List.{List}
 use Prim.Native.Nat.{ℕ}
 use lib.Dec.{eqb}
 use Rattle.records.specs.declared.Call.{Call}
-use Rattle.records.specs.Numbers.{Bytes}
 use Rattle.executive.specs.declared.Table.{Table}
 use Rattle.executive.specs.declared.Outcome.{Outcome}
 use Rattle.executive.specs.declared.decisions.Decision.{Decision}
@@ -33,7 +32,7 @@ pub record AlikeButQueue (t u : Table) : Type 0 where
 
 pub record ByDecision : Type 0 where
   -- a step is: the queue's own tests, else number 1; then the decision, done
-  pub step : (t : Table) (s : List ℕ) → Bytes s
+  pub step : (t : Table) (s : List ℕ)
       → stepOf t s ≡ cond (queueRight t) (enacted t (decisionFor (t .tasks) (t .rest) (caller t) s)) (refused t 1)
   -- no refusal, no marks, no deed and no plan depends on the queue
   pub unseen : (t u : Table) → AlikeButQueue t u → (c : Call) → (ruleOf t c ≡ ruleOf u c) × (planOf t c ≡ planOf u c)

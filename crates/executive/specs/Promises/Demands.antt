@@ -20,7 +20,7 @@ use Rattle.executive.specs.Queue.{Moves, count, ahead, activeOf, plays, 
 use Rattle.executive.specs.Lists.{one}
 use Rattle.executive.specs.Pool.{requests, placeOf}
 use Rattle.executive.specs.Places.{taskAt}
-use Rattle.executive.specs.Table.{view, Plan, apply, movesOf}
+use Rattle.executive.specs.Table.{view, FindsRoom, Plan, depart, apply, movesOf}
 use Rattle.executive.specs.Clock.{aimAt}
 use Rattle.executive.specs.Plans.{caller, nothing, terminatePlan, restartPlan}
 use Rattle.executive.specs.WellFormed.{WellFormed}
@@ -116,12 +116,12 @@ pub record Demands : Type 0 where
   pub decided : (t : Table) (s : List ℕ) → Decides (refusals t s) (stepOf t s .answer .number)
   pub given : (t : Table) (s : List ℕ) (n : ℕ) → (stepOf t s .answer .number ≡ n) ↔ Given t s n
   pub unformed : (t : Table) (s : List ℕ) → (stepOf t s .answer .number ≡ 1) ↔ (WellFormed t → ⊥)
-  pub order : (t : Table) (s : List ℕ) → map (λ (r : Refusal). r .number) (refusals t s) ≡ 1 ∷ 3 ∷ 4 ∷ 3 ∷ 5 ∷ 6 ∷ 7 ∷ 9 ∷ 8 ∷ 10 ∷ 11 ∷ []
-  -- number 11 is given to nobody, whatever the table
-  pub never-eleven : (t : Table) (s : List ℕ) → Bytes s → stepOf t s .answer .number ≢ 11
+  pub order : (t : Table) (s : List ℕ) → map (λ (r : Refusal). r .number) (refusals t s) ≡ 1 ∷ 3 ∷ 4 ∷ 3 ∷ 5 ∷ 6 ∷ 7 ∷ 9 ∷ 8 ∷ 10 ∷ []
   pub kept : (t : Table) (ss : List (List ℕ)) → WellFormed t → AllBytes ss → WellFormed (after t ss)
   -- the step executes its plan
   pub executed : (t : Table) (s : List ℕ) → WellFormed t → Bytes s → stepOf t s .table ≡ apply (planOfRecord t s) t
+  -- each that enters was not in the queue, and found at most fifteen there
+  pub room : (t : Table) (s : List ℕ) → WellFormed t → Bytes s → FindsRoom (planOfRecord t s .ins) (depart (planOfRecord t s .out) t)
   -- 2: after any history
   pub dispatched : (t : Table) (ss : List (List ℕ)) (s : List ℕ) → WellFormed t → AllBytes ss → Bytes s
       → Dispatched (stepOf (after t ss) s .table) (stepOf (after t ss) s .answer .active .0)

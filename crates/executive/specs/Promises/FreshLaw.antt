@@ -15,7 +15,7 @@ use Rattle.executive.specs.Numbers.{mostTasks, mostQueued, flagCount, hi
 use Rattle.executive.specs.Queue.{Item, inserts}
 use Rattle.executive.specs.Lists.{pad}
 use Rattle.executive.specs.Places.{nobody, never, noTask, noRequest}
-use Rattle.executive.specs.Table.{view, begin, enterAllInFlight}
+use Rattle.executive.specs.Table.{view, FindsRoom}
 use Rattle.executive.specs.WellFormed.{WellFormed}
 use Rattle.executive.specs.Configuration.{tasksIn, configurationIn, isConfiguration, zeroTable, dormantAt, dormantTable}
 use Rattle.executive.specs.Configuration.{starters, freshTable, madeBy, freshOf}
@@ -78,9 +78,9 @@ listing = 0x40 ∷ 0x0A ∷ 0x41 ∷ 0x07 ∷ 0x01 ∷ 0x41 ∷ 0x05 ∷ 0x01 �
 pub record FreshLaw : Type 0 where
   -- the test of the bytes, which `freshOf` makes, passes exactly where they are a configuration
   pub exactly : (s : List ℕ) → (isConfiguration s ≡ true) ↔ Configuration s
-  -- from any configuration the fresh table is well formed, and no start finds the ready queue full
+  -- from any configuration the fresh table is well formed, and each that starts finds room
   pub formed : (s : List ℕ) → Bytes s → isConfiguration s ≡ true → WellFormed (freshTable s)
-  pub room : (s : List ℕ) → Bytes s → isConfiguration s ≡ true → enterAllInFlight (starters s (tasksIn s) 1) (begin (dormantTable s)) .full ≡ false
+  pub room : (s : List ℕ) → Bytes s → isConfiguration s ≡ true → FindsRoom (starters s (tasksIn s) 1) (dormantTable s)
   pub said-out : (s : List ℕ) → Bytes s → (c : Configuration s) → SaidOut (c .granule) (c .tasks) (freshTable s)
   -- its clock is 0, no flag is set
   pub clock : (s : List ℕ) → freshTable s .rest .clock .0 ≡ 0

@@ -3,7 +3,6 @@
 use Prim.Native.Nat.{ℕ, _+_, _/_, _%_, _^_, _≤_, _<_}
 use mathlib.Core.Path.{_≡_}
 use mathlib.Core.Logic.{_≢_, _⊎_}
-use mathlib.Core.Bool.{true}
 use mathlib.Core.List.{List, [], _∷_}
 use lib.ListN.{length, getD}
 use Rattle.records.specs.declared.TaskNo.{TaskNo}
@@ -17,10 +16,8 @@ use Rattle.executive.specs.declared.State.the-variants.{Dormant}
 use Rattle.executive.specs.declared.Table.{Table}
 use Rattle.executive.specs.Numbers.{lastUnit, mostQueued, endOfTime}
 use Rattle.executive.specs.Places.{never}
-use Rattle.executive.specs.Table.{applyInFlight}
 use Rattle.executive.specs.Plans.{caller, stateAt}
 use Rattle.executive.specs.WellFormed.{WellFormed}
-use Rattle.executive.specs.Sheet.{planOf}
 use Rattle.executive.specs.Refusals.{kindOfRecord, callIn}
 
 -- bit i of a byte is set
@@ -98,7 +95,6 @@ cases t s =
     ∷ case 9 (AlarmRunning t (callIn s))
     ∷ case 8 (PoolFull t (callIn s))
     ∷ case 10 ((callIn s ≡ call.Tick) × (endOfTime < t .rest .clock .0 + t .rest .granule))
-    ∷ case 11 (applyInFlight (planOf t (callIn s)) t .full ≡ true)
     ∷ []
 
 -- n is the number of the first case that holds, and 0 if none does

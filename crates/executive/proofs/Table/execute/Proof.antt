@@ -1,4 +1,4 @@
-use mathlib.Core.Path.{_≡_, refl, ap, sym, _∙_}
+use mathlib.Core.Path.{refl}
 use Rattle.executive.specs.Table.{applyInFlight}
 use Rattle.executive.specs.Decisions.{meant}
 use Rattle.executive.proofs.queue.InFlight.{begin-flying, depart-fit}
@@ -11,7 +11,9 @@ left-requires : tie.Need-left-requires
 left-requires c κs = c .before .before .pre .fit
 
 enter-all-requires : tie.Need-enter-all-requires
-enter-all-requires c κs = (rw (c .before .begin .ensures, c .before .before .left .ensures) (begin-flying _ (depart-fit _ (c .before .before .before .before .before .args .self) (c .before .before .before .before .before .pre .fit))), c .before .before .before .before .before .pre .few)
+enter-all-requires c κs =
+    let s = c .before .before .before .before .before in
+    rw (c .before .begin .ensures, c .before .before .left .ensures) (begin-flying _ _ (depart-fit _ (s .args .self) (s .pre .fit)) (s .pre .room))
 
 changed-requires : tie.Need-changed-requires
 changed-requires c κs = rw (c .enter-all .ensures, c .before .before .begin .ensures, c .before .before .before .left .ensures, flown-rest _ _ (c .before .before .before .before .before .before .args .self)) (c .before .before .before .before .before .before .pre .fit .neat, c .before .before .before .before .before .before .pre .able)

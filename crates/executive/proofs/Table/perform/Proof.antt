@@ -1,12 +1,11 @@
-use mathlib.Core.Path.{_≡_, ap, sym, _∙_}
-use Rattle.executive.specs.declared.Work.{Work}
+use mathlib.Core.Path.{_≡_, ap, _∙_}
 use Rattle.executive.specs.declared.decisions.Decision.{Decision}
 use Rattle.executive.specs.Table.{Plan, applyInFlight}
 use Rattle.executive.specs.Decisions.{meant}
 use Rattle.executive.specs.Sheet.{planOf}
 use Rattle.executive.specs.Refusals.{callIn}
 use Rattle.executive.specs.Step.{accepted}
-use Rattle.executive.proofs.step.CodeIsStep.{refused-late, not-refused}
+use Rattle.executive.proofs.step.CodeIsStep.{none-refuses}
 use Rattle.executive.proofs.step.ByDecision.{Accepts, Follows, follows}
 use Rattle.executive.proofs.decisions.DeedIsPlan.{means}
 use Rattle.executive.proofs.decisions.CanBeDone.{doable}
@@ -34,31 +33,18 @@ execute-requires c κs =
     rw (a .said) (doable t (a .formed) (callIn b) (a .early))
 
 returns-2 : tie.Need-returns-2
-returns-2 c =
-    let m = c .before .before .before .before .before .before in
-    let s = m .before .before .before .before .before in
-    let t = s .args .self in
-    let b = s .args .bytes .now in
-    let k = callIn b in
-    let f : Follows t b (m .decide .result) = rw (m .decide .ensures, m .before .active .ensures) (follows t b (s .pre)) in
-    let a : Accepts t b (m .decide .result) = f .accepts (c .before .before .before .before .if1 .left) in
-    let h : c .before .before .execute .result ≡ applyInFlight (planOf t k) t =
-    c .before .before .execute .ensures ∙ ap (λ (d : Decision). applyInFlight (meant (d .deed) t) t) (a .said) ∙ ap (λ (p : Plan). applyInFlight p t) (means t k) in
-    c .refuse2 .ensures ∙ refused-late t k (a .early) (sym (ap (λ (w : Work). w .full) h) ∙ c .before .if2 .taken) ∙ a .step
-
-returns-3 : tie.Need-returns-3
 unfolding accepted
-returns-3 c =
-    let m = c .before .before .before .before .before .before .before .before in
+returns-2 c =
+    let m = c .before .before .before .before .before .before .before in
     let s = m .before .before .before .before .before in
     let t = s .args .self in
     let b = s .args .bytes .now in
     let k = callIn b in
     let f : Follows t b (m .decide .result) = rw (m .decide .ensures, m .before .active .ensures) (follows t b (s .pre)) in
-    let a : Accepts t b (m .decide .result) = f .accepts (c .before .before .before .before .before .before .if1 .left) in
-    let h : c .before .before .before .before .execute .result ≡ applyInFlight (planOf t k) t =
-    c .before .before .before .before .execute .ensures ∙ ap (λ (d : Decision). applyInFlight (meant (d .deed) t) t) (a .said) ∙ ap (λ (p : Plan). applyInFlight p t) (means t k) in
-    rw (c .answer .ensures, h, a .said) (not-refused t k (a .early) (sym (ap (λ (w : Work). w .full) h) ∙ c .before .before .before .if2 .left) ∙ a .step)
+    let a : Accepts t b (m .decide .result) = f .accepts (c .before .before .before .before .before .if1 .left) in
+    let h : c .before .before .before .execute .result ≡ applyInFlight (planOf t k) t =
+    c .before .before .before .execute .ensures ∙ ap (λ (d : Decision). applyInFlight (meant (d .deed) t) t) (a .said) ∙ ap (λ (p : Plan). applyInFlight p t) (means t k) in
+    rw (c .answer .ensures, h, a .said) (none-refuses t k (a .early) ∙ a .step)
 
 pub perform-spec : {M : Type 1} → statement M
 perform-spec =
@@ -70,6 +56,4 @@ perform-spec =
     returns
     execute-requires
     (λ c κs. search needs)
-    returns-2
-    (λ c κs. search needs)
-    returns-3)
+    returns-2)

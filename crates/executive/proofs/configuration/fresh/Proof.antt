@@ -1,5 +1,6 @@
 -- `executive::configuration::fresh` meets its contract.
 use mathlib.Core.Path.{refl}
+use native.Mathlib.Omega.{arith}
 use borrow.Author.Tests.{not-true, not-false}
 use Rattle.executive.specs.Configuration.{dormantTable, freshTable, freshOf, sleepers}
 use Rattle.executive.proofs.queue.InFlight.{begin-flying}
@@ -24,16 +25,14 @@ returns c =
 start-marked-requires : tie.Need-start-marked-requires
 start-marked-requires c κs =
     let c4 = c .before .before .before .before in
-    let m = c4 .before in (
-      rw (
-        c .begin .ensures,
-        c .before .table-of2 .ensures,
-        c .before .before .blank-rest2 .ensures,
-        c4 .all-dormant2 .ensures,
-      )
-          (begin-flying _ (dormant-fit _ _ _ (m .tasks-in .ensures .1))),
-      m .tasks-in .ensures .1,
+    let m = c4 .before in
+    rw (
+      c .begin .ensures,
+      c .before .table-of2 .ensures,
+      c .before .before .blank-rest2 .ensures,
+      c4 .all-dormant2 .ensures,
     )
+    (begin-flying _ _ (dormant-fit _ _ _ (m .tasks-in .ensures .1)) (omega (arith, m .tasks-in .ensures .1)))
 
 returns-2 : tie.Need-returns-2
 unfolding freshOf freshTable dormantTable
