@@ -3,6 +3,7 @@ pub mod Tests
 pub mod Sums
 pub mod Arrays
 pub mod Pad
+pub mod Slid
 pub mod ClosedUp
 pub mod Loops
 pub mod Search

@@ -6,7 +6,7 @@ use mathlib.Core.Path.{_≡_}
 use mathlib.Core.Bool.{Bool, true, false, cond}
 use mathlib.Core.List.{List, [], _∷_, _++_}
 use lib.Dec.{leb, ltb, eqb}
-use lib.ListN.{length, getD, take}
+use lib.ListN.{length, getD, take, drop}
 use Rattle.records.specs.declared.TaskNo.{TaskNo}
 use Rattle.records.specs.declared.FlagNo.{FlagNo}
 use Rattle.executive.specs.declared.Millis.{Millis}
@@ -37,8 +37,7 @@ use Rattle.executive.specs.Table.{ArraysInOrder, Out, stays, leaves, Joi
 use Rattle.executive.specs.Entries.{withState, asDormant, begun, dueAt, risen}
 use Rattle.executive.specs.Clock.{interval, aimAt, withAlarm, isDue, advanced}
 use Rattle.executive.specs.Flags.{withFlags, flagSet, flagReset, met, modeOf}
-use Rattle.executive.specs.WellFormed.{Timely}
-use Rattle.executive.specs.Plans.{priorityOf, waitOf, argumentOf, atOnce, asks, holds, over}
+use Rattle.executive.specs.Plans.{priorityOf, waitOf, argumentOf, atOnce, asks, holds, passing, storedTime, timed}
 use Rattle.executive.specs.States.{isDormant, isPaused}
 
 -- ---- who enters, and how
@@ -64,10 +63,22 @@ wakes k = cond (eqb (k .0) 0) [] (entrant k Woken ∷ [])
 unfoldable pub raisedIf : Bool → TaskNo → List Entrant
 raisedIf b k = cond b (entrant k Risen ∷ []) []
 
--- all tasks from number k on whose state passes a test, in ascending number
-unfoldable pub rising : (State → Bool) → ℕ → List Task → List Entrant
-rising f k [] = []
-rising f k (e ∷ es) = raisedIf (f (e .state)) (record { 0 = k }) ++ rising f (suc k) es
+-- each of some numbers enters so; all tasks from number k on whose state passes a test, in ascending number
+unfoldable pub raisedAll : List TaskNo → List Entrant
+raisedAll [] = []
+raisedAll (k ∷ ks) = entrant k Risen ∷ raisedAll ks
+
+abbrev pub rising : (State → Bool) → ℕ → List Task → List Entrant
+rising f k es = raisedAll (passing f k es)
+
+-- how many at the front stay ahead of a task that enters for its time, at: all of an earlier time
+unfoldable pub earlierOf : List Task → ℕ → List Entrant → ℕ
+earlierOf ts at [] = 0
+earlierOf ts at (x ∷ xs) = cond (ltb (storedTime ts (x .who)) at) (suc (earlierOf ts at xs)) 0
+
+-- task k enters, its wait over, at place i of those who enter
+unfoldable pub raisedAt : ℕ → TaskNo → List Entrant → List Entrant
+raisedAt i k xs = take i xs ++ (entrant k Risen ∷ drop i xs)
 
 -- ---- a deed, and what it means at a table
 abbrev pub deed : Leave → List Entrant → Request → Change → Deed
@@ -219,17 +230,13 @@ alarmDeed ts now fs u n f =
 -- 80
 unfoldable pub tickDeed : List Task → Rest → Deed
 tickDeed ts r =
-    deed leave.Stays (rising (over (advanced r .clock .0) (advanced r .flags)) 1 ts) noRequest (change.Clock (firstDue r))
+    deed leave.Stays (raisedAll (timed (advanced r .clock .0) ts) ++ rising (holds (advanced r .flags)) 1 ts) noRequest (change.Clock (firstDue r))
 
 -- ---- what the kinds' functions ask of the tasks, the rest and the caller
-abbrev pub AllTimely : ℕ → List Task → Type 0
-AllTimely c ts = (k : ℕ) → Timely c (taskAt ts k .state)
-
 pub record Judgeable (ts : List Task) (r : Rest) (c : TaskNo) : Type 0 where
   pub queued : r .queued ≤ mostQueued
   pub clock : r .clock .0 ≤ endOfTime
   pub started : taskAt ts (c .0) .start .0 ≤ r .clock .0
-  pub timely : AllTimely (r .clock .0) ts
 
 -- ---- a decision: refused with a number, or done with the marks of the answer
 abbrev pub refusing : ℕ → Decision

@@ -2,7 +2,7 @@
 use mathlib.Core.Bool.{cond}
 use mathlib.Core.List.{List}
 use Prim.Native.Nat.{ℕ, zero, suc, _≤_, _<_}
-use lib.Dec.{ltb}
+use lib.Dec.{ltb, eqb}
 use lib.ListN.{length, getD, set}
 use Rattle.records.specs.declared.TaskNo.{TaskNo}
 use Rattle.executive.specs.declared.Millis.{Millis}
@@ -10,6 +10,7 @@ use Rattle.executive.specs.declared.State.the-variants.{Dormant}
 use Rattle.executive.specs.declared.Task.{Task}
 use Rattle.executive.specs.declared.Request.{Request}
 use Rattle.executive.specs.Numbers.{mostTasks}
+use Rattle.executive.specs.Lists.{one, sumOf}
 
 -- ---- blank entries
 abbrev pub nobody : TaskNo
@@ -45,3 +46,7 @@ Names k ts = (0 < k) × (k ≤ length ts)
 -- the priority p of the task numbered n; a number that names no task has none
 unfoldable pub priorityAt : ℕ → ℕ → ℕ
 priorityAt n p = cond (ltb (entryPlace n) mostTasks) p 0
+
+-- how often number k stands among some
+abbrev pub timesIn : ℕ → List TaskNo → ℕ
+timesIn k ks = sumOf (λ (j : TaskNo). one (eqb k (j .0))) ks

@@ -153,13 +153,18 @@ startOrQueuePlan t option k a =
 abbrev pub holds : ℕ → State → Bool
 holds fs s = hasMask s && met fs (waitMode s) (maskOf s)
 
--- task k enters if its state passes a test; all tasks from number k on, in ascending number
-unfoldable pub rises : (State → Bool) → ℕ → Task → List Join
-rises f k e = cond (f (e .state)) (raising (record { 0 = k }) ∷ []) []
+-- the numbers of the tasks from number k on whose state passes a test, ascending
+unfoldable pub passing : (State → Bool) → ℕ → List Task → List TaskNo
+passing f k [] = []
+passing f k (e ∷ es) = cond (f (e .state)) (record { 0 = k } ∷ passing f (suc k) es) (passing f (suc k) es)
 
-unfoldable pub risers : (State → Bool) → ℕ → List Task → List Join
-risers f k [] = []
-risers f k (e ∷ es) = rises f k e ++ risers f (suc k) es
+-- each of some numbers enters, its wait over; so do all tasks from number k on whose state passes a test
+unfoldable pub raisings : List TaskNo → List Join
+raisings [] = []
+raisings (k ∷ ks) = raising k ∷ raisings ks
+
+abbrev pub risers : (State → Bool) → ℕ → List Task → List Join
+risers f k es = raisings (passing f k es)
 
 -- ---- 09: after a set, all tasks whose condition now holds enter in ascending number. Flags never reset themselves (H)
 unfoldable pub setPlan : Table → FlagNo → Plan
@@ -186,12 +191,33 @@ alarmPlan t unit n f =
     cond (eqb n 0) (setPlan t f)
     (record { out = stays; ins = []; rest = withAlarm (f .0) (record { 0 = t .rest .clock .0 + interval unit n .0 }) (t .rest) })
 
--- ---- 80: whether a wait is over, at the clock c with the flags fs
-abbrev pub over : ℕ → ℕ → State → Bool
-over c fs s = cond (hasTime s) (leb (timeOf s .0) c) (holds fs s)
+-- ---- 80: whether a paused or due task's time has come, at the clock c
+abbrev pub timeUp : ℕ → State → Bool
+timeUp c s = hasTime s && leb (timeOf s .0) c
 
--- the clock gains one granule and due alarms set their flags; then, in ascending task number, each paused or due
--- task whose time is at or before the
--- clock, and each whose flag condition holds, enters (H)
+-- the time stored in task k's entry; that of a due task is the time aimed at
+abbrev pub storedTime : List Task → TaskNo → ℕ
+storedTime ts k = timeOf (taskAt ts (k .0) .state) .0
+
+-- numbers in the order of their stored times. Each goes behind all of an earlier time and ahead of the others, which
+-- stood behind it: equals keep their order
+unfoldable pub putByTime : List Task → TaskNo → List TaskNo → List TaskNo
+putByTime ts k [] = k ∷ []
+putByTime ts k (j ∷ js) = cond (ltb (storedTime ts j) (storedTime ts k)) (j ∷ putByTime ts k js) (k ∷ j ∷ js)
+
+unfoldable pub byTime : List Task → List TaskNo → List TaskNo
+byTime ts [] = []
+byTime ts (k ∷ ks) = putByTime ts k (byTime ts ks)
+
+-- those whose time has come at the clock c: by stored time, equal times by number
+unfoldable pub timed : ℕ → List Task → List TaskNo
+timed c ts = byTime ts (passing (timeUp c) 1 ts)
+
+-- the clock gains one granule and due alarms set their flags; then each paused or due task whose time is at or before
+-- the clock enters, in the order of time, and then each whose flag condition holds, in ascending number (02)
 unfoldable pub tickPlan : Table → Plan
-tickPlan t = record { out = stays; ins = risers (over (advanced (t .rest) .clock .0) (advanced (t .rest) .flags)) 1 (t .tasks); rest = advanced (t .rest) }
+tickPlan t = record {
+  out = stays;
+  ins = raisings (timed (advanced (t .rest) .clock .0) (t .tasks)) ++ risers (holds (advanced (t .rest) .flags)) 1 (t .tasks);
+  rest = advanced (t .rest);
+}

@@ -150,5 +150,5 @@ aheadOf ts p [] = 0
 aheadOf ts p (x ∷ xs) = cond (behind p (taskAt ts (x .0) .priority)) (suc (aheadOf ts p xs)) 0
 
 -- r places are taken, and k comes in at one of them or behind them
-unfoldable pub slidOf : List TaskNo → ℕ → ℕ → TaskNo → List TaskNo
+unfoldable pub slidOf : {A : Type 0} → List A → ℕ → ℕ → A → List A
 slidOf q at r k = take at q ++ (k ∷ (take (r - at) (drop at q) ++ drop (r + 1) q))

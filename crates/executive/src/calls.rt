@@ -151,7 +151,8 @@ pub(crate) fn tick(
     let first = clock::next_due(alarms, 0, now);
     let more = clock::rings(alarms, flags, first, now);
     let marks = answers::only_z(false);
-    let entrants = waking::risers(tasks, now, more);
+    let by_time = waking::timed(tasks, now);
+    let entrants = waking::held(by_time, tasks, more);
     let deed = Deed {
         leave: Leave::Stays,
         entrants,

@@ -65,7 +65,7 @@ fn by_kind(tasks: [Task; 16], rest: Rest, c: TaskNo, call: Call) -> Decision
             let e = places::task_at(tasks, task);
             starts::start_or_queue(e, rest.count, rest.queued, c, option, task, argument)
         }
-        Call::Flag { operation, flag } => flags::flag(tasks, now, flags, operation, flag),
+        Call::Flag { operation, flag } => flags::flag(tasks, flags, operation, flag),
         Call::Wait { mode, mask } => flags::wait(flags, mode, mask),
         Call::Alarm { unit, count, flag } => {
             let alarms = rest.alarms;

@@ -23,7 +23,7 @@ ghost use Rattle.executive.specs.Numbers.{lastUnit, endOfTime};
 ghost use Rattle.executive.specs.Lists.{_and_};
 ghost use Rattle.executive.specs.Flags.{isSet, flagSet, flagReset, withFlags, modeOf, met};
 ghost use Rattle.executive.specs.Clock.{withAlarm};
-ghost use Rattle.executive.specs.Decisions.{AllTimely, setDeed, flagDeed, waitDeed, alarmDeed, refusing, doing};
+ghost use Rattle.executive.specs.Decisions.{setDeed, flagDeed, waitDeed, alarmDeed, refusing, doing};
 ghost use Rattle.executive.specs.Sheet.{onlyZ, marks, flagMarks};
 
 // Whether a wait is for any (0) or for all (1).
@@ -94,14 +94,14 @@ impl Rest {
     }
 }
 
-// Kind 09, operation 1, and kind 0B with count 0: all tasks whose condition now holds enter. No stored time has
-// come, so nobody else does.
-fn set(tasks: [Task; 16], now: Millis, flags: u32, f: FlagNo) -> Deed
-    requires { ⌜ AllTimely (now .0) tasks × (f .0 < 32) ⌝ }
+// Kind 09, operation 1, and kind 0B with count 0: all tasks whose condition now holds enter.
+fn set(tasks: [Task; 16], flags: u32, f: FlagNo) -> Deed
+    requires { ⌜ f .0 < 32 ⌝ }
     ensures { λ r. ⌜ r ≡ setDeed tasks flags f ⌝ }
 {
     let more = flag_set(flags, f);
-    let entrants = waking::risers(tasks, now, more);
+    let nobody = decisions::none();
+    let entrants = waking::held(nobody, tasks, more);
     Deed {
         leave: Leave::Stays,
         entrants,
@@ -111,8 +111,7 @@ fn set(tasks: [Task; 16], now: Millis, flags: u32, f: FlagNo) -> Deed
 }
 
 // Kind 09: operation 0 resets, 1 sets, 2 tests.
-pub(crate) fn flag(tasks: [Task; 16], now: Millis, flags: u32, operation: u8, f: FlagNo) -> Decision
-    requires { ⌜ AllTimely (now .0) tasks ⌝ }
+pub(crate) fn flag(tasks: [Task; 16], flags: u32, operation: u8, f: FlagNo) -> Decision
     ensures { λ r. ⌜ r ≡ cond (ltb 31 (f .0) || ltb 2 operation) (refusing 6)
         (doing (flagMarks operation (isSet flags (f .0))) (flagDeed tasks flags operation f)) ⌝ }
 {
@@ -127,7 +126,7 @@ pub(crate) fn flag(tasks: [Task; 16], now: Millis, flags: u32, operation: u8, f:
         return decisions::accepted(marks, reset);
     }
     if operation == 1 {
-        let deed = set(tasks, now, flags, f);
+        let deed = set(tasks, flags, f);
         return decisions::accepted(marks, deed);
     }
     let still = decisions::nothing();
@@ -162,7 +161,7 @@ pub(crate) fn alarm(
     count: u8,
     f: FlagNo,
 ) -> Decision
-    requires { ⌜ AllTimely (now .0) tasks × (now .0 ≤ endOfTime) ⌝ }
+    requires { ⌜ now .0 ≤ endOfTime ⌝ }
     ensures { λ r. ⌜ r ≡ cond (ltb lastUnit unit || ltb 31 (f .0)) (refusing 6) (cond (not (eqb (running .0) 0)) (refusing 9)
         (doing (marks (eqb count 0 and isSet flags (f .0)) false (isSet flags (f .0))) (alarmDeed tasks now flags unit count f))) ⌝ }
 {
@@ -175,7 +174,7 @@ pub(crate) fn alarm(
     let old = is_set(flags, f);
     if count == 0 {
         let set_marks = answers::flag_marks(1, old);
-        let deed = set(tasks, now, flags, f);
+        let deed = set(tasks, flags, f);
         return decisions::accepted(set_marks, deed);
     }
     let wait = clock::millis_of(unit, count);

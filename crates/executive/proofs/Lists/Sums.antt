@@ -17,6 +17,11 @@ unfolding sumOf
 sum-snoc f [] v = omega arith
 sum-snoc f (x ∷ xs) v = omega (arith, sum-snoc f xs v)
 
+pub sum-append : {A : Type 0} (f : A → ℕ) (l m : List A) → sumOf f (l ++ m) ≡ sumOf f l + sumOf f m
+unfolding sumOf
+sum-append f [] m = omega arith
+sum-append f (x ∷ xs) m = omega (arith, sum-append f xs m)
+
 -- a fact of each element after a store
 pub set-all : {A : Type 0} (P : ℕ → A → Type 0) (l : List A) (j : ℕ) (v d : A) → P j v → ((i : ℕ) → P i (getD l i d)) → (i : ℕ) → P i (getD (set l j v) i d)
 set-all P [] j v d y x i = x i

@@ -11,7 +11,7 @@ use Rattle.executive.specs.declared.Millis.{Millis}
 use Rattle.executive.specs.declared.State.{State}
 use Rattle.executive.specs.declared.Table.{Table}
 use Rattle.executive.specs.Entries.{aimed}
-use Rattle.executive.specs.Plans.{stateAt, nothing, raising, rises, cancelPausePlan}
+use Rattle.executive.specs.Plans.{stateAt, nothing, raising, cancelPausePlan}
 use Rattle.executive.specs.Places.{taskAt}
 use Rattle.executive.specs.Pool.{requests}
 use Rattle.executive.specs.Table.{stays}
@@ -20,7 +20,7 @@ use Rattle.executive.proofs.Plans.WorkingForm.{WellFormedByPart}
 use Rattle.executive.proofs.Plans.LinksKept.{links-up, up-links}
 use Rattle.executive.proofs.Plans.GoodIsKept.{puts, Good}
 use Rattle.executive.proofs.Plans.Shared.{EntryOkIn, nothing-good}
-use Rattle.executive.proofs.Plans.Rising.{Tells, One, one-task}
+use Rattle.executive.proofs.Plans.Rising.{Tells, One, enters}
 use Rattle.executive.proofs.states.Laws.{of-kind, counted}
 
 -- ---- 03
@@ -37,29 +37,22 @@ module _ (t : Table) (w : WellFormedByPart t) where
   paused-tells : Tells isPaused now (t .rest .flags) now (t .rest .flags)
   paused-tells = record { onward = omega arith; waits = paused-waits; aims = paused-aims now; calms = λ s e m. m }
 
-  raised : (k : TaskNo) → One (rises isPaused (k .0) (taskAt (t .tasks) (k .0))) (t .tasks) (requests (t .rest)) now (t .rest .flags) (t .rest .count) (k .0)
-  raised k = one-task isPaused (requests (t .rest)) now (t .rest .flags) now (t .rest .flags) (t .rest .count) paused-tells (t .tasks) (k .0) (links-up (w .links)) (taskAt (t .tasks) (k .0)) refl (w .own (k .0))
-
   -- whoever is paused enters
-  raise-good : (k : TaskNo) → Good (record { out = stays; ins = rises isPaused (k .0) (taskAt (t .tasks) (k .0)); rest = t .rest }) t
-  raise-good k = record {
-    leaving = refl;
-    joining = raised k .joining;
-    linked = up-links (raised k .linked);
-    own = λ j. go j (eqb j (k .0)) refl;
-    rested = w .rested;
-  }
+  raise-good : (k : TaskNo) → isPaused (stateAt t k) ≡ true → Good (record { out = stays; ins = raising k ∷ []; rest = t .rest }) t
+  raise-good k e =
+      let r : One (raising k ∷ []) (t .tasks) (requests (t .rest)) now (t .rest .flags) (t .rest .count) (k .0) =
+      enters isPaused (requests (t .rest)) now (t .rest .flags) now (t .rest .flags) (t .rest .count) paused-tells (t .tasks) k (links-up (w .links)) e (w .own (k .0)) in
+      record { leaving = refl; joining = r .joining; linked = up-links (r .linked); own = λ j. go r j (eqb j (k .0)) refl; rested = w .rested }
     where
-      go : (j : ℕ) (b : Bool) → eqb j (k .0) ≡ b → EntryOkIn (t .rest) j (taskAt (puts (rises isPaused (k .0) (taskAt (t .tasks) (k .0))) (t .tasks)) j)
-      go j true e = rw (eqb-true j (k .0) e) (raised k .own)
-      go j false e = rw (raised k .rest j e) (w .own j)
+      go : One (raising k ∷ []) (t .tasks) (requests (t .rest)) now (t .rest .flags) (t .rest .count) (k .0)
+          → (j : ℕ) (b : Bool) → eqb j (k .0) ≡ b → EntryOkIn (t .rest) j (taskAt (puts (raising k ∷ []) (t .tasks)) j)
+      go r j true e = rw (eqb-true j (k .0) e) (r .own)
+      go r j false e = rw (r .rest j e) (w .own j)
 
   pub cancel-good : (k : TaskNo) → Good (cancelPausePlan t k) t
-  unfolding cancelPausePlan rises
-  cancel-good k = go (isPaused (stateAt t k)) refl (raise-good k)
+  unfolding cancelPausePlan
+  cancel-good k = go (isPaused (stateAt t k)) refl
     where
-      go : (b : Bool) → isPaused (stateAt t k) ≡ b
-          → Good (record { out = stays; ins = cond b (raising k ∷ []) []; rest = t .rest }) t
-          → Good (cond b (record { out = stays; ins = raising k ∷ []; rest = t .rest }) (nothing t)) t
-      go true e g = g
-      go false e g = nothing-good t w
+      go : (b : Bool) → isPaused (stateAt t k) ≡ b → Good (cond b (record { out = stays; ins = raising k ∷ []; rest = t .rest }) (nothing t)) t
+      go true e = raise-good k e
+      go false e = nothing-good t w

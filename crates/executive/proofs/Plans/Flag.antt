@@ -8,7 +8,7 @@ use lib.Bits.{bitAnd}
 use Rattle.records.specs.declared.FlagNo.{FlagNo}
 use Rattle.executive.specs.declared.State.{State}
 use Rattle.executive.specs.declared.Table.{Table}
-use Rattle.executive.specs.Plans.{nothing, holds, risers, setPlan, resetPlan, flagPlan, over}
+use Rattle.executive.specs.Plans.{nothing, holds, risers, setPlan, resetPlan, flagPlan}
 use Rattle.executive.specs.Flags.{withFlags, flagSet, flagReset}
 use Rattle.executive.specs.Places.{taskAt}
 use Rattle.executive.specs.Pool.{requests}
@@ -20,7 +20,7 @@ use Rattle.executive.proofs.Plans.GoodIsKept.{puts, Good}
 use Rattle.executive.proofs.Plans.Shared.{nothing-good}
 use Rattle.executive.proofs.Plans.Rising.{Tells, Done, all-risen}
 use Rattle.executive.proofs.flags.Masks.{met-fewer}
-use Rattle.executive.proofs.waking.ScansAgree.{over-holds, holds-over}
+use Rattle.executive.proofs.waking.Over.{over, over-holds, holds-over}
 use Rattle.executive.proofs.Plans.Tick.{over-tells}
 
 -- ---- the test of 09: who waits for flags, and whose condition holds now

@@ -1,30 +1,33 @@
--- Those whose wait is over enter, in ascending number: the plan is good. For any test f of a state, so that kinds 80
--- and 09 share it.
-use mathlib.Core.Path.{_≡_, refl, ap, _∙_}
-use mathlib.Core.Bool.{Bool, true, false, cond}
-use mathlib.Core.List.{List, [], _∷_}
-use Prim.Native.Nat.{ℕ, suc, _+_, _-_, _≤_, _<_}
+-- Those whose wait is over enter, in any order: the plan is good. For any test f of a state, so that kinds 80 and 09
+-- share it.
+use mathlib.Core.Path.{_≡_, refl, ap, sym, _∙_}
+use mathlib.Core.Bool.{Bool, true, false}
+use mathlib.Core.List.{List, [], _∷_, _++_}
+use Prim.Native.Nat.{ℕ, _+_, _≤_, _<_}
 use native.Mathlib.Omega.{arith}
-use lib.Dec.{leb, eqb, eqb→eq}
-use lib.ListN.{getD}
+use borrow.Author.Tests.{eqb-true}
+use lib.Dec.{eqb}
+use Rattle.records.specs.declared.TaskNo.{TaskNo}
 use Rattle.executive.specs.declared.Millis.{Millis}
 use Rattle.executive.specs.declared.State.{State}
+use Rattle.executive.specs.declared.State.the-variants.{Dormant, Ready}
 use Rattle.executive.specs.declared.Task.{Task}
 use Rattle.executive.specs.declared.Request.{Request}
 use Rattle.executive.specs.Entries.{aimed, risen}
-use Rattle.executive.specs.Plans.{rises, risers}
-use Rattle.executive.specs.Places.{Names, noTask, taskAt}
+use Rattle.executive.specs.Lists.{one, sumOf}
+use Rattle.executive.specs.Plans.{raising, passing, raisings, risers}
+use Rattle.executive.specs.Places.{Names, taskAt, putAt, timesIn}
 use Rattle.executive.specs.Table.{Join}
 use Rattle.executive.specs.States.{dormant, ready, awaitStart, awaitEnd, is, stateKind}
-use Rattle.executive.proofs.Plans.WorkingForm.{StateOk, EntryOk, blank-own, busy-within, busy-own}
-use Rattle.executive.proofs.Lists.Tests.{false-not-true, So-of-true, Le, le-yes, le-no, leb-is, eqb-no}
+use Rattle.executive.proofs.Plans.WorkingForm.{StateOk, EntryOk, busy-within, busy-own}
+use Rattle.executive.proofs.Lists.Tests.{false-not-true, eqb-self}
 use Rattle.executive.proofs.places.TaskAt.{at-same, at-other}
 use Rattle.executive.proofs.Plans.QueueKept.{busy-names}
 use Rattle.executive.proofs.Plans.LinksKept.{LinksUpTo}
 use Rattle.executive.proofs.Plans.Links.{alike}
 use Rattle.executive.proofs.Plans.GoodIsKept.{puts, JoinsAll}
-use Rattle.executive.proofs.Plans.Shared.{joins-append, puts-append}
 use Rattle.executive.proofs.states.Laws.{counted}
+use Rattle.executive.proofs.waking.Numbers.{passing-counts}
 
 -- from the clock a and the flags fa to the clock c and the flags fs, the test f tells who waits no longer
 pub record Tells (f : State → Bool) (a fa c fs : ℕ) : Type 0 where
@@ -32,13 +35,6 @@ pub record Tells (f : State → Bool) (a fa c fs : ℕ) : Type 0 where
   pub waits : (s : State) → f s ≡ true → counted (stateKind s) ≡ 0
   pub aims : (s : State) (at : Millis) → f s ≡ true → at .0 ≤ a → aimed s at .0 ≤ c
   pub calms : (s : State) → f s ≡ false → StateOk a fa s → StateOk c fs s
-
--- what is known while the scan stands at number k: before it, all is as it will be; from k on as it was
-pub record Mid (ts : List Task) (p : List Request) (a fa c fs n k : ℕ) (es : List Task) : Type 0 where
-  pub here : (i : ℕ) → taskAt ts (k + i) ≡ getD es i noTask
-  pub front : (j : ℕ) → j < k → EntryOk c fs n j (taskAt ts j)
-  pub back : (j : ℕ) → k ≤ j → EntryOk a fa n j (taskAt ts j)
-  pub linked : LinksUpTo ts p 0 0 0
 
 pub record Done (js : List Join) (ts : List Task) (p : List Request) (c fs n : ℕ) : Type 0 where
   pub joining : JoinsAll js ts
@@ -52,86 +48,85 @@ pub record One (js : List Join) (ts : List Task) (p : List Request) (c fs n k : 
   pub own : EntryOk c fs n k (taskAt (puts js ts) k)
   pub rest : (j : ℕ) → eqb j k ≡ false → taskAt (puts js ts) j ≡ taskAt ts j
 
-pub differ : (m n : ℕ) → n < m → eqb m n ≡ false
-differ m n h = go (eqb m n) refl
-  where
-    go : (b : Bool) → eqb m n ≡ b → b ≡ false
-    go true f = absurd (omega (arith, eqb→eq m n (So-of-true (eqb m n) f)))
-    go false f = refl
+pub raisings-append : (ks ms : List TaskNo) → raisings (ks ++ ms) ≡ raisings ks ++ raisings ms
+unfolding raisings
+raisings-append [] ms = refl
+raisings-append (k ∷ ks) ms = ap (λ (js : List Join). raising k ∷ js) (raisings-append ks ms)
 
 module _ (f : State → Bool) (p : List Request) (a fa c fs n : ℕ) (tells : Tells f a fa c fs) where
-  pub one-task : (ts : List Task) (k : ℕ) → LinksUpTo ts p 0 0 0 → (e : Task) → taskAt ts k ≡ e → EntryOk a fa n k e → One (rises f k e) ts p c fs n k
-  unfolding puts rises
-  one-task ts k l e x y = go (f (e .state)) refl
-    where
-      go : (b : Bool) → f (e .state) ≡ b → One (cond b (record { who = record { 0 = k }; change = risen } ∷ []) []) ts p c fs n k
-      go true g =
-          let z : is ready (e .state) + is dormant (e .state) + is awaitStart (e .state) + is awaitEnd (e .state) ≡ 0 = tells .waits (e .state) g in
-          let z′ : is ready (taskAt ts k .state) + is dormant (taskAt ts k .state) + is awaitStart (taskAt ts k .state) + is awaitEnd (taskAt ts k .state) ≡ 0 = rw x z in
-          let m : Names k ts = busy-names ts k (omega arith) in
-          let v : Task = risen (taskAt ts k) in
-          let o : EntryOk c fs n k (risen e) = busy-own (false-not-true, false-not-true) (tells .aims (e .state) (e .start) g (y .started)) (y .level) (y .home) refl (busy-within y (omega arith)) in
-          record {
-            joining = (record { names = m; before = omega arith; after = refl }, tt);
-            linked = alike ts p k v 0 0 0 m refl (omega arith) (omega arith) refl (omega arith) l;
-            own = rw (at-same ts k v m, x) o;
-            rest = λ j o. at-other ts k j v o;
-          }
-      go false g = record {
-        joining = tt;
-        linked = l;
-        own = rw x (record {
-          calm = tells .calms (e .state) g (y .calm);
-          started = omega (arith, y .started, tells .onward);
-          level = y .level;
-          home = y .home;
-          zeros = y .zeros;
-          beyond = y .beyond;
-        });
-        rest = λ j o. refl;
-      }
-
-  scanned : (es : List Task) (k : ℕ) (ts : List Task) → Mid ts p a fa c fs n k es → Done (risers f k es) ts p c fs n
-  unfolding risers puts
-  scanned [] k ts m = record { joining = tt; linked = m .linked; own = λ j. go j (leb k j) (leb-is k j) }
-    where
-      go : (j : ℕ) (b : Bool) → Le k j b → EntryOk c fs n j (taskAt ts j)
-      go j true (le-yes u) =
-          let i : k + (j - k) ≡ j = omega arith in
-          let x : taskAt ts (k + (j - k)) ≡ noTask = m .here (j - k) in
-          rw (rw i at x) blank-own
-      go j false (le-no u) = m .front j u
-  scanned (e ∷ es) k ts m =
-      let z : k + 0 ≡ k = omega arith in
-      let g : taskAt ts k ≡ e = rw z at (m .here 0) in
-      let o : One (rises f k e) ts p c fs n k = one-task ts k (m .linked) e g (rw g at (m .back k (omega arith))) in
-      let ts′ : List Task = puts (rises f k e) ts in
-      let r : Done (risers f (suc k) es) ts′ p c fs n = scanned es (suc k) ts′ (next o) in
-      let u = puts-append (rises f k e) (risers f (suc k) es) ts in
+  -- a task that passes enters; one that does not stays as it is
+  pub enters : (ts : List Task) (k : TaskNo) → LinksUpTo ts p 0 0 0 → f (taskAt ts (k .0) .state) ≡ true → EntryOk a fa n (k .0) (taskAt ts (k .0))
+      → One (raising k ∷ []) ts p c fs n (k .0)
+  unfolding puts
+  enters ts k l g y =
+      let e : Task = taskAt ts (k .0) in
+      let z : is ready (e .state) + is dormant (e .state) + is awaitStart (e .state) + is awaitEnd (e .state) ≡ 0 = tells .waits (e .state) g in
+      let m : Names (k .0) ts = busy-names ts (k .0) (omega arith) in
+      let v : Task = risen e in
+      let o : EntryOk c fs n (k .0) v = busy-own (false-not-true, false-not-true) (tells .aims (e .state) (e .start) g (y .started)) (y .level) (y .home) refl (busy-within y (omega arith)) in
       record {
-        joining = joins-append (rises f k e) (risers f (suc k) es) ts (o .joining) (r .joining);
-        linked = rw u (r .linked);
-        own = rw u (r .own);
+        joining = (record { names = m; before = omega arith; after = refl }, tt);
+        linked = alike ts p (k .0) v 0 0 0 m refl (omega arith) (omega arith) refl (omega arith) l;
+        own = rw (at-same ts (k .0) v m) o;
+        rest = λ j o. at-other ts (k .0) j v o;
       }
-    where
-      next : One (rises f k e) ts p c fs n k → Mid (puts (rises f k e) ts) p a fa c fs n (suc k) es
-      next o = record {
-        here = λ i. let z : suc k + i ≡ k + suc i = omega arith in o .rest (suc k + i) (differ (suc k + i) k (omega arith)) ∙ ap (taskAt ts) z ∙ m .here (suc i);
-        front = λ j u. at j u (eqb j k) refl;
-        back = λ j u. rw (o .rest j (differ j k u)) (m .back j (omega arith));
-        linked = o .linked;
-      }
-        where
-          at : (j : ℕ) → j < suc k → (b : Bool) → eqb j k ≡ b → EntryOk c fs n j (taskAt (puts (rises f k e) ts) j)
-          at j u true f = rw (eqb→eq j k (So-of-true (eqb j k) f)) (o .own)
-          at j u false f = rw (o .rest j f) (m .front j (omega (arith, eqb-no j k f)))
 
-  -- the whole scan, over all tasks from number 1
+  stays-own : (k : ℕ) (e : Task) → f (e .state) ≡ false → EntryOk a fa n k e → EntryOk c fs n k e
+  stays-own k e g y = record {
+    calm = tells .calms (e .state) g (y .calm);
+    started = omega (arith, y .started, tells .onward);
+    level = y .level;
+    home = y .home;
+    zeros = y .zeros;
+    beyond = y .beyond;
+  }
+
+  -- a task that waits for nothing does not pass
+  counted-not : (s : State) → 0 < counted (stateKind s) → f s ≡ false
+  counted-not s h = go (f s) refl
+    where
+      go : (b : Bool) → f s ≡ b → b ≡ false
+      go true e = absurd (omega (arith, tells .waits s e))
+      go false e = refl
+
+  -- ---- any list in which each who passes stands once, and nobody else. Who has entered is ready, and passes no more
+  -- each entry while some of the list have entered: in order as it was where it passes, and else as it will be
+  abbrev Halfway : ℕ → Task → Type 0
+  Halfway k e = (f (e .state) ≡ true → EntryOk a fa n k e) × (f (e .state) ≡ false → EntryOk c fs n k e)
+
+  pub all-raised : (ks : List TaskNo) (ts : List Task) → LinksUpTo ts p 0 0 0 → ((k : ℕ) → Halfway k (taskAt ts k))
+      → ((k : ℕ) → timesIn k ks ≡ one (f (taskAt ts k .state))) → Done (raisings ks) ts p c fs n
+  unfolding raisings puts sumOf
+  all-raised [] ts l o h = record { joining = tt; linked = l; own = λ k. o k .1 (none (f (taskAt ts k .state)) (h k)) }
+    where
+      none : (b : Bool) → 0 ≡ one b → b ≡ false
+      none true z = absurd (omega arith)
+      none false z = refl
+  all-raised (k ∷ ks) ts l o h =
+      let g : f (taskAt ts (k .0) .state) ≡ true = some (f (taskAt ts (k .0) .state)) (h (k .0)) in
+      let x : One (raising k ∷ []) ts p c fs n (k .0) = enters ts k l g (o (k .0) .0 g) in
+      let ts′ : List Task = putAt ts (k .0) (risen (taskAt ts (k .0))) in
+      let r : f (taskAt ts′ (k .0) .state) ≡ false = rw (at-same ts (k .0) (risen (taskAt ts (k .0))) (x .joining .0 .names)) (counted-not Ready (omega arith)) in
+      let d : Done (raisings ks) ts′ p c fs n = all-raised ks ts′ (x .linked) (λ j. after x r j (eqb j (k .0)) refl) (λ j. fewer x g r j (eqb j (k .0)) refl) in
+      record { joining = (x .joining .0, d .joining); linked = d .linked; own = d .own }
+    where
+      some : (b : Bool) → one (eqb (k .0) (k .0)) + timesIn (k .0) ks ≡ one b → b ≡ true
+      some true z = refl
+      some false z = absurd (omega (arith, ap one (eqb-self (k .0))))
+
+      after : One (raising k ∷ []) ts p c fs n (k .0) → f (taskAt (putAt ts (k .0) (risen (taskAt ts (k .0)))) (k .0) .state) ≡ false
+          → (j : ℕ) (b : Bool) → eqb j (k .0) ≡ b → Halfway j (taskAt (putAt ts (k .0) (risen (taskAt ts (k .0)))) j)
+      after x r j true e = rw (eqb-true j (k .0) e) (λ y. false-not-true (sym r ∙ y), λ y. x .own)
+      after x r j false e = rw (x .rest j e) (o j)
+
+      fewer : One (raising k ∷ []) ts p c fs n (k .0) → f (taskAt ts (k .0) .state) ≡ true → f (taskAt (putAt ts (k .0) (risen (taskAt ts (k .0)))) (k .0) .state) ≡ false
+          → (j : ℕ) (b : Bool) → eqb j (k .0) ≡ b → timesIn j ks ≡ one (f (taskAt (putAt ts (k .0) (risen (taskAt ts (k .0)))) j .state))
+      fewer x g r j true e = rw (eqb-true j (k .0) e, r) (omega (arith, h (k .0), ap one (eqb-self (k .0)), ap one g))
+      fewer x g r j false e = rw (x .rest j e) (omega (arith, h j, ap one e))
+
+  pub halfway : (k : ℕ) (e : Task) → EntryOk a fa n k e → Halfway k e
+  halfway k e y = (λ g. y, λ g. stays-own k e g y)
+
+  -- all who pass, in ascending number
   pub all-risen : (ts : List Task) → LinksUpTo ts p 0 0 0 → ((k : ℕ) → EntryOk a fa n k (taskAt ts k)) → Done (risers f 1 ts) ts p c fs n
-  unfolding taskAt
-  all-risen ts l o = scanned ts 1 ts (record {
-    here = λ i. let z : 1 + i ≡ suc i = omega arith in rw z;
-    front = λ j u. let z : j ≡ 0 = omega arith in rw z blank-own;
-    back = λ j u. o j;
-    linked = l;
-  })
+  all-risen ts l o = all-raised (passing f 1 ts) ts l (λ k. halfway k (taskAt ts k) (o k)) (passing-counts f (counted-not Dormant (omega arith)) ts)

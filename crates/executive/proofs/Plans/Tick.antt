@@ -1,7 +1,7 @@
 -- The tick's plan is good.
 use mathlib.Core.Path.{_≡_, refl, _∙_}
 use mathlib.Core.Bool.{Bool, true, false, _&&_, cond}
-use mathlib.Core.List.{List, [], _∷_}
+use mathlib.Core.List.{List, [], _∷_, _++_}
 use Prim.Native.Nat.{ℕ, zero, suc, _+_, _^_, _≤_, _<_, zero-le}
 use native.Mathlib.Omega.{arith}
 use borrow.Author.Tests.{ne-eqb, leb-true, leb-false, eqb-true, eqb-false}
@@ -10,24 +10,28 @@ use lib.ListN.{length, getD, set, length-set, List·getD-eq-default}
 use lib.Bits.{bitOr}
 use Rattle.executive.specs.declared.Millis.{Millis}
 use Rattle.executive.specs.declared.State.{State}
+use Rattle.executive.specs.declared.Task.{Task}
+use Rattle.executive.specs.declared.Request.{Request}
 use Rattle.executive.specs.declared.Rest.{Rest}
 use Rattle.executive.specs.declared.Table.{Table}
 use Rattle.executive.specs.Entries.{aimed}
-use Rattle.executive.specs.Plans.{over, risers, tickPlan}
+use Rattle.executive.specs.Plans.{holds, timed, raisings, risers, passing, tickPlan}
 use Rattle.executive.specs.Flags.{met, withFlags, flagSet}
 use Rattle.executive.specs.Numbers.{flagCount, endOfTime, longest}
 use Rattle.executive.specs.Lists.{each}
 use Rattle.executive.specs.Rest.{remade}
 use Rattle.executive.specs.Clock.{withAlarm, withClock, isDue, rung, advanced}
-use Rattle.executive.specs.Places.{never}
+use Rattle.executive.specs.Places.{never, taskAt}
 use Rattle.executive.specs.Pool.{requests}
 use Rattle.executive.specs.States.{due, stateKind, timeOf, maskOf, isOf, hasTime, hasMask, waitMode}
-use Rattle.executive.proofs.Plans.WorkingForm.{StateOk, RestOk, WellFormedByPart}
+use Rattle.executive.proofs.Plans.WorkingForm.{StateOk, EntryOk, RestOk, WellFormedByPart}
 use Rattle.executive.proofs.Lists.Tests.{false-not-true, Lt, lt-yes, lt-no, ltb-is}
 use Rattle.executive.proofs.Lists.Sums.{set-all}
-use Rattle.executive.proofs.Plans.LinksKept.{links-up, up-links}
+use Rattle.executive.proofs.Plans.LinksKept.{LinksUpTo, links-up, up-links}
 use Rattle.executive.proofs.Plans.GoodIsKept.{Good}
-use Rattle.executive.proofs.Plans.Rising.{Tells, Done, all-risen}
+use Rattle.executive.proofs.Plans.Rising.{Tells, Done, raisings-append, halfway, all-raised}
+use Rattle.executive.proofs.waking.Over.{over}
+use Rattle.executive.proofs.waking.Numbers.{woken, woken-counts}
 use Rattle.executive.proofs.states.Laws.{counted, time-waits, mask-waits, mask-no-time, due-time}
 
 -- what an alarm leaves alone: anything but the flags and the alarms
@@ -71,6 +75,13 @@ module _ (a fa c fs : ℕ) where
 
   pub over-tells : a ≤ c → Tells (over c fs) a fa c fs
   over-tells h = record { onward = h; waits = waits; aims = aims h; calms = calms h }
+
+-- whose wait is over by time or by flags enters, in the order of the tick
+woken-done : (p : List Request) (a fa c fs n : ℕ) → a ≤ c → (ts : List Task) → LinksUpTo ts p 0 0 0 → ((k : ℕ) → EntryOk a fa n k (taskAt ts k))
+    → Done (raisings (woken c fs ts)) ts p c fs n
+woken-done p a fa c fs n h ts l o =
+    let t : Tells (over c fs) a fa c fs = over-tells a fa c fs h in
+    all-raised (over c fs) p a fa c fs n t (woken c fs ts) ts l (λ k. halfway (over c fs) p a fa c fs n t k (taskAt ts k) (o k)) (woken-counts c fs ts)
 
 -- ---- the alarms: those passed, before number k, are after the clock or not running; none is too far off
 pub record Rung (r : Rest) (k : ℕ) : Type 0 where
@@ -142,9 +153,9 @@ tick-good t w m =
     let al : Rung r 32 = advanced-rung (t .rest) (w .rested) in
     let n : r .queued ≡ t .rest .queued = advanced-alone (λ (r : Rest). r .queued) (λ r fs al. refl) (t .rest) in
     let h : t .rest .clock .0 ≤ r .clock .0 = rw k (omega arith) in
-    let d : Done (risers (over (r .clock .0) (r .flags)) 1 (t .tasks)) (t .tasks) (requests (t .rest)) (r .clock .0) (r .flags) (t .rest .count) =
-    all-risen (over (r .clock .0) (r .flags)) (requests (t .rest)) (t .rest .clock .0) (t .rest .flags) (r .clock .0) (r .flags) (t .rest .count)
-    (over-tells (t .rest .clock .0) (t .rest .flags) (r .clock .0) (r .flags) h) (t .tasks) (links-up (w .links)) (w .own) in
+    let d : Done (raisings (timed (r .clock .0) (t .tasks)) ++ risers (holds (r .flags)) 1 (t .tasks)) (t .tasks) (requests (t .rest)) (r .clock .0) (r .flags) (t .rest .count) =
+    rw (← raisings-append (timed (r .clock .0) (t .tasks)) (passing (holds (r .flags)) 1 (t .tasks)))
+    (woken-done (requests (t .rest)) (t .rest .clock .0) (t .rest .flags) (r .clock .0) (r .flags) (t .rest .count) h (t .tasks) (links-up (w .links)) (w .own)) in
     record {
       leaving = refl;
       joining = d .joining;

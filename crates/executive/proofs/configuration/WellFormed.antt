@@ -3,6 +3,7 @@ use Prim.Native.Nat.{ℕ, zero, suc, _+_, _-_, _≤_, _<_, zero-le}
 use mathlib.Core.Path.{_≡_, refl, ap, sym, _∙_}
 use mathlib.Core.Bool.{Bool, true, false, cond}
 use mathlib.Core.List.{List, [], _∷_, _++_}
+use borrow.Author.Tests.{ne-eqb}
 use native.Mathlib.Omega.{arith}
 use lib.Dec.{eqb}
 use lib.ListN.{length, getD}
@@ -30,7 +31,7 @@ use Rattle.executive.proofs.Plans.LinksKept.{put-all, LinksUpTo, links-
 use Rattle.executive.proofs.Plans.Links as links
 use Rattle.executive.proofs.Plans.WorkingForm.{EntryOk, blank-own, busy-own, LinksOk, RestOk, WellFormedByPart, formed, well-formed}
 use Rattle.executive.proofs.Plans.GoodIsKept.{puts, Good, GoodOutcome, plan-in-flight, apply-kept}
-use Rattle.executive.proofs.Plans.Rising.{Done, differ}
+use Rattle.executive.proofs.Plans.Rising.{Done}
 use Rattle.executive.proofs.configuration.Loops.{dormant-fit}
 use Rattle.executive.proofs.configuration.Shape.{Configured, configured}
 
@@ -144,7 +145,7 @@ module _ (s : List ℕ) (n : ℕ) (few : n ≤ 16) (right : (k : ℕ) → 0 < k 
         size = put-length ts k v ∙ d .size;
         linked = links.begin ts [] k v 0 0 names (d .dormant k (omega arith)) refl refl (not-zero k h) 0 (λ i g _. not-zero i g) (d .linked);
         own = λ i. put-all (EntryOk 0 0 n) ts k v names (busy-own (false-not-true, false-not-true) zero-le (right k h (omega arith)) (d .own k .home) refl (omega arith)) i (λ _. d .own i);
-        dormant = λ i l. rw (at-other ts k i v (differ i k l)) (d .dormant i (omega arith));
+        dormant = λ i l. rw (at-other ts k i v (ne-eqb i k (λ e. omega arith))) (d .dormant i (omega arith));
       }
 
       go : (b : Bool) → ((us : List Task) → Still us n (suc k) → Done (starters s m (suc k)) us [] 0 0 n) → Done (cond b (j ∷ []) [] ++ starters s m (suc k)) ts [] 0 0 n

@@ -3,7 +3,9 @@ use borrow.Author.Tests.{lt-ltb, le-ltb, le-leb, lt-leb, eq-eqb, ne-eqb}
 use native.Mathlib.Omega.{arith}
 use Rattle.executive.specs.Decisions.{wakes, restartDeed}
 use Rattle.executive.proofs.decisions.Listing.{listed-well, named-listed, woken-short}
+use Rattle.executive.proofs.Lists.Loops.{one-le}
 use mathlib.Core.List.{[]}
+use lib.Dec.{leb}
 use borrow.Author.Needs.{needs}
 use Rattle.executive.proofs.calls.restart.Statement.{statement}
 use Rattle.executive.proofs.calls.restart.Tie as tie
@@ -15,7 +17,9 @@ woken-requires : tie.Need-woken-requires
 woken-requires c κs = rw (c .none .ensures) (listed-well [] (omega arith), omega arith)
 
 raised-requires : tie.Need-raised-requires
-raised-requires c κs = rw (c .before .before .woken .ensures, c .before .before .before .none .ensures) (listed-well (wakes (c .before .before .before .before .before .before .before .before .args .old .«end_waiter»)) (omega (arith, woken-short (c .before .before .before .before .before .before .before .before .args .old .«end_waiter»))), omega (arith, woken-short (c .before .before .before .before .before .before .before .before .args .old .«end_waiter»)))
+raised-requires c κs =
+    let w = c .before .before .before .before .before .before .before .before .args .old .«end_waiter» in
+    rw (c .before .before .woken .ensures, c .before .before .before .none .ensures) (listed-well (wakes w) (omega (arith, woken-short w)), omega (arith, woken-short w, one-le (leb (c .before .before .before .before .before .aim-at .result .0) (c .before .before .before .before .before .before .before .before .args .now .0))))
 
 returns-2 : tie.Need-returns-2
 unfolding restartDeed

@@ -13,11 +13,8 @@ restart-requires c κs = (rw (c .task-at .ensures) (c .before .before .before .b
 pause-requires : tie.Need-pause-requires
 pause-requires c κs = c .before .before .before .before .pre .clock
 
-flag-requires : tie.Need-flag-requires
-flag-requires c κs = c .before .before .before .before .pre .timely
-
 alarm-requires : tie.Need-alarm-requires
-alarm-requires c κs = (c .before .before .before .before .before .before .pre .timely, c .before .before .before .before .before .before .pre .clock)
+alarm-requires c κs = c .before .before .before .before .before .before .pre .clock
 
 tick-requires : tie.Need-tick-requires
 tick-requires c κs = c .before .before .before .before .pre .clock
@@ -95,7 +92,7 @@ by-kind-spec =
     (λ c κs. search needs)
     (λ c κs. search needs)
     (λ c. search needs)
-    flag-requires
+    (λ c κs. search needs)
     (λ c. search needs)
     (λ c κs. search needs)
     (λ c. search needs)

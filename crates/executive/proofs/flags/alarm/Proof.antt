@@ -21,7 +21,7 @@ is-set-requires : tie.Need-is-set-requires
 is-set-requires c κs = low-second (ltb lastUnit (c .before .before .before .before .args .unit)) (c .before .before .before .before .args .f .0) (sym (c .before .before .before .bad-alarm .ensures) ∙ c .before .before .if1 .left)
 
 set-requires : tie.Need-set-requires
-set-requires c κs = (c .before .before .before .before .before .before .before .pre .0, low-second (ltb lastUnit (c .before .before .before .before .before .before .before .args .unit)) (c .before .before .before .before .before .before .before .args .f .0) (sym (c .before .before .before .before .before .before .bad-alarm .ensures) ∙ c .before .before .before .before .before .if1 .left))
+set-requires c κs = low-second (ltb lastUnit (c .before .before .before .before .before .before .before .args .unit)) (c .before .before .before .before .before .before .before .args .f .0) (sym (c .before .before .before .before .before .before .bad-alarm .ensures) ∙ c .before .before .before .before .before .if1 .left)
 
 returns-3 : tie.Need-returns-3
 unfolding alarmDeed
@@ -34,7 +34,7 @@ add-t17 : tie.Need-add-t17
 add-t17 c =
     let s = c .before .before .before .before .before .before .before .before .before in
     let b : c .before .before .millis-of .result .0 ≤ longest = rw (c .before .before .millis-of .ensures) (interval-most (s .args .unit) (s .args .count) (omega arith)) in
-    omega (arith, s .pre .1)
+    omega (arith, s .pre)
 
 returns-4 : tie.Need-returns-4
 unfolding alarmDeed

@@ -20,7 +20,7 @@ unfolding flagDeed
 returns-2 c = rw (c .accepted .ensures, c .before .alone .ensures, c .before .before .flag-reset .ensures, c .before .before .before .before .flag-marks .ensures, c .before .before .before .before .before .is-set .ensures, ← c .before .before .before .before .before .before .before .bad-flag .ensures, c .before .before .before .before .before .before .if1 .left, c .before .before .before .if2 .taken) refl
 
 set-requires : tie.Need-set-requires
-set-requires c κs = (c .before .before .before .before .before .before .pre, low-first _ _ (sym (c .before .before .before .before .before .bad-flag .ensures) ∙ c .before .before .before .before .if1 .left))
+set-requires c κs = low-first _ _ (sym (c .before .before .before .before .before .bad-flag .ensures) ∙ c .before .before .before .before .if1 .left)
 
 returns-3 : tie.Need-returns-3
 unfolding flagDeed
