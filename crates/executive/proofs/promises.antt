@@ -5,3 +5,4 @@ pub mod ByDecision
 pub mod CardsAndFresh
 pub mod Skipping
 pub mod Demands
+pub mod Waking

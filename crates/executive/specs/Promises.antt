@@ -8,4 +8,5 @@ pub mod InWords
 pub mod QueueLaw
 pub mod Skipping
 pub mod EveryStart
+pub mod Waking
 pub mod Worked

@@ -7,9 +7,10 @@ use Rattle.executive.proofs.promises.Worked.{worked}
 use Rattle.executive.proofs.promises.Skipping.{skipping}
 use Rattle.executive.proofs.promises.EveryStart.{every-start}
 use Rattle.executive.proofs.promises.ByDecision.{by-decision}
+use Rattle.executive.proofs.promises.Waking.{waking}
 
 returns : tie.Need-returns
-returns c = (demands, queue-law, worked, skipping, every-start, by-decision)
+returns c = (demands, queue-law, worked, skipping, every-start, by-decision, waking)
 
 pub promised-spec : {M : Type 1} → statement M
 promised-spec = tie.close (tie.spec returns)
