@@ -102,10 +102,7 @@ fn clock(table: &mut Table, rng: &mut Rng) {
 
 /// The clock comes to just before the next stored time, and nothing else changes.
 fn forward(table: &mut Table, _: &mut Rng) {
-    let waits = table.tasks.iter().filter_map(|task| match task.state {
-        State::Paused(time) | State::Due(time) => Some(time),
-        _ => None,
-    });
+    let waits = table.tasks.iter().filter_map(|task| task.state.time());
     let alarms = table.alarms.iter().copied().filter(|time| *time != 0);
     if let Some(next) = waits.chain(alarms).min() {
         table.clock = next - 1;

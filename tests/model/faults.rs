@@ -1,4 +1,4 @@
-//! The faults that the last board had, and one more of its kind, beside the model: its own step, and then what such a
+//! The faults that the last board had, and some more of its kind, beside the model: its own step, and then what such a
 //! board did otherwise. They show that the comparisons find them.
 
 use crate::steps::step_unchecked;
@@ -12,16 +12,20 @@ pub enum Fault {
     RememberedFlag,
     LostStart,
     StartTwice,
+    WakeByNumber,
+    FlagsFirst,
 }
 
 /// The faults, by name.
-pub const FAULTS: [(&str, Fault); 6] = [
+pub const FAULTS: [(&str, Fault); 8] = [
     ("equal-in-front", Fault::EqualInFront),
     ("drifting-catch-up", Fault::DriftingCatchUp),
     ("cancel-wakes-due", Fault::CancelWakesDue),
     ("remembered-flag", Fault::RememberedFlag),
     ("lost-start", Fault::LostStart),
     ("start-twice", Fault::StartTwice),
+    ("wake-by-number", Fault::WakeByNumber),
+    ("flags-first", Fault::FlagsFirst),
 ];
 
 impl Fault {
@@ -39,6 +43,8 @@ impl Fault {
             Fault::RememberedFlag => remembered_flag(&before, table, record),
             Fault::LostStart => lost_start(&before, table, record),
             Fault::StartTwice => start_twice(&before, table, record),
+            Fault::WakeByNumber => wake_by(&before, table, record, |number, _| number),
+            Fault::FlagsFirst => wake_by(&before, table, record, |number, state| (state.time(), number)),
         }
         answer.name_active(table);
         answer
@@ -107,4 +113,18 @@ fn start_twice(before: &Table, after: &mut Table, record: &[u8]) {
         after.pool = before.pool;
         after.asked = before.asked;
     }
+}
+
+/// Those whom a tick wakes enter in another order.
+fn wake_by<K: Ord>(before: &Table, after: &mut Table, record: &[u8], key: impl Fn(u8, State) -> K) {
+    if record[0] != 0x80 {
+        return;
+    }
+    let kept = &before.queue[..before.queued as usize];
+    let queue = &after.queue[..after.queued as usize];
+    let mut woken: Vec<u8> = queue.iter().copied().filter(|number| !kept.contains(number)).collect();
+    woken.sort_by_key(|&number| key(number, before.task(number).state));
+    let mut queue = [kept, &woken].concat();
+    queue.sort_by_key(|&number| 15 - after.task(number).priority);
+    after.queue[..queue.len()].copy_from_slice(&queue);
 }

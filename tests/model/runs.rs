@@ -59,7 +59,7 @@ pub fn run(seed: u64, index: u64) -> Vec<u8> {
 }
 
 /// The ways a deep run goes on; each run draws its own weights for them.
-const AIMS: [fn(&mut Run, &mut Rng); 19] = [
+const AIMS: [fn(&mut Run, &mut Rng); 20] = [
     Run::tick,
     Run::terminate,
     Run::catch_up,
@@ -77,10 +77,11 @@ const AIMS: [fn(&mut Run, &mut Rng); 19] = [
     Run::alarm,
     Run::anything,
     Run::some_ticks,
+    Run::wake_together,
     Run::fill_pool,
     Run::go_idle,
 ];
-const RARE: usize = 17;
+const RARE: usize = 18;
 
 /// A run being made, with the executive beside it to aim by.
 struct Run {
@@ -312,6 +313,26 @@ impl Run {
             _ => self.wanted_flag(rng),
         };
         self.add(&[0x0B, unit, count, flag]);
+    }
+
+    /// One waits for a flag and others pause, mostly each for less than the last: the alarm and every pause end with
+    /// the next tick.
+    fn wake_together(&mut self, rng: &mut Rng) {
+        let flag = some_flag(rng);
+        let [a, b, c, d] = (1u32 << flag).to_be_bytes();
+        let mut time = self.table.granule;
+        self.add(&[0x09, 0, flag]);
+        self.add(&[0x0B, 0, time, flag]);
+        self.add(&[0x0A, rng.below(2) as u8, a, b, c, d]);
+        for _ in 0..2 + rng.below(4) {
+            if self.table.queued > 0 {
+                self.add(&[0x02, 0, time]);
+            }
+            if !rng.one_in(3) {
+                time = 1 + rng.below(time as usize) as u8;
+            }
+        }
+        self.add(&[0x80]);
     }
 
     /// A carried kind with a body of small or any bytes: mostly refused with 6 or 7.

@@ -21,6 +21,16 @@ pub enum State {
     WaitEnd,
 }
 
+impl State {
+    /// The time that a task waits for, if it waits for one.
+    pub fn time(self) -> Option<u64> {
+        match self {
+            State::Paused(time) | State::Due(time) => Some(time),
+            _ => None,
+        }
+    }
+}
+
 /// One task's entry. `end_waiter` is the task that waits for this run's end, 0 for nobody.
 #[derive(Clone, Copy, PartialEq, Eq, Debug, Default)]
 pub struct Task {

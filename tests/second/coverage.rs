@@ -46,6 +46,9 @@ const WAYS: [&str; 15] = [
     "started by 05",
 ];
 
+/// Two tasks of one priority that a tick woke, of which the first has the lower number.
+const ORDERS: [&str; 3] = ["the first has the later time", "equal times", "only the first by flags"];
+
 /// The kinds with an interval.
 const TIMED: [u8; 3] = [0x01, 0x02, 0x0B];
 /// Which counts are meant.
@@ -65,6 +68,7 @@ pub struct Coverage {
     refused: [u64; KINDS.len()],
     numbers: [u64; 32],
     ways: [u64; WAYS.len()],
+    orders: [u64; ORDERS.len()],
     /// Accepted intervals: by kind, then count, then unit.
     intervals: [[[u64; UNITS.len()]; COUNTS.len()]; TIMED.len()],
     skips: [u64; SKIPS.len()],
@@ -115,6 +119,7 @@ impl Coverage {
         }
         self.accepted[kind] += 1;
         self.watch_interval(record);
+        self.watch_order(&before, table, record);
         for number in 1..=before.count {
             let (old, new) = (before.task(number).state, table.task(number).state);
             let caller = number == before.queue[0];
@@ -122,6 +127,28 @@ impl Coverage {
                 if let Some(way) = way_of_waking(record, old) {
                     self.ways[way] += 1;
                 }
+            }
+        }
+    }
+
+    /// Notes each two of one priority whom a tick woke and whose order says something.
+    fn watch_order(&mut self, before: &Table, after: &Table, record: &[u8]) {
+        if record[0] != 0x80 {
+            return;
+        }
+        let woke =
+            |number: &u8| before.task(*number).state != State::Ready && after.task(*number).state == State::Ready;
+        let woken: Vec<u8> = (1..=before.count).filter(woke).collect();
+        for (at, first) in woken.iter().enumerate() {
+            for second in &woken[at + 1..] {
+                let order = match (before.task(*first).state.time(), before.task(*second).state.time()) {
+                    _ if after.task(*first).priority != after.task(*second).priority => continue,
+                    (Some(first), Some(second)) if first > second => 0,
+                    (Some(first), Some(second)) if first == second => 1,
+                    (None, Some(_)) => 2,
+                    _ => continue,
+                };
+                self.orders[order] += 1;
             }
         }
     }
@@ -164,6 +191,7 @@ impl Coverage {
         sum(&mut self.refused, &other.refused);
         sum(&mut self.numbers, &other.numbers);
         sum(&mut self.ways, &other.ways);
+        sum(&mut self.orders, &other.orders);
         sum(&mut self.skips, &other.skips);
         let both = self.intervals.iter_mut().zip(&other.intervals);
         both.flat_map(|(to, from)| to.iter_mut().zip(from)).for_each(|(to, from)| sum(to, from));
@@ -191,6 +219,11 @@ impl Coverage {
         for (way, met) in WAYS.iter().zip(self.ways) {
             println!("{way:<27} {met:>10}");
             note(&mut missed, met, || format!("way of waking '{way}'"));
+        }
+        println!("two woken by a tick                met");
+        for (what, met) in ORDERS.iter().zip(self.orders) {
+            println!("{what:<27} {met:>10}");
+            note(&mut missed, met, || format!("two woken by a tick, {what}"));
         }
         println!("restart with bit 6                 met");
         for (what, met) in SKIPS.iter().zip(self.skips) {

@@ -15,6 +15,7 @@ use Rattle.executive.specs.declared.State.{State}
 use Rattle.executive.specs.declared.State.the-variants.{Ready, Paused, Flags, AwaitStart, AwaitEnd}
 use Rattle.executive.specs.declared.Task.{Task}
 use Rattle.executive.specs.declared.Request.{Request}
+use Rattle.executive.specs.declared.Rest.{Rest}
 use Rattle.executive.specs.declared.Table.{Table}
 use Rattle.executive.specs.Places.{nobody, noRequest, taskAt}
 use Rattle.executive.specs.Table.{line, headOf, Out, stays, leaves, Join, Plan}
@@ -214,10 +215,10 @@ unfoldable pub timed : ℕ → List Task → List TaskNo
 timed c ts = byTime ts (passing (timeUp c) 1 ts)
 
 -- the clock gains one granule and due alarms set their flags; then each paused or due task whose time is at or before
--- the clock enters, in the order of time, and then each whose flag condition holds, in ascending number (02)
+-- the clock enters, in the order of time, and then each whose flag condition holds, in ascending number (02). The rest r
+-- has the clock and the flags of then
+abbrev pub tickBy : Table → Rest → Plan
+tickBy t r = record { out = stays; ins = raisings (timed (r .clock .0) (t .tasks)) ++ risers (holds (r .flags)) 1 (t .tasks); rest = r }
+
 unfoldable pub tickPlan : Table → Plan
-tickPlan t = record {
-  out = stays;
-  ins = raisings (timed (advanced (t .rest) .clock .0) (t .tasks)) ++ risers (holds (advanced (t .rest) .flags)) 1 (t .tasks);
-  rest = advanced (t .rest);
-}
+tickPlan t = tickBy t (advanced (t .rest))
