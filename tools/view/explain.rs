@@ -112,11 +112,15 @@ fn flagged(was_set: bool, nothing: bool) -> Vec<String> {
     vec![format!("{was}{and}")]
 }
 
-/// That the caller departed, and to what; and who entered, by number, each with why.
+/// That the caller departed, and to what; and who entered, each with why: by the times that came, then by number.
 fn moves(before: &Table, step: &Step, names: &Names) -> Vec<String> {
     let after = &step.table;
     let changed = after.numbers().filter(|k| before.state(*k) != after.state(*k));
-    let (entered, left): (Vec<u8>, Vec<u8>) = changed.partition(|k| after.state(*k) == State::Ready);
+    let (mut entered, left): (Vec<u8>, Vec<u8>) = changed.partition(|k| after.state(*k) == State::Ready);
+    entered.sort_by_key(|k| match before.state(*k) {
+        State::Paused(at) | State::Due(at) => at,
+        _ => u64::MAX,
+    });
     let left = left.into_iter().map(|k| format!("{} {}", names.task(k), departure(after.state(k))));
     left.chain(entered.into_iter().map(|k| format!("{} {}", names.task(k), entry(before, after, k)))).collect()
 }

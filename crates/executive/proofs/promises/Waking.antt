@@ -1,9 +1,9 @@
 -- Whom a tick wakes, and in which order.
-use Prim.Native.Nat.{ℕ, _+_, _<_}
+use Prim.Native.Nat.{ℕ}
 use mathlib.Core.Path.{_≡_, refl, ap, sym, _∙_}
 use mathlib.Core.Logic.{⊎-elim}
-use mathlib.Core.Bool.{Bool, true, false, cond, _&&_}
-use mathlib.Core.List.{List, [], _∷_, _++_, map}
+use mathlib.Core.Bool.{Bool, true, false, _&&_}
+use mathlib.Core.List.{List, [], _∷_, map}
 use native.Mathlib.Omega.{arith}
 use borrow.Author.Tests.{eq-eqb}
 use lib.Dec.{leb}
@@ -11,7 +11,6 @@ use Rattle.records.specs.Firsts.{firstOf}
 use Rattle.records.specs.Kinds.{kindOf}
 use Rattle.records.specs.Reading.{readAs, readOf}
 use Rattle.records.specs.declared.TaskNo.{TaskNo}
-use Rattle.executive.specs.declared.State.{State}
 use Rattle.executive.specs.declared.Task.{Task}
 use Rattle.executive.specs.declared.Table.{Table}
 use Rattle.executive.specs.Lists.{one, pad, sumOf, upTo, allOf, each}
@@ -22,10 +21,10 @@ use Rattle.executive.specs.Flags.{isSet}
 use Rattle.executive.specs.States.{timeOf, hasTime}
 use Rattle.executive.specs.Table.{Join, enterAt, departed, entered, depart, enterInFlight, enterAllInFlight, applyInFlight}
 use Rattle.executive.specs.Clock.{interval, rung, advanced}
-use Rattle.executive.specs.Plans.{stateAt, holds, timeUp, storedTime, passing, raisings, putByTime, byTime, timed, pausePlan, tickPlan}
+use Rattle.executive.specs.Plans.{stateAt, holds, timeUp, passing, raisings, putByTime, byTime, timed, pausePlan, tickPlan}
 use Rattle.executive.specs.Check.{isWellFormed, allButQueue, numbersRight, falls, exactAt, queueRight, timesRight, startedRight, masksRight, busyRight, waitersAt, waitersRight, dormantRight, poolRight}
 use Rattle.executive.specs.Sheet.{planOf, marksOf}
-use Rattle.executive.specs.Refusals.{nobodyActive, badBody, namesCaller, alarmRunning, poolFull, endsTime, refusals, callIn}
+use Rattle.executive.specs.Refusals.{nobodyActive, badBody, namesCaller, alarmRunning, poolFull, endsTime, refusals}
 use Rattle.executive.specs.Step.{accepted, refused, stepOf}
 use Rattle.executive.specs.Configuration.{tasksFrom, tasksIn, configurationIn, taskRight, isConfiguration, sleepers, dormantTable, markedStart, starters, freshTable, freshOf}
 use Rattle.executive.specs.Promises.Demands.{planOfRecord, after}
@@ -34,9 +33,9 @@ use Rattle.executive.specs.Promises.Waking.{wokenBy, TimeUp, Holds, Exac
 use Rattle.executive.proofs.Lists.Tests.{false-not-true}
 use Rattle.executive.proofs.step.FirstThatHolds.{step-number}
 use Rattle.executive.proofs.Plans.Rising.{raisings-append}
-use Rattle.executive.proofs.waking.Over.{over, over-either, time-no-hold}
+use Rattle.executive.proofs.waking.Over.{over-either, time-no-hold}
 use Rattle.executive.proofs.waking.Numbers.{passing-counts, sorted-counts, woken, woken-counts}
-use Rattle.executive.proofs.waking.InOrder.{All, all-map, all-pass, Chain, chain-map, chain-append, chain-places, places-chain, one-order, Lower, passing-ascends, Sooner, sorted}
+use Rattle.executive.proofs.waking.InOrder.{All, all-map, all-pass, Chain, chain-map, chain-append, chain-places, places-chain, one-order, passing-ascends, Sooner, sorted}
 
 -- ---- the tick's plan names those who are woken
 named : (ks : List TaskNo) → map (λ (j : Join). j .who) (raisings ks) ≡ ks
