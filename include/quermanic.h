@@ -19,7 +19,7 @@ extern "C" {
 
 /* The version. The second number rises with each landing (docs/CHANGES.md); the first, with the second at 0 again,
  * where a board must change: the image, a part of the answer that stands already, what a function takes and returns. */
-#define QUERMANIC_VERSION "1.2"
+#define QUERMANIC_VERSION "1.3"
 
 /* A length in bytes. The code takes 64 bits on every machine; size_t has 32 on some, and would be wrong there. */
 typedef uint64_t quermanic_length;
@@ -27,15 +27,16 @@ typedef uint64_t quermanic_length;
 /* The bytes of a table's image (docs/TABLE.md). */
 #define QUERMANIC_IMAGE_LENGTH 896
 
-/* The bytes of an answer, and where each of its parts stands. The argument is two bytes, the higher first; how many grid times
- * a restart by 01 with bit 6 passed over is eight, the highest first. */
+/* The bytes of an answer, and where each of its parts stands. Walked: how many ready tasks were passed over by those that
+ * entered, one byte. The argument is two bytes, the higher first; how many grid times a restart by 01 with bit 6 passed over is
+ * eight, the highest first. */
 #define QUERMANIC_ANSWER_LENGTH 16
 #define QUERMANIC_ANSWER_NUMBER 0
 #define QUERMANIC_ANSWER_Z 1
 #define QUERMANIC_ANSWER_V 2
 #define QUERMANIC_ANSWER_C 3
 #define QUERMANIC_ANSWER_ACTIVE 4
-#define QUERMANIC_ANSWER_ZERO 5
+#define QUERMANIC_ANSWER_WALKED 5
 #define QUERMANIC_ANSWER_ARGUMENT 6
 #define QUERMANIC_ANSWER_SKIPPED 8
 
@@ -159,7 +160,8 @@ uint8_t quermanic_check(const uint8_t *image, quermanic_length image_length);
  *
  * But for 30, the answer is written to the first QUERMANIC_ANSWER_LENGTH bytes of `answer`; the bytes after it keep their content.
  * Its number, Z, V, C, the active task (0 when idle) and its run's argument (0 when idle) are those after the step; after 1 all but
- * the number are 0. Grid times are passed over by an accepted 01 with bit 6 only, and 0 after any other step.
+ * the number are 0. Grid times are passed over by an accepted 01 with bit 6 only, and 0 after any other step. Each task that enters
+ * the ready queue walks past all of equal or higher priority that are ready then: 15 at most, 120 in a step, 0 where it is refused.
  */
 uint8_t quermanic_step(uint8_t *image, quermanic_length image_length, const uint8_t *record,
                        quermanic_length record_length, uint8_t *answer, quermanic_length answer_length);

@@ -7,6 +7,8 @@ use std::collections::BTreeMap;
 /// The numbers that must be met: by steps, and by the making of fresh tables.
 const OF_STEPS: [u8; 11] = [0, 1, 3, 4, 5, 6, 7, 8, 9, 10, 30];
 const OF_FRESH: [u8; 3] = [0, 2, 30];
+/// The most ready tasks that a step can pass over: 1 to 15, by sixteen that enter an empty queue.
+const FARTHEST: u8 = 120;
 /// What waits for a time.
 const TIMED: [&str; 3] = ["paused task", "due task", "alarm"];
 /// The longest interval that is no day's: 255 hours.
@@ -22,6 +24,8 @@ pub struct Met {
     days: [u64; TIMED.len()],
     /// The most grid times that one step passed over.
     skipped: u64,
+    /// The most ready tasks that were passed over in one step.
+    walked: u8,
     /// Starts that were asked for, and that have begun.
     starts: [u64; 2],
 }
@@ -61,10 +65,11 @@ impl Met {
         *self.fresh.entry(number).or_default() += 1;
     }
 
-    /// The count of an answer, eight bytes.
-    pub fn skipped(&mut self, bytes: &[u8]) {
-        let count = bytes.iter().fold(0, |all, byte| all << 8 | u64::from(*byte));
+    /// The counts of an answer: grid times passed over, eight bytes, and ready tasks passed over, one.
+    pub fn counted(&mut self, skipped: &[u8], walked: u8) {
+        let count = skipped.iter().fold(0, |all, byte| all << 8 | u64::from(*byte));
         self.skipped = self.skipped.max(count);
+        self.walked = self.walked.max(walked);
     }
 
     /// The times that came at an accepted tick, and were further off than hours reach.
@@ -105,6 +110,7 @@ impl Met {
         print_counts("accepted kind", &self.kinds, |kind| format!("{kind:02X}"));
         print_counts("fresh table, number", &self.fresh, |number| number.to_string());
         println!("  grid times passed over in one step: at most {}", self.skipped);
+        println!("  ready tasks passed over in one step: at most {}", self.walked);
         println!("  starts asked for: {}, begun: {}", self.starts[0], self.starts[1]);
         for (what, count) in TIMED.iter().zip(self.days) {
             println!("  {what} after more than 255 hours: {count}");
@@ -114,6 +120,7 @@ impl Met {
             && OF_FRESH.iter().all(|n| self.fresh.contains_key(n))
             && KINDS.iter().all(|kind| self.kinds.contains_key(kind))
             && self.skipped > u64::from(u32::MAX)
+            && self.walked == FARTHEST
             && self.starts.iter().all(|count| *count > 0)
             && self.days.iter().all(|count| *count > 0)
             && of(false) > 0

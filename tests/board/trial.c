@@ -157,10 +157,34 @@ static void try_skipping(void) {
     tell("bit 6 with count 0: at once", steps(0, 0, (const uint8_t[]){0x01, 0x40, 0}, 3) && is_timed(1, 0));
 }
 
+/* How many ready tasks those that enter pass over: sixteen of one priority, which pause and wake; one behind fifteen. */
+static void try_walking(void) {
+    static const uint8_t pause[] = {0x02, 0, 1};
+    const uint8_t *walked = said + QUERMANIC_ANSWER_WALKED;
+    uint8_t equals[QUERMANIC_LONGEST_CONFIGURATION] = {0x40, 1};
+    int right;
+    size_t i;
+
+    for (i = 0; i < 16; i++) {
+        memcpy(equals + 2 + 3 * i, (const uint8_t[]){0x41, 7, 1}, 3);
+    }
+    equals[50] = 0x42;
+    right = quermanic_fresh(equals, sizeof equals, image, sizeof image) == 0;
+    for (i = 0; i < 16; i++) {
+        right = goes_on(0, 0, pause, sizeof pause) && *walked == 0 && right;
+    }
+    tell("sixteen equals pause: nobody passed over", right);
+    tell("the tick that wakes them: 120 passed over", goes_on(0, 0, tick, sizeof tick) && *walked == 120);
+    tell("the first pauses: nobody passed over", goes_on(0, 0, pause, sizeof pause) && *walked == 0);
+    tell("the tick that wakes it: 15 passed over", goes_on(0, 0, tick, sizeof tick) && *walked == 15);
+    tell("a refused step: nobody passed over", goes_on(4, 1, unknown, sizeof unknown) && *walked == 0);
+}
+
 int main(void) {
     take_listing();
     try_refusals();
     try_days();
     try_skipping();
+    try_walking();
     return failed;
 }

@@ -13,7 +13,7 @@ use model::configuration::{fresh, fresh_from_start};
 use model::records::records_of;
 use model::runs::{run, Rng};
 use model::steps::step;
-use model::table::{Answer, Table, UNITS};
+use model::table::{Answer, Table, TASKS, UNITS};
 use std::time::Instant;
 
 /// The most steps that are taken of one generated run.
@@ -68,6 +68,19 @@ impl Trial<'_> {
         self.image(&image, &[0x80])?;
         self.image(&image, &[0x00])?;
         println!("the image of an older board is well formed");
+        Ok(())
+    }
+
+    /// Sixteen tasks of one priority pause, and a tick wakes them all: nothing makes those that enter walk farther.
+    fn equals(&mut self) -> Told {
+        let tasks = [[0x41, 7, 1]; TASKS].concat();
+        let table = fresh(&[&[0x40, 1], tasks.as_slice(), &[0x42]].concat()).expect("a good configuration");
+        let mut image = encode(&table);
+        for _ in 0..TASKS {
+            image = self.step(&image, &[0x02, 0, 1], &UNWRITTEN)?;
+        }
+        self.step(&image, &[0x80], &UNWRITTEN)?;
+        println!("the walk of sixteen equals agrees");
         Ok(())
     }
 
@@ -161,7 +174,7 @@ impl Trial<'_> {
         let number = u8::try_from(given.0).expect("the model's number is a byte");
         self.met.stepped(number, record);
         if given.2.len() >= ANSWER {
-            self.met.skipped(&given.2[8..ANSWER]);
+            self.met.counted(&given.2[8..ANSWER], given.2[5]);
         }
         self.counts.add(record, number, self.library.spent());
         Ok(given)
@@ -185,6 +198,9 @@ impl Trial<'_> {
         }
         said.argument ^= u16::from(self.wrong == Wrong::Answer);
         said.skipped -= u64::from(self.wrong == Wrong::Skipped).min(said.skipped);
+        if let (Wrong::Walked, 0, Some(after)) = (self.wrong, said.number, &table) {
+            said.walked = walk_of_higher(&table_of(image), after).unwrap_or(said.walked);
+        }
         after.0 = said.number.into();
         after.2[..ANSWER].copy_from_slice(&answer_bytes(&said));
         after
@@ -223,12 +239,23 @@ fn table_of(image: &[u8]) -> Table {
     table
 }
 
+/// What a walk past those of higher priority alone would come to, where one task entered and no more.
+fn walk_of_higher(before: &Table, after: &Table) -> Option<u8> {
+    let ready = &after.queue[..after.queued as usize];
+    let mut entered = ready.iter().filter(|number| !before.queue.contains(number));
+    let priority = after.task(*entered.next()?).priority;
+    if entered.next().is_some() {
+        return None;
+    }
+    Some(ready.iter().filter(|number| after.task(**number).priority > priority).count() as u8)
+}
+
 /// Walks until so many steps are taken: whether everything was met; `None` where something differs.
 pub fn walked(trial: &mut Trial, steps: u64) -> Option<bool> {
     let begun = Instant::now();
     let seed = trial.seed;
     if trial.wrong == Wrong::Nothing {
-        if let Err(difference) = trial.intervals().and_then(|()| trial.before_days()) {
+        if let Err(difference) = trial.intervals().and_then(|()| trial.before_days()).and_then(|()| trial.equals()) {
             println!("{difference}");
             return None;
         }

@@ -8,15 +8,17 @@ pub enum Wrong {
     Rule(Fault),
     Answer,
     Skipped,
+    Walked,
     Image,
     Check,
     Fresh,
 }
 
 /// Those that are no rule of the model, by name.
-const WRONGS: [(&str, Wrong); 5] = [
+const WRONGS: [(&str, Wrong); 6] = [
     ("answer", Wrong::Answer),
     ("one-skipped-too-few", Wrong::Skipped),
+    ("walk-of-higher-only", Wrong::Walked),
     ("image", Wrong::Image),
     ("check", Wrong::Check),
     ("fresh", Wrong::Fresh),

@@ -78,6 +78,8 @@ pub struct Answer {
     pub argument: u16,
     /// Grid times that a restart passed over.
     pub skipped: u64,
+    /// Ready tasks that were passed over by those that entered.
+    pub walked: u8,
 }
 
 impl Table {
@@ -112,7 +114,8 @@ impl Table {
 
 impl Answer {
     /// What every step from a table that is not well formed answers.
-    pub const BROKEN: Answer = Answer { number: 1, z: false, v: false, c: false, active: 0, argument: 0, skipped: 0 };
+    pub const BROKEN: Answer =
+        Answer { number: 1, z: false, v: false, c: false, active: 0, argument: 0, skipped: 0, walked: 0 };
 
     /// Names the table's active task and its argument, or nobody.
     pub fn name_active(&mut self, table: &Table) {

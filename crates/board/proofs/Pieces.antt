@@ -24,12 +24,12 @@ wrote-front o at own s k m n ek em en f g h l =
     and-then o at (a ++ b) (bytesIn 4 n) (and-then o at a b f g (omega arith)) h (omega arith) ∙ rw (ek, em, en)
 
 pub wrote-answer : (o : List ℕ) {p q r s u : List ℕ} (a : Answer) (z v c : ℕ) → z ≡ one (a .z) → v ≡ one (a .v) → c ≡ one (a .c)
-    → p ≡ written o 0 (a .number ∷ z ∷ []) → q ≡ written p 2 (v ∷ c ∷ []) → r ≡ written q 4 (a .active .0 ∷ 0 ∷ []) → s ≡ written r 6 (bytesIn 2 (a .argument))
+    → p ≡ written o 0 (a .number ∷ z ∷ []) → q ≡ written p 2 (v ∷ c ∷ []) → r ≡ written q 4 (a .active .0 ∷ a .walked ∷ []) → s ≡ written r 6 (bytesIn 2 (a .argument))
     → u ≡ written s 8 (bytesIn 8 (a .skipped)) → answerLength ≤ length o → u ≡ written o 0 (answerBytes a)
 wrote-answer o a z v c ez ev ec e f g h i l =
     let x = a .number ∷ z ∷ [] in
     let y = v ∷ c ∷ [] in
-    let w = a .active .0 ∷ 0 ∷ [] in
+    let w = a .active .0 ∷ a .walked ∷ [] in
     let b = bytesIn 2 (a .argument) in
     let m = and-then o 0 x y e f (omega arith) in
     let n = and-then o 0 (x ++ y) w m g (omega arith) in

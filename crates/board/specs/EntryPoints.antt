@@ -49,7 +49,7 @@ pub record MakesImage (config o p : List ℕ) (n : ℕ) : Type 0 where
   pub image : p ≡ freshImage config o
   pub holds : n ≡ 0 → Holds p (freshOf config .table)
 
--- ---- an answer's bytes: number, Z, V, C, active task, 0, argument, grid times passed over
+-- ---- an answer's bytes: number, Z, V, C, active task, ready tasks passed over, argument, grid times passed over
 abbrev pub answerWidths : List ℕ
 answerWidths = 1 ∷ 1 ∷ 1 ∷ 1 ∷ 1 ∷ 1 ∷ 2 ∷ 8 ∷ []
 
@@ -61,7 +61,7 @@ abbrev pub activeAt : ℕ
 activeAt = 4
 
 abbrev pub answerBytes : Answer → List ℕ
-answerBytes a = lay answerWidths (a .number ∷ one (a .z) ∷ one (a .v) ∷ one (a .c) ∷ a .active .0 ∷ 0 ∷ a .argument ∷ a .skipped ∷ [])
+answerBytes a = lay answerWidths (a .number ∷ one (a .z) ∷ one (a .v) ∷ one (a .c) ∷ a .active .0 ∷ a .walked ∷ a .argument ∷ a .skipped ∷ [])
 
 -- the executive's own answer (bytes that are no image are no well-formed table), and the image of its own table
 -- where the step is accepted; a refusal keeps every byte

@@ -18,14 +18,15 @@ fn bit(mark: bool) -> u8
     0
 }
 
-// Writes an answer over 16 bytes: number, Z, V, C, the active task, 0, the argument, the grid times passed over.
+// Writes an answer over 16 bytes: number, Z, V, C, the active task, the ready tasks passed over, the argument, the
+// grid times passed over.
 pub(crate) fn put_answer(out: &mut [u8], answer: Answer)
     requires { ⌜ answerLength ≤ length (now out) ⌝ }
     ensures { λ _. ⌜ now (out .exit) ≡ written (now (out .entry)) 0 (answerBytes answer) ⌝ }
 {
     storing::put_both(out, 0, answer.number, bit(answer.z));
     storing::put_both(out, 2, bit(answer.v), bit(answer.c));
-    storing::put_both(out, 4, answer.active.0, 0);
+    storing::put_both(out, 4, answer.active.0, answer.walked);
     numbers::put(out, 6, 2, answer.argument as u64);
     numbers::put(out, 8, 8, answer.skipped);
 }

@@ -3,6 +3,7 @@ pub mod WorkingForm
 pub mod Moves
 pub mod QueueKept
 pub mod Size
+pub mod Walking
 pub mod LinksKept
 pub mod Links
 pub mod GoodIsKept

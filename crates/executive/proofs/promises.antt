@@ -4,5 +4,6 @@ pub mod Worked
 pub mod ByDecision
 pub mod CardsAndFresh
 pub mod Skipping
+pub mod Walks
 pub mod Demands
 pub mod Waking

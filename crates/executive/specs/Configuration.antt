@@ -88,7 +88,7 @@ freshTable s = enterAllInFlight (starters s (tasksIn s) 1) (begin (dormantTable 
 
 -- a table with its answer: Z, V and C are 0, the active task and its argument are the table's
 abbrev pub madeBy : ℕ → Table → Fresh
-madeBy n t = record { answer = answerOf n (marks false false false) t; table = t }
+madeBy n t = record { answer = answerOf n (marks false false false) 0 t; table = t }
 
 -- number 0 and the table, or number 2 and the all-zero table, in which nobody is active
 unfoldable pub freshOf : List ℕ → Fresh

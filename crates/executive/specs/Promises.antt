@@ -9,4 +9,5 @@ pub mod QueueLaw
 pub mod Skipping
 pub mod EveryStart
 pub mod Waking
+pub mod Walks
 pub mod Worked

@@ -17,9 +17,10 @@ use Rattle.executive.specs.Plans.{caller}
 use Rattle.executive.specs.Sheet.{marks, planOf, marksOf}
 use Rattle.executive.specs.Refusals.{callIn, callRefusals, refusals}
 
--- ---- the answer: the active task of the table and its run's argument, both 0 when idle
-abbrev pub answerOf : ℕ → Marks → Table → Answer
-answerOf n m t = record {
+-- ---- the answer: the active task of the table and its run's argument, both 0 when idle; how many were passed over by
+-- those that entered
+abbrev pub answerOf : ℕ → Marks → ℕ → Table → Answer
+answerOf n m walked t = record {
   number = n;
   z = m .z;
   v = m .v;
@@ -27,11 +28,15 @@ answerOf n m t = record {
   active = caller t;
   argument = taskAt (t .tasks) (caller t .0) .argument;
   skipped = m .skipped;
+  walked = walked;
 }
 
 -- an accepted call executes its plan
 unfoldable pub accepted : Table → Call → Outcome
-accepted t c = record { answer = answerOf 0 (marksOf t c) (applyInFlight (planOf t c) t .table); table = applyInFlight (planOf t c) t .table }
+accepted t c = record {
+  answer = answerOf 0 (marksOf t c) (applyInFlight (planOf t c) t .walked) (applyInFlight (planOf t c) t .table);
+  table = applyInFlight (planOf t c) t .table;
+}
 
 -- V is 1 for 4, 6 and 7; after 1 active and argument are 0, after the others the kept table's. Every refusal keeps
 -- the table as given
@@ -40,13 +45,13 @@ hasV n = eqb n 4 || (eqb n 6 || eqb n 7)
 
 -- the answer where there is no well-formed table
 abbrev pub noTable : Answer
-noTable = record { number = 1; z = false; v = false; c = false; active = nobody; argument = 0; skipped = 0 }
+noTable = record { number = 1; z = false; v = false; c = false; active = nobody; argument = 0; skipped = 0; walked = 0 }
 
 unfoldable pub refused : Table → ℕ → Outcome
 refused t n =
     cond (eqb n 1)
     (record { answer = noTable; table = t })
-    (record { answer = answerOf n (marks false (hasV n) false) t; table = t })
+    (record { answer = answerOf n (marks false (hasV n) false) 0 t; table = t })
 
 abbrev pub outcomeOf : Table → ℕ → Call → Outcome
 outcomeOf t n c = cond (eqb n 0) (accepted t c) (refused t n)

@@ -11,7 +11,7 @@ use Rattle.executive.specs.declared.Rest.{Rest}
 use Rattle.executive.specs.declared.Table.{Table}
 use Rattle.executive.specs.declared.Work.{Work}
 use Rattle.executive.specs.Numbers.{mostTasks, endOfTime}
-use Rattle.executive.specs.Queue.{Item, Moves, behind, count}
+use Rattle.executive.specs.Queue.{Item, Moves, behind, count, sumBelow}
 use Rattle.executive.specs.Lists.{pad}
 use Rattle.executive.specs.Places.{taskAt, nobody, putAt}
 use Rattle.executive.specs.Pool.{PoolInOrder}
@@ -47,6 +47,11 @@ view t = items (t .tasks) (line t)
 unfoldable pub enterAt : List Task → TaskNo → List TaskNo → List TaskNo
 enterAt ts k [] = k ∷ []
 enterAt ts k (j ∷ js) = cond (behind (taskAt ts (k .0) .priority) (taskAt ts (j .0) .priority)) (j ∷ enterAt ts k js) (k ∷ j ∷ js)
+
+-- how many at the front stay ahead of a task of priority p: all of equal or higher priority
+unfoldable pub aheadOf : List Task → ℕ → List TaskNo → ℕ
+aheadOf ts p [] = 0
+aheadOf ts p (x ∷ xs) = cond (behind p (taskAt ts (x .0) .priority)) (suc (aheadOf ts p xs)) 0
 
 abbrev pub headOf : List TaskNo → TaskNo
 headOf [] = nobody
@@ -98,24 +103,30 @@ FindsRoom (j ∷ js) t = (count (j .who .0) (view t) ≡ 0) × (t .ready < mostT
 unfoldable pub apply : Plan → Table → Table
 apply p t = withRest (p .rest) (joins (p .ins) (depart (p .out) t))
 
--- ---- the same in flight
+-- ---- the same in flight, with the count of those who were passed over
 abbrev pub begin : Table → Work
-begin t = record { table = t }
+begin t = record { table = t; walked = 0 }
+
+-- those whom task k is put behind as it enters with entry e
+abbrev pub passedBy : TaskNo → Task → Table → ℕ
+passedBy k e t = aheadOf (putAt (t .tasks) (k .0) e) (taskAt (putAt (t .tasks) (k .0) e) (k .0) .priority) (line t)
 
 unfoldable pub enterInFlight : TaskNo → Task → Work → Work
-enterInFlight k e w = record { table = entered k e (w .table) }
+enterInFlight k e w = record { table = entered k e (w .table); walked = w .walked + passedBy k e (w .table) }
 
--- what every method in flight asks: the arrays in order, and room for the n who are still to enter
+-- what every method in flight asks: the arrays in order, room for the n who are still to enter, and a count that no
+-- more than those who are ready can have made
 pub record InFlight (n : ℕ) (w : Work) : Type 0 where
   pub fit : ArraysInOrder (w .table)
   pub room : w .table .ready + n ≤ mostTasks
+  pub walked : w .walked ≤ sumBelow (w .table .ready)
 
 unfoldable pub enterAllInFlight : List Join → Work → Work
 enterAllInFlight [] w = w
 enterAllInFlight (j ∷ js) w = enterAllInFlight js (enterInFlight (j .who) (j .change (taskAt (w .table .tasks) (j .who .0))) w)
 
 abbrev pub restInFlight : Rest → Work → Work
-restInFlight r w = record { table = withRest r (w .table) }
+restInFlight r w = record { table = withRest r (w .table); walked = w .walked }
 
 unfoldable pub applyInFlight : Plan → Table → Work
 applyInFlight p t = restInFlight (p .rest) (enterAllInFlight (p .ins) (begin (depart (p .out) t)))
@@ -143,11 +154,6 @@ outTasks (leaves f) ts c = change-at ts c f
 
 unfoldable pub movesOf : Plan → Table → Moves
 movesOf p t = record { out = left? (p .out); ins = entries (p .ins) (outTasks (p .out) (t .tasks) (headOf (line t) .0)) }
-
--- how many at the front stay ahead of a task of priority p: all of equal or higher priority
-unfoldable pub aheadOf : List Task → ℕ → List TaskNo → ℕ
-aheadOf ts p [] = 0
-aheadOf ts p (x ∷ xs) = cond (behind p (taskAt ts (x .0) .priority)) (suc (aheadOf ts p xs)) 0
 
 -- r places are taken, and k comes in at one of them or behind them
 unfoldable pub slidOf : {A : Type 0} → List A → ℕ → ℕ → A → List A

@@ -26,6 +26,7 @@ pub fn no_table() -> Answer
         active: TaskNo(0),
         argument: 0,
         skipped: 0,
+        walked: 0,
     }
 }
 
@@ -88,9 +89,10 @@ pub(crate) fn restart_marks(start: Millis, now: Millis, parameter: u8, count: u8
 }
 
 impl Table {
-    // The answer with a number and marks: the table's active task and its run's argument, both 0 when idle.
-    pub(crate) fn answer(self, number: u8, m: Marks) -> Answer
-        ensures { λ r. ⌜ r ≡ answerOf number m self ⌝ }
+    // The answer with a number, marks and how far those that entered walked: the table's active task and its run's
+    // argument, both 0 when idle.
+    pub(crate) fn answer(self, number: u8, m: Marks, walked: u8) -> Answer
+        ensures { λ r. ⌜ r ≡ answerOf number m walked self ⌝ }
     {
         let active = self.active();
         let tasks = self.tasks;
@@ -103,6 +105,7 @@ impl Table {
             active,
             argument: e.argument,
             skipped: m.skipped,
+            walked,
         }
     }
 
@@ -119,7 +122,7 @@ impl Table {
         }
         let v = has_v(number);
         let m = marked(false, v, false);
-        let answer = self.answer(number, m);
+        let answer = self.answer(number, m, 0);
         Outcome {
             answer,
             table: self,

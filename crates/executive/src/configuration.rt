@@ -199,7 +199,7 @@ fn made(number: u8, table: Table) -> Fresh
     ensures { λ r. ⌜ r ≡ madeBy number table ⌝ }
 {
     let m = answers::marked(false, false, false);
-    let answer = table.answer(number, m);
+    let answer = table.answer(number, m, 0);
     Fresh { answer, table }
 }
 

@@ -85,9 +85,11 @@ pub struct Table {
     pub rest: Rest,
 }
 
-// A step in flight: the caller may have departed, and perhaps not all have entered.
+// A step in flight: the table as it stands on the way, and how many ready tasks those who entered so far were put
+// behind, all together (02).
 struct Work {
     table: Table,
+    walked: u8,
 }
 
 // What a caller of kind 05 waits for.
@@ -106,7 +108,7 @@ pub struct Marks {
 }
 
 // What a step answers: its number, Z, V and C, the active task (0 when idle) and its run's argument; how many grid
-// times a restart passed over.
+// times a restart passed over; how many ready tasks were passed over by those that entered.
 pub struct Answer {
     pub number: u8,
     pub z: bool,
@@ -115,6 +117,7 @@ pub struct Answer {
     pub active: TaskNo,
     pub argument: u16,
     pub skipped: u64,
+    pub walked: u8,
 }
 
 // What a step hands back: its answer, and the table's state.

@@ -27,7 +27,7 @@ impl Table {
         let w = self.execute(deed);
         let table = w.table;
         let m = d.marks;
-        let answer = table.answer(0, m);
+        let answer = table.answer(0, m, w.walked);
         Outcome { answer, table }
     }
 

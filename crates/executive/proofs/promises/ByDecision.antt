@@ -30,8 +30,9 @@ module _ (t : Table) (s : List ℕ) where
       let c : Call = callIn s in
       let p : meant (d .deed) t ≡ planOf t c = ap (λ (x : Decision). meant (x .deed) t) (a .said) ∙ means t c in
       let q : apply (meant (d .deed) t) t ≡ applyInFlight (planOf t c) t .table = ap (λ (x : Plan). apply x t) p ∙ sym (plan-in-flight (planOf t c) t) in
+      let n : applyInFlight (meant (d .deed) t) t .walked ≡ applyInFlight (planOf t c) t .walked = ap (λ (x : Plan). applyInFlight x t .walked) p in
       let m : d .marks ≡ marksOf t c = ap (λ (x : Decision). x .marks) (a .said) in
-      let e : done t d ≡ accepted t c = λ i. record { answer = answerOf 0 (m i) (q i); table = q i } in
+      let e : done t d ≡ accepted t c = λ i. record { answer = answerOf 0 (m i) (n i) (q i); table = q i } in
       e ∙ none-refuses t c (a .early) ∙ a .step
 
   enact : (d : Decision) → Follows t s d → stepOf t s ≡ enacted t d

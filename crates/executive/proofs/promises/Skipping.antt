@@ -184,7 +184,7 @@ outcome-skipped t n c = go (eqb n 0) refl (eqb n 1)
     go : (a : Bool) → eqb n 0 ≡ a → (b : Bool)
         → cond a (accepted t c) (cond {A = Outcome} b
         (record { answer = noTable; table = t })
-        (record { answer = answerOf n (marks false (hasV n) false) t; table = t })) .answer .skipped ≢ 0 → (n ≡ 0) × (marksOf t c .skipped ≢ 0)
+        (record { answer = answerOf n (marks false (hasV n) false) 0 t; table = t })) .answer .skipped ≢ 0 → (n ≡ 0) × (marksOf t c .skipped ≢ 0)
     go true e b z = (eqb-true n 0 e, z)
     go false e true z = absurd (z refl)
     go false e false z = absurd (z refl)

@@ -32,7 +32,7 @@ number-is t n c = go (eqb n 0) refl (eqb n 1) refl
     go : (a : Bool) → eqb n 0 ≡ a → (b : Bool) → eqb n 1 ≡ b
         → cond a (accepted t c) (cond {A = Outcome} b
         (record { answer = noTable; table = t })
-        (record { answer = answerOf n (marks false (hasV n) false) t; table = t })) .answer .number ≡ n
+        (record { answer = answerOf n (marks false (hasV n) false) 0 t; table = t })) .answer .number ≡ n
     go true e b f = sym (eqb-true n 0 e)
     go false e true f = sym (eqb-true n 1 f)
     go false e false f = refl
@@ -78,8 +78,8 @@ active-is : (t : Table) (n : ℕ) (c : Call) → n ≢ 1 → outcomeOf t n c .an
 unfolding accepted refused
 active-is t n c z = rw (ne-eqb n 1 z) (go (eqb n 0))
   where
-    go : (b : Bool) → cond b (accepted t c) (record { answer = answerOf n (marks false (hasV n) false) t; table = t }) .answer .active
-        ≡ caller (cond b (accepted t c) (record { answer = answerOf n (marks false (hasV n) false) t; table = t }) .table)
+    go : (b : Bool) → cond b (accepted t c) (record { answer = answerOf n (marks false (hasV n) false) 0 t; table = t }) .answer .active
+        ≡ caller (cond b (accepted t c) (record { answer = answerOf n (marks false (hasV n) false) 0 t; table = t }) .table)
     go true = refl
     go false = refl
 

@@ -146,7 +146,7 @@ pub refused-table : (t : Table) (n : ℕ) → refused t n .table ≡ t
 unfolding refused
 refused-table t n = picked (λ (o : Outcome). o .table) (eqb n 1)
     (record { answer = noTable; table = t })
-    (record { answer = answerOf n (marks false (hasV n) false) t; table = t }) t refl refl
+    (record { answer = answerOf n (marks false (hasV n) false) 0 t; table = t }) t refl refl
 
 outcome-is : (t : Table) (n : ℕ) (c : Call) → WellFormedByPart t → (n ≡ 0 → Good (planOf t c) t) → Executes t (outcomeOf t n c .table) (planFor t n c)
 unfolding accepted

@@ -9,7 +9,7 @@ use Rattle.records.specs.declared.Call.{Call}
 use Rattle.executive.specs.declared.Table.{Table}
 use Rattle.executive.specs.declared.Outcome.{Outcome}
 use Rattle.executive.specs.declared.decisions.Decision.{Decision}
-use Rattle.executive.specs.Table.{apply}
+use Rattle.executive.specs.Table.{apply, applyInFlight}
 use Rattle.executive.specs.Plans.{caller}
 use Rattle.executive.specs.Check.{queueRight}
 use Rattle.executive.specs.Decisions.{meant}
@@ -19,7 +19,10 @@ use Rattle.executive.specs.Step.{answerOf, refused, stepOf}
 
 -- what a decision does at a table: its deed, with its marks in the answer; or it refuses with its number
 unfoldable pub done : Table → Decision → Outcome
-done t d = record { answer = answerOf 0 (d .marks) (apply (meant (d .deed) t) t); table = apply (meant (d .deed) t) t }
+done t d = record {
+  answer = answerOf 0 (d .marks) (applyInFlight (meant (d .deed) t) t .walked) (apply (meant (d .deed) t) t);
+  table = apply (meant (d .deed) t) t;
+}
 
 unfoldable pub enacted : Table → Decision → Outcome
 enacted t d = cond (eqb (d .number) 0) (done t d) (refused t (d .number))

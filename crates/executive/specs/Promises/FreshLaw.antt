@@ -69,7 +69,7 @@ pub record SaidOut (g : ℕ) (es : List Entry) (t : Table) : Type 0 where
 
 -- the answer to bytes that are no configuration
 abbrev pub noConfiguration : Answer
-noConfiguration = record { number = 2; z = false; v = false; c = false; active = nobody; argument = 0; skipped = 0 }
+noConfiguration = record { number = 2; z = false; v = false; c = false; active = nobody; argument = 0; skipped = 0; walked = 0 }
 
 -- the configuration of 01's listing
 abbrev pub listing : List ℕ

@@ -8,9 +8,10 @@ use Rattle.executive.proofs.promises.Skipping.{skipping}
 use Rattle.executive.proofs.promises.EveryStart.{every-start}
 use Rattle.executive.proofs.promises.ByDecision.{by-decision}
 use Rattle.executive.proofs.promises.Waking.{waking}
+use Rattle.executive.proofs.promises.Walks.{walks}
 
 returns : tie.Need-returns
-returns c = (demands, queue-law, worked, skipping, every-start, by-decision, waking)
+returns c = (demands, queue-law, worked, skipping, every-start, by-decision, waking, walks)
 
 pub promised-spec : {M : Type 1} → statement M
 promised-spec = tie.close (tie.spec returns)
