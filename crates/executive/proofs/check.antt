@@ -3,5 +3,6 @@ pub mod Blanks
 pub mod Descent
 pub mod RuleByRule
 pub mod Passes
+pub mod Levels
 pub mod Decides
 pub mod Broken

@@ -1,2 +1,3 @@
--- The laws of masks.
+-- The laws of masks, and of the bits of a word.
 pub mod Masks
+pub mod Bits

@@ -7,3 +7,4 @@ pub mod Skipping
 pub mod Walks
 pub mod Demands
 pub mod Waking
+pub mod LampLaw

@@ -20,6 +20,7 @@ use Rattle.executive.specs.Numbers.{mostTasks, mostQueued, flagCount, hi
 use Rattle.executive.specs.Lists.{one, sumOf, _and_, upTo, allOf}
 use Rattle.executive.specs.Pool.{requests}
 use Rattle.executive.specs.Places.{taskAt}
+use Rattle.executive.specs.Table.{view, levelsOf}
 use Rattle.executive.specs.States.{ready, awaitStart, awaitEnd, timeOf, maskOf, isOf, is, isDormant, hasTime, hasMask, waitMode}
 use Rattle.executive.specs.Flags.{met}
 use Rattle.executive.specs.WellFormed.{WellFormed, startsOf, endsOf, runsOf}
@@ -82,8 +83,15 @@ lineRight ts n r q =
     and upTo (exactAt ts (take r q)) n
     and allOf isNobody (drop r q)
 
+abbrev pub orderRight : Table → Bool
+orderRight t = eqb (length (t .queue)) mostTasks and lineRight (t .tasks) (t .rest .count) (t .ready) (t .queue)
+
+-- the word of the ready levels is the queue's
+abbrev pub levelsRight : Table → Bool
+levelsRight t = eqb (t .levels) (levelsOf (view t))
+
 unfoldable pub queueRight : Table → Bool
-queueRight t = eqb (length (t .queue)) mostTasks and lineRight (t .tasks) (t .rest .count) (t .ready) (t .queue)
+queueRight t = orderRight t and levelsRight t
 
 -- ---- stored times, at the clock c
 abbrev pub isStored : ℕ → ℕ → Bool

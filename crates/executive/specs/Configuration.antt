@@ -14,7 +14,7 @@ use Rattle.executive.specs.declared.Fresh.{Fresh}
 use Rattle.executive.specs.Numbers.{mostTasks, mostQueued, flagCount, highest}
 use Rattle.executive.specs.Lists.{pad, _and_, upTo}
 use Rattle.executive.specs.Places.{nobody, never, noTask, noRequest}
-use Rattle.executive.specs.Table.{Join, begin, enterAllInFlight}
+use Rattle.executive.specs.Table.{relit, Join, begin, enterAllInFlight}
 use Rattle.executive.specs.Plans.{asks, begins}
 use Rattle.executive.specs.Sheet.{marks}
 use Rattle.executive.specs.Step.{answerOf}
@@ -59,7 +59,7 @@ blankRest n g = record { count = n; granule = g; clock = never; flags = 0; alarm
 
 -- nobody is ready
 abbrev pub withTasks : List Task → Rest → Table
-withTasks ts r = record { tasks = ts; queue = pad mostTasks nobody []; ready = 0; rest = r }
+withTasks ts r = record { tasks = ts; queue = pad mostTasks nobody []; ready = 0; levels = 0; rest = r }
 
 abbrev pub zeroTable : Table
 zeroTable = withTasks (pad mostTasks noTask []) (blankRest 0 0)
@@ -84,7 +84,7 @@ starters s zero k = []
 starters s (suc n) k = markedStart s k ++ starters s n (suc k)
 
 unfoldable pub freshTable : List ℕ → Table
-freshTable s = enterAllInFlight (starters s (tasksIn s) 1) (begin (dormantTable s)) .table
+freshTable s = relit (enterAllInFlight (starters s (tasksIn s) 1) (begin (dormantTable s)) .table)
 
 -- a table with its answer: Z, V and C are 0, the active task and its argument are the table's
 abbrev pub madeBy : ℕ → Table → Fresh

@@ -18,4 +18,5 @@ pub mod Deciding
 pub mod Step
 pub mod Configuration
 pub mod Decisions
+pub mod Lamp
 pub mod Promises

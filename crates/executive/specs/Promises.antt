@@ -5,6 +5,7 @@ pub mod Cards
 pub mod Demands
 pub mod FreshLaw
 pub mod InWords
+pub mod LampLaw
 pub mod QueueLaw
 pub mod Skipping
 pub mod EveryStart

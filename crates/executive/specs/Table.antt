@@ -3,14 +3,16 @@
 use mathlib.Core.Path.{_≡_}
 use mathlib.Core.Bool.{Bool, true, false, cond}
 use mathlib.Core.List.{List, [], _∷_, tail, _++_}
-use Prim.Native.Nat.{ℕ, suc, _≤_, _<_, _+_, _-_}
+use Prim.Native.Nat.{ℕ, suc, _≤_, _<_, _+_, _-_, _^_}
+use lib.Dec.{leb}
+use lib.Bits.{bitOr}
 use lib.ListN.{length, take, drop}
 use Rattle.records.specs.declared.TaskNo.{TaskNo}
 use Rattle.executive.specs.declared.Task.{Task}
 use Rattle.executive.specs.declared.Rest.{Rest}
 use Rattle.executive.specs.declared.Table.{Table}
 use Rattle.executive.specs.declared.Work.{Work}
-use Rattle.executive.specs.Numbers.{mostTasks, endOfTime}
+use Rattle.executive.specs.Numbers.{mostTasks, endOfTime, highest}
 use Rattle.executive.specs.Queue.{Item, Moves, behind, count, sumBelow}
 use Rattle.executive.specs.Lists.{pad}
 use Rattle.executive.specs.Places.{taskAt, nobody, putAt}
@@ -43,6 +45,19 @@ items ts (k ∷ ks) = itemOf ts k ∷ items ts ks
 abbrev pub view : Table → List Item
 view t = items (t .tasks) (line t)
 
+-- ---- the word of the ready levels (02): bit p for a ready task of priority p. A priority over 15, which no well-formed
+-- table holds, has no bit
+abbrev pub levelBit : ℕ → ℕ
+levelBit p = cond (leb p highest) (2 ^ p) 0
+
+unfoldable pub levelsOf : List Item → ℕ
+levelsOf [] = 0
+levelsOf (x ∷ xs) = bitOr (levelBit (x .prio)) (levelsOf xs)
+
+-- the table with the word of its queue
+abbrev pub relit : Table → Table
+relit t = record { tasks = t .tasks; queue = t .queue; ready = t .ready; levels = levelsOf (view t); rest = t .rest }
+
 -- the number k goes behind all of equal or higher priority
 unfoldable pub enterAt : List Task → TaskNo → List TaskNo → List TaskNo
 enterAt ts k [] = k ∷ []
@@ -57,9 +72,10 @@ abbrev pub headOf : List TaskNo → TaskNo
 headOf [] = nobody
 headOf (k ∷ ks) = k
 
--- ---- the two moves: the caller leaves with entry e; task k enters with entry e
+-- ---- the two moves: the caller leaves with entry e; task k enters with entry e. The word is set once a step, at its
+-- end
 abbrev pub withLine : List Task → List TaskNo → Table → Table
-withLine ts xs t = record { tasks = ts; queue = pad mostTasks nobody xs; ready = length xs; rest = t .rest }
+withLine ts xs t = record { tasks = ts; queue = pad mostTasks nobody xs; ready = length xs; levels = t .levels; rest = t .rest }
 
 unfoldable pub departed : Task → Table → Table
 departed e t = withLine (putAt (t .tasks) (headOf (line t) .0) e) (tail (line t)) t
@@ -68,7 +84,7 @@ unfoldable pub entered : TaskNo → Task → Table → Table
 entered k e t = withLine (putAt (t .tasks) (k .0) e) (enterAt (putAt (t .tasks) (k .0) e) k (line t)) t
 
 abbrev pub withRest : Rest → Table → Table
-withRest r t = record { tasks = t .tasks; queue = t .queue; ready = t .ready; rest = r }
+withRest r t = record { tasks = t .tasks; queue = t .queue; ready = t .ready; levels = t .levels; rest = r }
 
 -- ---- the plan of a step
 pub data Out : Type 0 where
@@ -101,7 +117,7 @@ FindsRoom [] t = Unit {0}
 FindsRoom (j ∷ js) t = (count (j .who .0) (view t) ≡ 0) × (t .ready < mostTasks) × FindsRoom js (join j t)
 
 unfoldable pub apply : Plan → Table → Table
-apply p t = withRest (p .rest) (joins (p .ins) (depart (p .out) t))
+apply p t = relit (withRest (p .rest) (joins (p .ins) (depart (p .out) t)))
 
 -- ---- the same in flight, with the count of those who were passed over
 abbrev pub begin : Table → Work
@@ -128,8 +144,11 @@ enterAllInFlight (j ∷ js) w = enterAllInFlight js (enterInFlight (j .who) (j .
 abbrev pub restInFlight : Rest → Work → Work
 restInFlight r w = record { table = withRest r (w .table); walked = w .walked }
 
+abbrev pub litInFlight : Work → Work
+litInFlight w = record { table = relit (w .table); walked = w .walked }
+
 unfoldable pub applyInFlight : Plan → Table → Work
-applyInFlight p t = restInFlight (p .rest) (enterAllInFlight (p .ins) (begin (depart (p .out) t)))
+applyInFlight p t = litInFlight (restInFlight (p .rest) (enterAllInFlight (p .ins) (begin (depart (p .out) t))))
 
 -- ---- what the plan does to the queue: its departure and its entries, and no others
 abbrev pub left? : Out → Bool

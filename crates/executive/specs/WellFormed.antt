@@ -1,14 +1,15 @@
--- A well-formed table (01, "A table is well formed when"): a field for each of its rules, in 01's order. Rules on
--- links and names are counts.
+-- A well-formed table (01, "A table is well formed when"): a field for each of its rules, in 01's order, and 02's
+-- behind them. Rules on links and names are counts.
 use mathlib.Core.Path.{_≡_}
 use mathlib.Core.Bool.{true, false, not, cond}
+use mathlib.Core.Logic.{_↔_}
 use mathlib.Core.List.{List}
-use Prim.Native.Nat.{ℕ, _+_, _≤_, _<_}
+use Prim.Native.Nat.{ℕ, _+_, _≤_, _<_, _^_}
 use lib.Dec.{eqb, ltb}
 use lib.ListN.{length, getD}
 use Rattle.records.specs.declared.TaskNo.{TaskNo}
 use Rattle.executive.specs.declared.State.{State}
-use Rattle.executive.specs.declared.State.the-variants.{Dormant}
+use Rattle.executive.specs.declared.State.the-variants.{Dormant, Ready}
 use Rattle.executive.specs.declared.Task.{Task}
 use Rattle.executive.specs.declared.Request.{Request}
 use Rattle.executive.specs.declared.Table.{Table}
@@ -19,7 +20,7 @@ use Rattle.executive.specs.Places.{nobody, never, noTask, noRequest, tas
 use Rattle.executive.specs.Table.{line, items}
 use Rattle.executive.specs.Pool.{requests}
 use Rattle.executive.specs.States.{dormant, ready, awaitStart, awaitEnd, timeOf, maskOf, is, hasTime, hasMask, waitMode}
-use Rattle.executive.specs.Flags.{met}
+use Rattle.executive.specs.Flags.{isSet, met}
 
 -- how many requests name task k: as their target, as the waiter for their start, as the waiter for the end of the
 -- run that they begin
@@ -118,6 +119,17 @@ pub record Zeros (e : Task) : Type 0 where
   pub start : e .start .0 ≡ 0
   pub waiter : e .«end_waiter» .0 ≡ 0
 
+-- ---- some ready task has priority p
+pub record Lit (t : Table) (p : ℕ) : Type 0 where
+  pub task : ℕ
+  pub ready : taskAt (t .tasks) task .state ≡ Ready
+  pub priority : taskAt (t .tasks) task .priority ≡ p
+
+-- the word is of 16 bits, and bit p is set exactly if some ready task has priority p
+pub record Levels (t : Table) : Type 0 where
+  pub word : t .levels < 2 ^ 16
+  pub bits : (p : ℕ) → (isSet (t .levels) p ≡ true) ↔ Lit t p
+
 -- ---- the rules, in 01's order
 pub record WellFormed (t : Table) : Type 0 where
   -- every number is in range
@@ -138,3 +150,5 @@ pub record WellFormed (t : Table) : Type 0 where
   pub dormant : (k : ℕ) → taskAt (t .tasks) k .state ≡ Dormant → Zeros (taskAt (t .tasks) k)
   -- the pool's places, first to last, are read as the order of asking, its free places last and zero
   pub pool : t .rest .pool ≡ pad mostQueued noRequest (requests (t .rest))
+  -- the word of the ready levels has bit p set exactly if some ready task has priority p (02)
+  pub levels : Levels t

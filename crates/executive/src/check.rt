@@ -4,6 +4,7 @@ use crate::Request;
 use crate::Rest;
 use crate::Table;
 use crate::Task;
+use crate::levels;
 use crate::passes;
 use crate::queue_check;
 use crate::rules;
@@ -48,13 +49,17 @@ pub fn all_but_queue(tasks: [Task; 16], rest: Rest) -> bool
 }
 
 impl Table {
-    // The queue's own rules: it holds exactly the ready tasks, once each, in descending priority.
+    // The queue's own rules: it holds exactly the ready tasks, once each, in descending priority; the word of the ready
+    // levels is theirs.
     pub(crate) fn queue_right(self) -> bool
         ensures { λ r. ⌜ r ≡ queueRight self ⌝ }
     {
         let tasks = self.tasks;
         let queue = self.queue;
-        queue_check::line_right(tasks, queue, self.ready, self.rest.count)
+        if !queue_check::line_right(tasks, queue, self.ready, self.rest.count) {
+            return false;
+        }
+        self.levels == levels::levels_of(tasks, queue, self.ready as usize)
     }
 
     // The table keeps every rule.

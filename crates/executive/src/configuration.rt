@@ -161,6 +161,7 @@ fn table_of(tasks: [Task; 16], rest: Rest) -> Table
         tasks,
         queue: [TaskNo(0); 16],
         ready: 0,
+        levels: 0,
         rest,
     }
 }
@@ -218,5 +219,6 @@ pub fn fresh(bytes: &[u8]) -> Fresh
     let blank = table_of(tasks, rest);
     let w = blank.begin();
     let v = start_marked(w, bytes, n);
-    made(0, v.table)
+    let u = v.lit();
+    made(0, u.table)
 }

@@ -117,6 +117,7 @@ impl Table {
         let list = d.entrants;
         let w1 = w.enter_all(list, q, now);
         let change = d.change;
-        w1.changed(change, q)
+        let w2 = w1.changed(change, q);
+        w2.lit()
     }
 }

@@ -11,6 +11,7 @@ pub mod decisions;
 mod entries;
 mod executing;
 mod flags;
+pub mod levels;
 mod methods;
 mod passes;
 mod places;
@@ -77,11 +78,13 @@ pub struct Rest {
     pub queued: u8,
 }
 
-// The table. The first `ready` places of the queue are taken; task k has its entry at place k - 1.
+// The table. The first `ready` places of the queue are taken; task k has its entry at place k - 1. Bit p of `levels` is
+// set exactly if some ready task has priority p.
 pub struct Table {
     pub tasks: [Task; 16],
     pub queue: [TaskNo; 16],
     pub ready: u8,
+    pub levels: u16,
     pub rest: Rest,
 }
 
@@ -124,6 +127,12 @@ pub struct Answer {
 pub struct Outcome {
     pub answer: Answer,
     pub table: Table,
+}
+
+// What the status lamp shows: nothing when the executive is idle, else the highest ready priority.
+pub enum Lamp {
+    Dark,
+    Level(u8),
 }
 
 // What a configuration makes: an answer with number 0 and the table, or one with number 2 and a table of zeros.

@@ -6,7 +6,7 @@ use Rattle.records.specs.Reading.{readAs, readOf}
 use Rattle.executive.specs.Queue.{behind, count}
 use Rattle.executive.specs.Lists.{pad, sumOf, upTo, allOf}
 use Rattle.executive.specs.Places.{taskAt, putAt}
-use Rattle.executive.specs.Table.{items, enterAt, departed, entered, depart, enterInFlight, enterAllInFlight, applyInFlight}
+use Rattle.executive.specs.Table.{items, enterAt, departed, entered, depart, enterInFlight, enterAllInFlight, applyInFlight, levelsOf}
 use Rattle.executive.specs.Clock.{interval, aimAt}
 use Rattle.executive.specs.Pool.{placeOf}
 use Rattle.executive.specs.Plans.{waking, terminatePlan, restartPlan, pausePlan, priorityOf, waitOf, argumentOf, startNowPlan, queueRequestPlan, requestOf, startOrQueuePlan}
@@ -19,5 +19,5 @@ use Rattle.executive.specs.Promises.Worked.{along}
 use Rattle.executive.specs.Promises.EveryStart.{turnOf, turnIn, firstFor, withoutFirst, written, bookFrom, WorkedStarts}
 
 pub worked-starts : WorkedStarts
-unfolding tasksFrom tasksIn configurationIn kindOf readAs readOf behind count pad taskAt putAt items enterAt departed entered depart enterInFlight enterAllInFlight applyInFlight interval aimAt placeOf waking terminatePlan restartPlan pausePlan priorityOf waitOf argumentOf startNowPlan queueRequestPlan requestOf startOrQueuePlan upTo allOf sumOf numbersRight falls exactAt queueRight timesRight startedRight masksRight busyRight waitersAt waitersRight dormantRight poolRight allButQueue isWellFormed planOf nobodyActive badBody namesCaller alarmRunning poolFull endsTime refusals firstOf marksOf accepted refused stepOf taskRight isConfiguration sleepers dormantTable markedStart starters freshTable freshOf along turnOf turnIn firstFor withoutFirst written bookFrom
+unfolding tasksFrom tasksIn configurationIn kindOf readAs readOf behind count pad taskAt putAt items enterAt departed entered depart enterInFlight enterAllInFlight applyInFlight interval aimAt placeOf waking terminatePlan restartPlan pausePlan priorityOf waitOf argumentOf startNowPlan queueRequestPlan requestOf startOrQueuePlan upTo allOf sumOf numbersRight falls exactAt queueRight timesRight startedRight masksRight busyRight waitersAt waitersRight dormantRight poolRight allButQueue isWellFormed planOf nobodyActive badBody namesCaller alarmRunning poolFull endsTime refusals firstOf marksOf accepted refused stepOf taskRight isConfiguration sleepers dormantTable markedStart starters freshTable freshOf along turnOf turnIn firstFor withoutFirst written bookFrom levelsOf
 worked-starts = record { numbers = refl; actives = refl; asked = refl; begun = refl; waiting = refl }

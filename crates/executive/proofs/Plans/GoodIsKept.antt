@@ -9,7 +9,7 @@ use Rattle.executive.specs.declared.Task.{Task}
 use Rattle.executive.specs.declared.Table.{Table}
 use Rattle.executive.specs.declared.Work.{Work}
 use Rattle.executive.specs.Queue.{count}
-use Rattle.executive.specs.Table.{ArraysInOrder, line, items, headOf, Out, stays, leaves, Join, Plan, FindsRoom, entered, depart, join, joins, withRest, apply, begin, enterInFlight, enterAllInFlight, applyInFlight, change-at, outTasks}
+use Rattle.executive.specs.Table.{ArraysInOrder, line, items, relit, headOf, Out, stays, leaves, Join, Plan, FindsRoom, entered, depart, join, joins, withRest, apply, begin, enterInFlight, enterAllInFlight, applyInFlight, change-at, outTasks}
 use Rattle.executive.specs.Pool.{requests}
 use Rattle.executive.specs.Places.{taskAt, putAt}
 use Rattle.executive.specs.States.{ready, is}
@@ -58,7 +58,7 @@ joins-in-flight (j ∷ js) w = joins-in-flight js _
 
 pub plan-in-flight : (p : Plan) (t : Table) → applyInFlight p t .table ≡ apply p t
 unfolding apply applyInFlight
-plan-in-flight p t = ap (withRest (p .rest)) (joins-in-flight (p .ins) (begin (depart (p .out) t)))
+plan-in-flight p t = ap (λ (u : Table). relit (withRest (p .rest) u)) (joins-in-flight (p .ins) (begin (depart (p .out) t)))
 
 -- what the entries come to, one after the other
 pub record JoinsKeep (js : List Join) (t : Table) : Type 0 where
@@ -135,6 +135,7 @@ apply-kept p t w g =
         links = rw f (g .linked);
         own = rw f (g .own);
         rested = g .rested;
+        lit = refl;
       };
       sound = record { once = once (t .tasks) (line t) (w .queue); entering = k .entering };
       room = k .room;

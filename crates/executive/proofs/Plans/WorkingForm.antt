@@ -15,13 +15,14 @@ use Rattle.executive.specs.declared.Table.{Table}
 use Rattle.executive.specs.Numbers.{mostTasks, flagCount, highest, mostGranule, endOfTime}
 use Rattle.executive.specs.Lists.{one, sumOf}
 use Rattle.executive.specs.Pool.{PoolInOrder, requests}
-use Rattle.executive.specs.Table.{ArraysInOrder, line}
+use Rattle.executive.specs.Table.{ArraysInOrder, line, view, levelsOf}
 use Rattle.executive.specs.Places.{never, noTask, taskAt}
 use Rattle.executive.specs.States.{dormant, ready, awaitStart, awaitEnd, is, isDormant}
 use Rattle.executive.specs.WellFormed.{targetsOf, startsOf, endsOf, runsOf, overPriority, outOfRange, waitsForItself, twoWaiters, dormantTarget, Line, Stored, Timely, Unmet, Zeros, WellFormed}
 use Rattle.executive.proofs.states.Laws.{dormant-named, dormant-kind}
 use Rattle.executive.proofs.Lists.Tests.{So-of-true, eqb-self, not-zero, Lt, lt-yes, lt-no, ltb-is, false-not-true}
 use Rattle.executive.proofs.queue.ArraysAreLists.{queue-length, pool-length}
+use Rattle.executive.proofs.check.Levels.{levels-get, levels-make}
 
 -- nothing in this state is due now, at the clock c with the flags fs
 abbrev pub StateOk : ℕ → ℕ → State → Type 0
@@ -67,6 +68,7 @@ pub record WellFormedByPart (t : Table) : Type 0 where
   pub links : LinksOk (t .tasks) (requests (t .rest))
   pub own : EntriesOk (t .rest) (t .tasks)
   pub rested : RestOk (t .rest)
+  pub lit : t .levels ≡ levelsOf (view t)
 
 -- ---- one entry
 -- the blank entry is in order at any number
@@ -171,6 +173,7 @@ formed {t} w =
         priorities = n .priorities;
         neat = record { room = n .queued; clear = w .pool };
       };
+      lit = levels-make t (w .queue .exactly) (n .priority) (w .levels);
     }
 
 module _ (t : Table) (w : WellFormedByPart t) where
@@ -227,4 +230,5 @@ module _ (t : Table) (w : WellFormedByPart t) where
     waiters = record { starts = w .links .starts; ends = w .links .ends; others = w .links .others; apart = w .links .apart; single = w .links .single };
     dormant = λ k z. w .own k .zeros (dormant-kind _ z);
     pool = w .rested .neat .clear;
+    levels = levels-get t (w .queue) (λ k. w .own k .level) (w .lit);
   }

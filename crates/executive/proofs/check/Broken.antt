@@ -2,11 +2,12 @@
 use mathlib.Core.Path.{refl}
 use Rattle.executive.specs.Lists.{pad, sumOf, upTo, allOf}
 use Rattle.executive.specs.Places.{putAt, taskAt}
+use Rattle.executive.specs.Table.{items, levelsOf}
 use Rattle.executive.specs.Check.{falls, exactAt, waitersAt, allButQueue, numbersRight, queueRight, timesRight, startedRight, masksRight, busyRight, waitersRight, dormantRight, poolRight, isWellFormed}
-use Rattle.executive.specs.Promises.Broken.{sound, noGranule, entryBeyond, outOfOrder, twiceReady, pauseOver, alarmFar, lateStart, noMask, waitOver, idleTarget, namedTwice, unnamed, ownWaiter, sleepTalk, strayPlace, Broken}
+use Rattle.executive.specs.Promises.Broken.{sound, noGranule, entryBeyond, outOfOrder, twiceReady, pauseOver, alarmFar, lateStart, noMask, waitOver, idleTarget, namedTwice, unnamed, ownWaiter, sleepTalk, strayPlace, wrongLight, lightOut, Broken}
 
 pub broken : Broken
-unfolding pad putAt taskAt sumOf upTo allOf falls exactAt waitersAt numbersRight queueRight timesRight startedRight masksRight busyRight waitersRight dormantRight poolRight allButQueue isWellFormed sound noGranule entryBeyond outOfOrder twiceReady pauseOver alarmFar lateStart noMask waitOver idleTarget namedTwice unnamed ownWaiter sleepTalk strayPlace
+unfolding pad putAt taskAt sumOf upTo allOf falls exactAt waitersAt numbersRight queueRight timesRight startedRight masksRight busyRight waitersRight dormantRight poolRight allButQueue isWellFormed sound noGranule entryBeyond outOfOrder twiceReady pauseOver alarmFar lateStart noMask waitOver idleTarget namedTwice unnamed ownWaiter sleepTalk strayPlace wrongLight lightOut levelsOf items
 broken = record {
   kept = refl;
   numbers = ((refl, refl), (refl, refl));
@@ -18,4 +19,5 @@ broken = record {
   waiters = ((refl, refl), (refl, refl), (refl, refl));
   dormant = (refl, refl);
   pool = (refl, refl);
+  levels = ((refl, refl), (refl, refl));
 }

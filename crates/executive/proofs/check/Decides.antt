@@ -4,19 +4,22 @@ use mathlib.Core.Path.{_≡_, refl, sym, _∙_}
 use mathlib.Core.Logic.{_↔_}
 use mathlib.Core.Bool.{Bool, true, false}
 use native.Mathlib.Omega.{arith}
+use borrow.Author.Tests.{eqb-true, eq-eqb}
 use Rattle.executive.specs.declared.Table.{Table}
-use Rattle.executive.specs.WellFormed.{WellFormed}
-use Rattle.executive.specs.Check.{numbersRight, queueRight, timesRight, startedRight, masksRight, busyRight, waitersRight, dormantRight, allButQueue, isWellFormed, Checked, Decided}
+use Rattle.executive.specs.WellFormed.{Queue, WellFormed}
+use Rattle.executive.specs.Check.{numbersRight, orderRight, queueRight, timesRight, startedRight, masksRight, busyRight, waitersRight, dormantRight, allButQueue, isWellFormed, Checked, Decided}
 use Rattle.executive.proofs.Lists.Tests.{and-true, true-and}
 use Rattle.executive.proofs.check.RuleByRule.{Known, lined, numbers-get, numbers-make, queue-get, queue-make, times-get, times-make, started-get, started-make, masks-get, masks-make, busy-get, busy-make, waiters-get, waiters-make, dormant-get, dormant-make, pool-get, pool-make}
+use Rattle.executive.proofs.check.Levels.{levels-get, levels-make}
 
 module _ (t : Table) where
   formed : isWellFormed t ≡ true → WellFormed t
-  unfolding isWellFormed allButQueue
+  unfolding isWellFormed allButQueue queueRight
   formed e =
       let ts = t .tasks in
       let r = t .rest in
       let b = and-true (queueRight t) _ e in
+      let o = and-true (orderRight t) _ (b .0) in
       let a = and-true (numbersRight ts r) _ (b .1) in
       let c = and-true (timesRight ts r) _ (a .1) in
       let d = and-true (startedRight ts r) _ (c .1) in
@@ -25,9 +28,10 @@ module _ (t : Table) where
       let h = and-true (waitersRight ts r) _ (g .1) in
       let j = and-true (dormantRight ts) _ (h .1) in
       let w : Known t = numbers-get t (lined t (b .0)) (a .0) in
+      let q : Queue t = queue-get t (w .range) (o .0) in
       record {
         numbers = w .range;
-        queue = queue-get t (w .range) (b .0);
+        queue = q;
         times = times-get t (c .0);
         started = started-get t (d .0);
         masks = masks-get t (f .0);
@@ -35,14 +39,16 @@ module _ (t : Table) where
         waiters = waiters-get t w (h .0);
         dormant = dormant-get t (j .0);
         pool = pool-get t (w .range .sizes .pool) (j .1);
+        levels = levels-get t (q .exactly) (w .range .priority) (eqb-true _ _ (o .1));
       }
 
   passes : WellFormed t → isWellFormed t ≡ true
-  unfolding isWellFormed allButQueue
+  unfolding isWellFormed allButQueue queueRight
   passes w =
       let ts = t .tasks in
       let r = t .rest in
-      true-and (queueRight t) _ (queue-make t (w .numbers) (w .queue))
+      true-and (queueRight t) _
+      (true-and (orderRight t) _ (queue-make t (w .numbers) (w .queue)) (eq-eqb _ _ (levels-make t (w .queue .exactly) (w .numbers .priority) (w .levels))))
       (true-and (numbersRight ts r) _ (numbers-make t (w .numbers))
       (true-and (timesRight ts r) _ (times-make t (w .times))
       (true-and (startedRight ts r) _ (started-make t (w .started))

@@ -24,7 +24,7 @@ use Rattle.executive.specs.Pool.{requests}
 use Rattle.executive.specs.States.{dormant, ready, awaitStart, awaitEnd, is, isDormant, timeOf, maskOf, hasTime, hasMask, waitMode}
 use Rattle.executive.specs.Flags.{met}
 use Rattle.executive.specs.WellFormed.{InRange, Queue, Stored, Timely, Times, Unmet, Waiters, Zeros, startsOf, endsOf, runsOf, dormantTarget}
-use Rattle.executive.specs.Check.{entryInRange, requestInRange, isBlank, sizesRight, inBounds, numbersRight, isTask, isNobody, falls, standsIn, exactAt, queueRight, isStored, isTimely, alarmRight, taskTimely, timesRight, isStarted, startedRight, isUnmet, taskUnmet, masksRight, targetBusy, busyRight, waitersAt, namesOthers, waitersRight, isZero, dormantEntryRight, dormantRight, isFree, poolRight}
+use Rattle.executive.specs.Check.{entryInRange, requestInRange, isBlank, sizesRight, inBounds, numbersRight, isTask, isNobody, falls, standsIn, exactAt, orderRight, queueRight, isStored, isTimely, alarmRight, taskTimely, timesRight, isStarted, startedRight, isUnmet, taskUnmet, masksRight, targetBusy, busyRight, waitersAt, namesOthers, waitersRight, isZero, dormantEntryRight, dormantRight, isFree, poolRight}
 use Rattle.executive.proofs.states.Laws.{dormant-named, dormant-kind}
 use Rattle.executive.proofs.places.TaskAt.{at-none}
 use Rattle.executive.proofs.Lists.Loops.{all-get, all-make, every-get, every-make}
@@ -114,7 +114,7 @@ pub record Lined (t : Table) : Type 0 where
 pub lined : (t : Table) → queueRight t ≡ true → Lined t
 unfolding queueRight
 lined t e =
-    let a = and-true (eqb (length (t .queue)) 16) _ e in
+    let a = and-true (eqb (length (t .queue)) 16) _ (and-true (orderRight t) _ e .0) in
     let b = and-true (leb (t .rest .count) 16) _ (a .1) in
     record { size = eqb-true _ _ (a .0); ready = leb-true _ _ (and-true (leb (t .ready) 16) _ (b .1) .0) }
 
@@ -204,8 +204,8 @@ module _ (t : Table) (w : InRange t) where
       go (among a b) = true-and (ltb 0 (x .0)) _ (lt-ltb 0 (x .0) a) (le-leb _ _ b)
       go (past l) = absurd (let y : is ready (taskAt (t .tasks) (x .0) .state) ≡ 0 = rw (w .beyond (x .0) l) refl in omega arith)
 
-  pub queue-make : Queue t → queueRight t ≡ true
-  unfolding queueRight exactAt
+  pub queue-make : Queue t → orderRight t ≡ true
+  unfolding exactAt
   queue-make q =
       true-and (eqb (length (t .queue)) 16) _ (eq-eqb _ _ (w .sizes .queue))
       (true-and (leb (t .rest .count) 16) _ (le-leb _ _ (w .count .1))
@@ -233,8 +233,7 @@ module _ (t : Table) (w : InRange t) where
       go (among g h) = eqb-true _ _ (all-get (exactAt (t .tasks) (line t)) (t .rest .count) k u g h)
       go (past h) = none (λ z. h) ∙ sym (rw (w .beyond k h) refl)
 
-  pub queue-get : queueRight t ≡ true → Queue t
-  unfolding queueRight
+  pub queue-get : orderRight t ≡ true → Queue t
   queue-get e =
       let z = and-true (eqb (length (t .queue)) 16) _ e in
       let y = and-true (leb (t .rest .count) 16) _ (z .1) in

@@ -14,7 +14,7 @@ use Rattle.executive.specs.declared.Work.{Work}
 use Rattle.executive.specs.Lists.{one, pad, sumOf}
 use Rattle.executive.specs.Queue.{count}
 use Rattle.executive.specs.Places.{nobody, never, noTask, Names, taskAt, putAt}
-use Rattle.executive.specs.Table.{items, stays, Join, Plan, FindsRoom, depart, apply, begin, enterAllInFlight, applyInFlight}
+use Rattle.executive.specs.Table.{items, levelsOf, litInFlight, stays, Join, Plan, FindsRoom, depart, apply, begin, enterAllInFlight, applyInFlight}
 use Rattle.executive.specs.States.{dormant, ready, awaitStart, awaitEnd, is}
 use Rattle.executive.specs.Plans.{asks, begins}
 use Rattle.executive.specs.WellFormed.{WellFormed, runsOf, Line}
@@ -109,13 +109,14 @@ blank-rested n g h l m u = record {
 }
 
 pub dormant-formed : (s : List ℕ) → Bytes s → Configured s → WellFormedByPart (dormantTable s)
-unfolding dormantTable
+unfolding dormantTable items levelsOf
 dormant-formed s b c = record {
   fit = dormant-fit s (tasksIn s) (granuleIn s) (c .few);
   queue = asleep-line s (tasksIn s);
   links = asleep-links s (tasksIn s);
   own = asleep-own s (tasksIn s) (c .own);
   rested = blank-rested (tasksIn s) (granuleIn s) (c .some) (c .few) (c .granule) (b 1);
+  lit = refl;
 }
 
 -- ---- the starts: from number k on, the tasks are still dormant
@@ -178,7 +179,7 @@ pub starts-kept : (s : List ℕ) → Bytes s → isConfiguration s ≡ true → 
 starts-kept s b e = let c = configured s e in apply-kept (startsPlan s) (dormantTable s) (dormant-formed s b c) (starts-good s b c)
 
 -- in flight it is the fresh table
-starts-are : (s : List ℕ) → applyInFlight (startsPlan s) (dormantTable s) ≡ enterAllInFlight (starters s (tasksIn s) 1) (begin (dormantTable s))
+starts-are : (s : List ℕ) → applyInFlight (startsPlan s) (dormantTable s) ≡ litInFlight (enterAllInFlight (starters s (tasksIn s) 1) (begin (dormantTable s)))
 unfolding depart
 starts-are s = carry-still (startsPlan s) (dormantTable s) refl
 

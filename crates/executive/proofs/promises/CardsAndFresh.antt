@@ -7,7 +7,7 @@ use Rattle.records.specs.Reading.{readAs, readOf}
 use Rattle.executive.specs.Queue.{behind}
 use Rattle.executive.specs.Lists.{pad, each, sumOf, upTo, allOf}
 use Rattle.executive.specs.Places.{taskAt, putAt}
-use Rattle.executive.specs.Table.{enterAt, departed, entered, depart, enterInFlight, enterAllInFlight, applyInFlight}
+use Rattle.executive.specs.Table.{items, enterAt, departed, entered, depart, enterInFlight, enterAllInFlight, applyInFlight, levelsOf}
 use Rattle.executive.specs.Clock.{interval, aimAt, rung, advanced}
 use Rattle.executive.specs.Pool.{placeOf}
 use Rattle.executive.specs.Flags.{isSet}
@@ -28,7 +28,7 @@ use Rattle.executive.proofs.configuration.SaidOut.{said-out}
 use Rattle.executive.proofs.configuration.WellFormed.{fresh-formed, fresh-room, fresh-clock, fresh-flags, fresh-made, fresh-refused, fresh-dispatched}
 
 pub cards : Cards
-unfolding behind pad taskAt putAt enterAt departed entered depart enterInFlight enterAllInFlight applyInFlight interval aimAt placeOf isSet each rung advanced waking terminatePlan restartPlan pausePlan cancelPausePlan priorityOf waitOf argumentOf startNowPlan queueRequestPlan startIfDormantPlan requestOf startOrQueuePlan setPlan resetPlan flagPlan waitPlan alarmPlan tickPlan upTo allOf sumOf numbersRight falls exactAt queueRight timesRight startedRight masksRight busyRight waitersAt waitersRight dormantRight poolRight allButQueue isWellFormed kindOf readAs readOf planOf nobodyActive badBody namesCaller alarmRunning poolFull endsTime refusals firstOf marksOf accepted refused stepOf tasksFrom tasksIn configurationIn taskRight isConfiguration sleepers dormantTable markedStart starters freshTable freshOf after along passing raisings putByTime byTime timed
+unfolding behind pad taskAt putAt enterAt departed entered depart enterInFlight enterAllInFlight applyInFlight interval aimAt placeOf isSet each rung advanced waking terminatePlan restartPlan pausePlan cancelPausePlan priorityOf waitOf argumentOf startNowPlan queueRequestPlan startIfDormantPlan requestOf startOrQueuePlan setPlan resetPlan flagPlan waitPlan alarmPlan tickPlan upTo allOf sumOf numbersRight falls exactAt queueRight timesRight startedRight masksRight busyRight waitersAt waitersRight dormantRight poolRight allButQueue isWellFormed kindOf readAs readOf planOf nobodyActive badBody namesCaller alarmRunning poolFull endsTime refusals firstOf marksOf accepted refused stepOf tasksFrom tasksIn configurationIn taskRight isConfiguration sleepers dormantTable markedStart starters freshTable freshOf after along passing raisings putByTime byTime timed items levelsOf
 cards = record {
   formed = (
     well-formed-iff (one 1) .0 refl,

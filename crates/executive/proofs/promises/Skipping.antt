@@ -22,7 +22,7 @@ use Rattle.executive.specs.Numbers.{lastUnit}
 use Rattle.executive.specs.Lists.{pad, sumOf, upTo, allOf, each}
 use Rattle.executive.specs.Queue.{behind}
 use Rattle.executive.specs.Places.{taskAt, putAt}
-use Rattle.executive.specs.Table.{applyInFlight, apply, depart, Plan, Out, enterAt, departed, entered, enterInFlight, enterAllInFlight}
+use Rattle.executive.specs.Table.{items, applyInFlight, apply, depart, Plan, Out, enterAt, departed, entered, enterInFlight, enterAllInFlight, levelsOf}
 use Rattle.executive.specs.Entries.{dueAt}
 use Rattle.executive.specs.Clock.{interval, missed, nextOnGrid, skipsMissed, aimAt, skippedOf, rung, advanced}
 use Rattle.executive.specs.Plans.{caller, endWaiter, waking, restartPlan, terminatePlan, pausePlan, cancelPausePlan, priorityOf, waitOf, argumentOf, startNowPlan, queueRequestPlan, startIfDormantPlan, requestOf, startOrQueuePlan, passing, raisings, putByTime, byTime, timed, setPlan, resetPlan, flagPlan, waitPlan, alarmPlan, tickPlan}
@@ -224,7 +224,7 @@ elsewhere t s z =
     marks-skip t s (number-is t (firstOf (refusals t s)) (callIn s) ∙ o .0) (callIn s) refl (o .1)
 
 pub skipping : Skipping
-unfolding tasksFrom tasksIn configurationIn kindOf readAs readOf behind pad taskAt putAt enterAt departed entered depart enterInFlight enterAllInFlight applyInFlight interval aimAt placeOf isSet each rung advanced waking terminatePlan restartPlan pausePlan cancelPausePlan priorityOf waitOf argumentOf startNowPlan queueRequestPlan startIfDormantPlan requestOf startOrQueuePlan setPlan resetPlan flagPlan waitPlan alarmPlan tickPlan upTo allOf sumOf numbersRight falls exactAt queueRight timesRight startedRight masksRight busyRight waitersAt waitersRight dormantRight poolRight allButQueue isWellFormed planOf nobodyActive badBody namesCaller alarmRunning poolFull endsTime refusals firstOf marksOf accepted refused stepOf taskRight isConfiguration sleepers dormantTable markedStart starters freshTable freshOf after missed nextOnGrid skippedOf passing raisings putByTime byTime timed
+unfolding tasksFrom tasksIn configurationIn kindOf readAs readOf behind pad taskAt putAt enterAt departed entered depart enterInFlight enterAllInFlight applyInFlight interval aimAt placeOf isSet each rung advanced waking terminatePlan restartPlan pausePlan cancelPausePlan priorityOf waitOf argumentOf startNowPlan queueRequestPlan startIfDormantPlan requestOf startOrQueuePlan setPlan resetPlan flagPlan waitPlan alarmPlan tickPlan upTo allOf sumOf numbersRight falls exactAt queueRight timesRight startedRight masksRight busyRight waitersAt waitersRight dormantRight poolRight allButQueue isWellFormed planOf nobodyActive badBody namesCaller alarmRunning poolFull endsTime refusals firstOf marksOf accepted refused stepOf taskRight isConfiguration sleepers dormantTable markedStart starters freshTable freshOf after missed nextOnGrid skippedOf passing raisings putByTime byTime timed items levelsOf
 skipping = record {
   next = next;
   only = only;

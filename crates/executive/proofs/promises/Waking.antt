@@ -19,7 +19,7 @@ use Rattle.executive.specs.Places.{taskAt, putAt, timesIn}
 use Rattle.executive.specs.Pool.{placeOf}
 use Rattle.executive.specs.Flags.{isSet}
 use Rattle.executive.specs.States.{timeOf, hasTime}
-use Rattle.executive.specs.Table.{Join, enterAt, departed, entered, depart, enterInFlight, enterAllInFlight, applyInFlight}
+use Rattle.executive.specs.Table.{Join, enterAt, departed, entered, depart, enterInFlight, enterAllInFlight, applyInFlight, items, levelsOf}
 use Rattle.executive.specs.Clock.{interval, rung, advanced}
 use Rattle.executive.specs.Plans.{stateAt, holds, timeUp, passing, raisings, putByTime, byTime, timed, pausePlan, tickPlan}
 use Rattle.executive.specs.Check.{isWellFormed, allButQueue, numbersRight, falls, exactAt, queueRight, timesRight, startedRight, masksRight, busyRight, waitersAt, waitersRight, dormantRight, poolRight}
@@ -117,5 +117,5 @@ module _ (t : Table) where
   only xs ys e c f d = one-order asym xs ys (λ k. e k ∙ sym (f k)) (places-chain (Before t) xs c) (places-chain (Before t) ys d)
 
 pub waking : Waking
-unfolding tasksFrom tasksIn configurationIn kindOf readAs readOf behind pad taskAt putAt enterAt departed entered depart enterInFlight enterAllInFlight applyInFlight interval placeOf isSet each rung advanced pausePlan passing raisings putByTime byTime timed tickPlan upTo allOf sumOf numbersRight falls exactAt queueRight timesRight startedRight masksRight busyRight waitersAt waitersRight dormantRight poolRight allButQueue isWellFormed planOf nobodyActive badBody namesCaller alarmRunning poolFull endsTime refusals firstOf marksOf accepted refused stepOf taskRight isConfiguration sleepers dormantTable markedStart starters freshTable freshOf after planOfRecord
+unfolding tasksFrom tasksIn configurationIn kindOf readAs readOf behind pad taskAt putAt enterAt departed entered depart enterInFlight enterAllInFlight applyInFlight interval placeOf isSet each rung advanced pausePlan passing raisings putByTime byTime timed tickPlan upTo allOf sumOf numbersRight falls exactAt queueRight timesRight startedRight masksRight busyRight waitersAt waitersRight dormantRight poolRight allButQueue isWellFormed planOf nobodyActive badBody namesCaller alarmRunning poolFull endsTime refusals firstOf marksOf accepted refused stepOf taskRight isConfiguration sleepers dormantTable markedStart starters freshTable freshOf after planOfRecord items levelsOf
 waking = record { exact = exact; order = order; only = only; example = (refl, refl) }

@@ -17,7 +17,7 @@ use Rattle.records.specs.Reading.{readAs, readOf}
 use Rattle.executive.specs.Lists.{pad, each, sumOf, upTo, allOf}
 use Rattle.executive.specs.Queue.{behind, walk, EachWalks}
 use Rattle.executive.specs.Places.{taskAt, putAt}
-use Rattle.executive.specs.Table.{enterAt, aheadOf, entered, depart, enterInFlight, enterAllInFlight, applyInFlight}
+use Rattle.executive.specs.Table.{enterAt, aheadOf, entered, depart, enterInFlight, enterAllInFlight, applyInFlight, items, levelsOf}
 use Rattle.executive.specs.Clock.{rung, advanced}
 use Rattle.executive.specs.Plans.{nothing, priorityOf, startNowPlan, startIfDormantPlan, passing, raisings, putByTime, byTime, timed, tickPlan}
 use Rattle.executive.specs.WellFormed.{WellFormed}
@@ -78,5 +78,5 @@ most-any t s b = go (isWellFormed t) refl
         rw (refusal-walks t s (λ z. omega (arith, n, z))) zero-le
 
 pub walks : Walks
-unfolding behind pad taskAt putAt enterAt aheadOf entered depart enterInFlight enterAllInFlight applyInFlight each rung advanced passing raisings putByTime byTime timed tickPlan priorityOf startNowPlan startIfDormantPlan upTo allOf sumOf numbersRight falls exactAt queueRight timesRight startedRight masksRight busyRight waitersAt waitersRight dormantRight poolRight allButQueue isWellFormed kindOf readAs readOf planOf nobodyActive badBody namesCaller alarmRunning poolFull endsTime refusals firstOf marksOf accepted stepOf allPaused lastDormant
+unfolding behind pad taskAt putAt enterAt aheadOf entered depart enterInFlight enterAllInFlight applyInFlight each rung advanced passing raisings putByTime byTime timed tickPlan priorityOf startNowPlan startIfDormantPlan upTo allOf sumOf numbersRight falls exactAt queueRight timesRight startedRight masksRight busyRight waitersAt waitersRight dormantRight poolRight allButQueue isWellFormed kindOf readAs readOf planOf nobodyActive badBody namesCaller alarmRunning poolFull endsTime refusals firstOf marksOf accepted stepOf allPaused lastDormant items levelsOf
 walks = record { counted = counted; each = each-walks; most = most-any; refused = refusal-walks; met = (refl, refl) }

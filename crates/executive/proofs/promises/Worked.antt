@@ -6,7 +6,7 @@ use Rattle.records.specs.Reading.{readAs, readOf}
 use Rattle.executive.specs.Queue.{behind, insert, count, ahead, prioIn, activeOf, departures, above, entriesAbove}
 use Rattle.executive.specs.Lists.{pad, each, sumOf, upTo, allOf}
 use Rattle.executive.specs.Places.{taskAt, putAt}
-use Rattle.executive.specs.Table.{items, enterAt, departed, entered, depart, join, joins, apply, enterInFlight, enterAllInFlight, applyInFlight, entries, movesOf}
+use Rattle.executive.specs.Table.{items, enterAt, departed, entered, depart, join, joins, apply, enterInFlight, enterAllInFlight, applyInFlight, entries, movesOf, levelsOf}
 use Rattle.executive.specs.Clock.{interval, aimAt, rung, advanced}
 use Rattle.executive.specs.Pool.{placeOf}
 use Rattle.executive.specs.Flags.{isSet}
@@ -20,7 +20,7 @@ use Rattle.executive.specs.Promises.Demands.{planOfRecord, history}
 use Rattle.executive.specs.Promises.Worked.{along, Worked}
 
 pub worked : Worked
-unfolding tasksFrom tasksIn configurationIn kindOf readAs readOf behind insert count ahead prioIn activeOf departures above entriesAbove pad taskAt putAt items enterAt departed entered depart join joins apply enterInFlight enterAllInFlight applyInFlight entries movesOf interval aimAt placeOf isSet each rung advanced waking terminatePlan restartPlan pausePlan cancelPausePlan priorityOf waitOf argumentOf startNowPlan queueRequestPlan startIfDormantPlan requestOf startOrQueuePlan setPlan resetPlan flagPlan waitPlan alarmPlan tickPlan upTo allOf sumOf numbersRight falls exactAt queueRight timesRight startedRight masksRight busyRight waitersAt waitersRight dormantRight poolRight allButQueue isWellFormed planOf nobodyActive badBody namesCaller alarmRunning poolFull endsTime refusals firstOf marksOf accepted refused stepOf taskRight isConfiguration sleepers dormantTable markedStart starters freshTable freshOf planOfRecord history along passing raisings putByTime byTime timed
+unfolding tasksFrom tasksIn configurationIn kindOf readAs readOf behind insert count ahead prioIn activeOf departures above entriesAbove pad taskAt putAt items enterAt departed entered depart join joins apply enterInFlight enterAllInFlight applyInFlight entries movesOf interval aimAt placeOf isSet each rung advanced waking terminatePlan restartPlan pausePlan cancelPausePlan priorityOf waitOf argumentOf startNowPlan queueRequestPlan startIfDormantPlan requestOf startOrQueuePlan setPlan resetPlan flagPlan waitPlan alarmPlan tickPlan upTo allOf sumOf numbersRight falls exactAt queueRight timesRight startedRight masksRight busyRight waitersAt waitersRight dormantRight poolRight allButQueue isWellFormed planOf nobodyActive badBody namesCaller alarmRunning poolFull endsTime refusals firstOf marksOf accepted refused stepOf taskRight isConfiguration sleepers dormantTable markedStart starters freshTable freshOf planOfRecord history along passing raisings putByTime byTime timed levelsOf
 worked = record {
   started = refl;
   well-formed = refl;

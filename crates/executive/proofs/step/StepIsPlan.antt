@@ -133,9 +133,10 @@ pub record Executes (t u : Table) (p : Plan) : Type 0 where
   pub table : u ≡ apply p t
   pub kept : GoodOutcome p t
 
-idle-plan : (t : Table) → apply (nothing t) t ≡ t
+-- a refused call leaves the word as it was, and that is the word of its queue
+idle-plan : (t : Table) → WellFormedByPart t → apply (nothing t) t ≡ t
 unfolding apply depart joins
-idle-plan t = refl
+idle-plan t w = λ i. record { tasks = t .tasks; queue = t .queue; ready = t .ready; levels = sym (w .lit) i; rest = t .rest }
 
 -- whichever is picked, a reading that both agree in
 pub picked : {A B : Type 0} (f : A → B) (b : Bool) (x y : A) (v : B) → f x ≡ v → f y ≡ v → f (cond b x y) ≡ v
@@ -154,7 +155,7 @@ outcome-is t n c w g = go (eqb n 0) refl
   where
     go : (b : Bool) → eqb n 0 ≡ b → Executes t (cond b (accepted t c) (refused t n) .table) (cond b (planOf t c) (nothing t))
     go true e = let k = apply-kept (planOf t c) t w (g (eqb-true n 0 e)) in record { table = plan-in-flight (planOf t c) t; kept = k }
-    go false e = record { table = refused-table t n ∙ sym (idle-plan t); kept = apply-kept (nothing t) t w (nothing-good t w) }
+    go false e = record { table = refused-table t n ∙ sym (idle-plan t w); kept = apply-kept (nothing t) t w (nothing-good t w) }
 
 pub performed-is : (t : Table) (c : Call) → WellFormed t → InRange c → Executes t (performed t c .table) (planOfCall t c)
 unfolding performed planOfCall

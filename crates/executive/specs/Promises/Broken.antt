@@ -2,7 +2,7 @@
 use mathlib.Core.Path.{_≡_}
 use mathlib.Core.Bool.{Bool, true, false}
 use mathlib.Core.List.{List, [], _∷_}
-use Prim.Native.Nat.{ℕ, _+_}
+use Prim.Native.Nat.{ℕ, _+_, _^_}
 use lib.ListN.{set, replicate}
 use Rattle.records.specs.declared.TaskNo.{TaskNo}
 use Rattle.executive.specs.declared.Millis.{Millis}
@@ -15,7 +15,7 @@ use Rattle.executive.specs.declared.Table.{Table}
 use Rattle.executive.specs.Numbers.{mostTasks, mostQueued, flagCount, longest}
 use Rattle.executive.specs.Places.{nobody, never, noTask, noRequest, putAt}
 use Rattle.executive.specs.Lists.{pad}
-use Rattle.executive.specs.Check.{numbersRight, queueRight, timesRight, startedRight, masksRight, busyRight, waitersRight, dormantRight}
+use Rattle.executive.specs.Check.{numbersRight, orderRight, levelsRight, timesRight, startedRight, masksRight, busyRight, waitersRight, dormantRight}
 use Rattle.executive.specs.Check.{poolRight, isWellFormed}
 
 -- ---- the sound table: seven tasks, the clock at 1,000 ms, flag 0 set
@@ -53,22 +53,27 @@ asking k = pad mostQueued noRequest (record { target = no k; priority = 9; argum
 abbrev pub ringing : ℕ → List Millis
 ringing at = set (pad flagCount never []) 4 (record { 0 = at })
 
-abbrev pub tableOf : ℕ → List Task → List TaskNo → List Request → List Millis → Table
-tableOf g ts q p rings = record {
+abbrev pub tableOf : ℕ → List Task → List TaskNo → ℕ → List Request → List Millis → Table
+tableOf g ts q levels p rings = record {
   tasks = ts;
   queue = q;
   ready = 2;
+  levels = levels;
   rest = record { count = 7; granule = g; clock = record { 0 = now }; flags = 1; alarms = rings; pool = p; queued = 1 };
 }
 
-abbrev pub withEntries : List Task → Table
-withEntries ts = tableOf 10 ts (lined (no 2 ∷ no 1 ∷ [])) (asking 1) (ringing (now + longest))
+-- the ready levels are 5 and 7
+abbrev pub lit : ℕ
+lit = 2 ^ 5 + 2 ^ 7
 
-abbrev pub withQueue : List TaskNo → Table
-withQueue q = tableOf 10 entries (lined q) (asking 1) (ringing (now + longest))
+abbrev pub withEntries : List Task → Table
+withEntries ts = tableOf 10 ts (lined (no 2 ∷ no 1 ∷ [])) lit (asking 1) (ringing (now + longest))
+
+abbrev pub withQueue : List Task → List TaskNo → ℕ → Table
+withQueue ts q levels = tableOf 10 ts (lined q) levels (asking 1) (ringing (now + longest))
 
 abbrev pub withPool : List Request → Table
-withPool p = tableOf 10 entries (lined (no 2 ∷ no 1 ∷ [])) p (ringing (now + longest))
+withPool p = tableOf 10 entries (lined (no 2 ∷ no 1 ∷ [])) lit p (ringing (now + longest))
 
 unfoldable pub sound : Table
 sound = withEntries entries
@@ -76,24 +81,25 @@ sound = withEntries entries
 -- ---- the broken ones: each is the sound one but for one field
 -- a granule of 0 ms; an entry past the task count
 unfoldable pub noGranule : Table
-noGranule = tableOf 0 entries (lined (no 2 ∷ no 1 ∷ [])) (asking 1) (ringing (now + longest))
+noGranule = tableOf 0 entries (lined (no 2 ∷ no 1 ∷ [])) lit (asking 1) (ringing (now + longest))
 
 unfoldable pub entryBeyond : Table
 entryBeyond = withEntries (putAt entries 8 (entry Dormant 0 0 0 nobody))
 
--- a lower priority in front of a higher one; a task twice in the queue, another ready one not there
+-- a lower priority in front of a higher one; a task twice in the queue, another ready one of the same priority not
+-- there
 unfoldable pub outOfOrder : Table
-outOfOrder = withQueue (no 1 ∷ no 2 ∷ [])
+outOfOrder = withQueue entries (no 1 ∷ no 2 ∷ []) lit
 
 unfoldable pub twiceReady : Table
-twiceReady = withQueue (no 2 ∷ no 2 ∷ [])
+twiceReady = withQueue (putAt entries 1 (entry Ready 7 0 now (no 3))) (no 2 ∷ no 2 ∷ []) (2 ^ 7)
 
 -- a pause until now; an alarm too far away
 unfoldable pub pauseOver : Table
 pauseOver = withEntries (putAt entries 4 (entry (Paused (record { 0 = now })) 3 0 0 nobody))
 
 unfoldable pub alarmFar : Table
-alarmFar = tableOf 10 entries (lined (no 2 ∷ no 1 ∷ [])) (asking 1) (ringing (now + longest + 1))
+alarmFar = tableOf 10 entries (lined (no 2 ∷ no 1 ∷ [])) lit (asking 1) (ringing (now + longest + 1))
 
 -- a last scheduled start after the clock
 unfoldable pub lateStart : Table
@@ -128,12 +134,19 @@ sleepTalk = withEntries (putAt entries 7 (entry Dormant 0 1 0 nobody))
 unfoldable pub strayPlace : Table
 strayPlace = withPool (set (asking 1) 1 (record { target = nobody; priority = 0; argument = 1; «start_waiter» = nobody; «end_waiter» = nobody }))
 
+-- the word with a bit too many, and with a bit missing
+unfoldable pub wrongLight : Table
+wrongLight = withQueue entries (no 2 ∷ no 1 ∷ []) (lit + 2 ^ 3)
+
+unfoldable pub lightOut : Table
+lightOut = withQueue entries (no 2 ∷ no 1 ∷ []) (2 ^ 5)
+
 -- ---- what the check finds of each
--- the nine tests, in 01's order; refused, and by the test at place i alone
+-- the ten tests, in 01's order and then 02's; refused, and by the test at place i alone
 abbrev pub tests : Table → List Bool
 tests t =
     numbersRight (t .tasks) (t .rest)
-    ∷ queueRight t
+    ∷ orderRight t
     ∷ timesRight (t .tasks) (t .rest)
     ∷ startedRight (t .tasks) (t .rest)
     ∷ masksRight (t .tasks) (t .rest)
@@ -141,10 +154,11 @@ tests t =
     ∷ waitersRight (t .tasks) (t .rest)
     ∷ dormantRight (t .tasks)
     ∷ poolRight (t .rest)
+    ∷ levelsRight t
     ∷ []
 
 abbrev pub OnlyBy : ℕ → Table → Type 0
-OnlyBy i t = (isWellFormed t ≡ false) × (tests t ≡ set (replicate 9 true) i false)
+OnlyBy i t = (isWellFormed t ≡ false) × (tests t ≡ set (replicate 10 true) i false)
 
 pub record Broken : Type 0 where
   pub kept : isWellFormed sound ≡ true
@@ -157,3 +171,4 @@ pub record Broken : Type 0 where
   pub waiters : OnlyBy 6 namedTwice × OnlyBy 6 unnamed × OnlyBy 6 ownWaiter
   pub dormant : OnlyBy 7 sleepTalk
   pub pool : OnlyBy 8 strayPlace
+  pub levels : OnlyBy 9 wrongLight × OnlyBy 9 lightOut

@@ -14,7 +14,7 @@ use Rattle.executive.specs.Numbers.{mostTasks}
 use Rattle.executive.specs.Lists.{pad}
 use Rattle.executive.specs.Places.{nobody, never}
 use Rattle.executive.specs.Queue.{Item, Moves, left, walk, EachWalks}
-use Rattle.executive.specs.Table.{view, movesOf}
+use Rattle.executive.specs.Table.{view, movesOf, items, levelsOf}
 use Rattle.executive.specs.WellFormed.{WellFormed}
 use Rattle.executive.specs.Step.{stepOf}
 use Rattle.executive.specs.Configuration.{blankRest, dormantAt}
@@ -35,7 +35,7 @@ abbrev pub equal : State → Task
 equal s = record { own = 7; state = s; priority = 7; argument = 0; start = never; «end_waiter» = nobody }
 
 abbrev pub tableOf : List Task → List TaskNo → ℕ → Table
-tableOf ts q n = record { tasks = ts; queue = pad mostTasks nobody q; ready = n; rest = blankRest mostTasks 1 }
+tableOf ts q n = record { tasks = ts; queue = pad mostTasks nobody q; ready = n; levels = levelsOf (items ts q); rest = blankRest mostTasks 1 }
 
 unfoldable pub allPaused : Table
 allPaused = tableOf (replicate 16 (equal (Paused (record { 0 = 1 })))) [] 0

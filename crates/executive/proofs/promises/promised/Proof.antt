@@ -9,9 +9,10 @@ use Rattle.executive.proofs.promises.EveryStart.{every-start}
 use Rattle.executive.proofs.promises.ByDecision.{by-decision}
 use Rattle.executive.proofs.promises.Waking.{waking}
 use Rattle.executive.proofs.promises.Walks.{walks}
+use Rattle.executive.proofs.promises.LampLaw.{lamp-law}
 
 returns : tie.Need-returns
-returns c = (demands, queue-law, worked, skipping, every-start, by-decision, waking, walks)
+returns c = (demands, queue-law, worked, skipping, every-start, by-decision, waking, walks, lamp-law)
 
 pub promised-spec : {M : Type 1} → statement M
 promised-spec = tie.close (tie.spec returns)

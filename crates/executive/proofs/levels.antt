@@ -1,0 +1,3 @@
+-- The laws of the word of the ready levels, and of the lamp.
+pub mod Turns
+pub mod Highest
