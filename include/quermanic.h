@@ -19,13 +19,18 @@ extern "C" {
 
 /* The version. The second number rises with each landing (docs/CHANGES.md); the first, with the second at 0 again,
  * where a board must change: the image, a part of the answer that stands already, what a function takes and returns. */
-#define QUERMANIC_VERSION "1.3"
+#define QUERMANIC_VERSION "1.4"
 
 /* A length in bytes. The code takes 64 bits on every machine; size_t has 32 on some, and would be wrong there. */
 typedef uint64_t quermanic_length;
 
-/* The bytes of a table's image (docs/TABLE.md). */
-#define QUERMANIC_IMAGE_LENGTH 896
+/* The bytes of a table's image (docs/TABLE.md), and where the word of the ready levels stands in it: two bytes, the higher
+ * first; bit p is set exactly if some ready task has priority p. */
+#define QUERMANIC_IMAGE_LENGTH 898
+#define QUERMANIC_IMAGE_LEVELS 896
+
+/* What the lamp gives when it is dark: no priority. */
+#define QUERMANIC_LAMP_DARK 16
 
 /* The bytes of an answer, and where each of its parts stands. Walked: how many ready tasks were passed over by those that
  * entered, one byte. The argument is two bytes, the higher first; how many grid times a restart by 01 with bit 6 passed over is
@@ -165,6 +170,16 @@ uint8_t quermanic_check(const uint8_t *image, quermanic_length image_length);
  */
 uint8_t quermanic_step(uint8_t *image, quermanic_length image_length, const uint8_t *record,
                        quermanic_length record_length, uint8_t *answer, quermanic_length answer_length);
+
+/*
+ * What the status lamp shows of an image.
+ *
+ *   0 to 15              the highest ready priority, which is the active task's
+ *   QUERMANIC_LAMP_DARK  nobody is ready; also where `image_length` is not QUERMANIC_IMAGE_LENGTH
+ *
+ * It reads the word of the ready levels and no other byte of `image`, checks nothing, and writes nothing.
+ */
+uint8_t quermanic_lamp(const uint8_t *image, quermanic_length image_length);
 
 /*
  * What follows is for convenience, and no part of what is proved: builders of each record, and readers of an answer

@@ -3,7 +3,7 @@
 # of their own, so that their variables are nobody else's.
 
 targets='cortex-m3 cortex-m0plus riscv32 riscv64 aarch64 aarch64-linux x86-64'
-entries='quermanic_fresh quermanic_check quermanic_step'
+entries='quermanic_fresh quermanic_check quermanic_step quermanic_lamp'
 memory_stack=32 # bytes of stack that a memory function of the board counts for
 
 # target NAME: sets what clang is to know of this machine; false where there is no such target.

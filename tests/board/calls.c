@@ -1,5 +1,5 @@
 /* The board library's functions as a program, for a trial that cannot link them: it reads calls and answers them.
- * A call is a letter (f fresh, c check, s step), the lengths of three buffers, four bytes each, the highest first,
+ * A call is a letter (f fresh, c check, l lamp, s step), the lengths of three buffers, four bytes each, the highest first,
  * and their bytes: the image; the configuration or the record; the answer. What it gives: the number that was
  * returned, as four bytes, so that what a machine leaves above the returned byte is seen; the instructions that it
  * took, four bytes, 0 where nothing counts them; and the bytes of image and answer after it. */
@@ -66,6 +66,8 @@ static uint32_t call(uint8_t kind, struct guarded *image, struct guarded *given,
         return quermanic_fresh(inside(given), given->length, inside(image), image->length);
     case 'c':
         return quermanic_check(inside(image), image->length);
+    case 'l':
+        return quermanic_lamp(inside(image), image->length);
     default:
         need(kind == 's', "calls: no such call\n");
         return quermanic_step(inside(image), image->length, inside(given), given->length, inside(answer),

@@ -2,7 +2,7 @@
 
 use model::table::{Request, State, Table, Task};
 
-pub const LENGTH: usize = 896;
+pub const LENGTH: usize = 898;
 
 /// The image of a table.
 pub fn encode(table: &Table) -> Vec<u8> {
@@ -22,6 +22,7 @@ pub fn encode(table: &Table) -> Vec<u8> {
         image.extend_from_slice(&request.argument.to_be_bytes());
         image.extend_from_slice(&[request.start_waiter, request.end_waiter]);
     }
+    image.extend_from_slice(&table.levels.to_be_bytes());
     image
 }
 
@@ -65,6 +66,7 @@ pub fn decode(image: &[u8]) -> Option<Table> {
     for place in &mut table.pool {
         *place = decode_request(&mut bytes);
     }
+    table.levels = u16::from_be_bytes(bytes.take());
     Some(table)
 }
 

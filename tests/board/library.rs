@@ -32,6 +32,14 @@ impl Library {
         }
     }
 
+    /// What the lamp shows of an image.
+    pub fn lamp(&mut self, image: &[u8]) -> u32 {
+        match &mut self.0 {
+            Some(program) => program.lamp(image),
+            None => linked::lamp(image),
+        }
+    }
+
     /// A step's number, and the bytes of image and answer after it.
     pub fn step(&mut self, image: &[u8], record: &[u8], answer: &[u8]) -> (u32, Vec<u8>, Vec<u8>) {
         let mut image = Guarded::new(image);

@@ -4,6 +4,7 @@
 extern "C" {
     fn quermanic_fresh(config: *const u8, config_length: u64, image: *mut u8, image_length: u64) -> u8;
     fn quermanic_check(image: *const u8, image_length: u64) -> u8;
+    fn quermanic_lamp(image: *const u8, image_length: u64) -> u8;
     fn quermanic_step(
         image: *mut u8,
         image_length: u64,
@@ -22,6 +23,10 @@ pub fn fresh(config: &[u8], image: &mut [u8]) -> u32 {
 
 pub fn check(image: &[u8]) -> u32 {
     unsafe { quermanic_check(image.as_ptr(), image.len() as u64) }.into()
+}
+
+pub fn lamp(image: &[u8]) -> u32 {
+    unsafe { quermanic_lamp(image.as_ptr(), image.len() as u64) }.into()
 }
 
 pub fn step(image: &mut [u8], record: &[u8], answer: &mut [u8]) -> u32 {

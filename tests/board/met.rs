@@ -28,6 +28,8 @@ pub struct Met {
     walked: u8,
     /// Starts that were asked for, and that have begun.
     starts: [u64; 2],
+    /// How often the lamp showed each level, and 16 for dark.
+    lamps: [u64; 17],
 }
 
 /// Since when each task has been in its state and each alarm has had its time.
@@ -93,6 +95,11 @@ impl Met {
         self.starts[1] += book.begun;
     }
 
+    /// What the lamp showed of a well-formed table.
+    pub fn lit(&mut self, shown: u32) {
+        self.lamps[shown as usize] += 1;
+    }
+
     /// A damaged image: whether it is one of a well-formed table all the same.
     pub fn checked(&mut self, sound: bool) {
         *self.checks.entry(sound).or_default() += 1;
@@ -112,6 +119,7 @@ impl Met {
         println!("  grid times passed over in one step: at most {}", self.skipped);
         println!("  ready tasks passed over in one step: at most {}", self.walked);
         println!("  starts asked for: {}, begun: {}", self.starts[0], self.starts[1]);
+        println!("  lamp at 0 to 15, and dark: {:?}", self.lamps);
         for (what, count) in TIMED.iter().zip(self.days) {
             println!("  {what} after more than 255 hours: {count}");
         }
@@ -122,6 +130,7 @@ impl Met {
             && self.skipped > u64::from(u32::MAX)
             && self.walked == FARTHEST
             && self.starts.iter().all(|count| *count > 0)
+            && self.lamps.iter().all(|count| *count > 0)
             && self.days.iter().all(|count| *count > 0)
             && of(false) > 0
             && of(true) > 0;

@@ -53,11 +53,20 @@ impl Program {
         self.call(b'f', image, config, &mut [])
     }
 
-    pub fn check(&mut self, image: &[u8]) -> u32 {
+    /// A call that only looks at the image.
+    fn look(&mut self, kind: u8, image: &[u8]) -> u32 {
         let mut after = image.to_vec();
-        let number = self.call(b'c', &mut after, &[], &mut []);
-        assert!(after == image, "the check wrote to the image");
+        let number = self.call(kind, &mut after, &[], &mut []);
+        assert!(after == image, "the check or the lamp wrote to the image");
         number
+    }
+
+    pub fn check(&mut self, image: &[u8]) -> u32 {
+        self.look(b'c', image)
+    }
+
+    pub fn lamp(&mut self, image: &[u8]) -> u32 {
+        self.look(b'l', image)
     }
 
     pub fn step(&mut self, image: &mut [u8], record: &[u8], answer: &mut [u8]) -> u32 {

@@ -10,13 +10,14 @@ type Edit = fn(&mut Table, &mut Rng);
 const EDITS: [Edit; 10] = [clock, forward, own, runs, flags, timed, waits, fill_pool, move_end, to_end];
 
 /// Edits that mostly break one rule, by as little as they can.
-const BREAKS: [Edit; 9] =
-    [bad_time, bad_alarm, bad_entry, bad_queue, bad_place, bad_link, two_waiters, bad_count, bad_clock];
+const BREAKS: [Edit; 10] =
+    [bad_time, bad_alarm, bad_entry, bad_queue, bad_place, bad_link, two_waiters, bad_count, bad_clock, bad_levels];
 
 /// The table after an edit that keeps it well formed.
 pub fn edited(table: &Table, rng: &mut Rng) -> Table {
     let mut next = *table;
     rng.pick(&EDITS)(&mut next, rng);
+    next.levels = next.ready_levels();
     if well_formed(&next) {
         next
     } else {
@@ -200,6 +201,17 @@ fn to_end(table: &mut Table, _: &mut Rng) {
     if let Some(request) = table.pool.iter_mut().find(|place| place.start_waiter != 0) {
         request.end_waiter = std::mem::take(&mut request.start_waiter);
         table.tasks[request.end_waiter as usize - 1].state = State::WaitEnd;
+    }
+}
+
+/// The word of the ready levels with a bit too many, a bit missing, the bit of a task that is not ready, or none.
+fn bad_levels(table: &mut Table, rng: &mut Rng) {
+    let task = table.tasks[rng.below(TASKS)];
+    match rng.below(4) {
+        0 => table.levels |= 1 << rng.below(16),
+        1 => table.levels &= !(1 << task.priority),
+        2 => table.levels |= 1 << task.priority,
+        _ => table.levels = 0,
     }
 }
 

@@ -20,6 +20,8 @@ use std::time::Instant;
 const LONGEST_WALK: usize = 400;
 /// The board's own number: a buffer that is to be written to has not the length it needs.
 const NO_ROOM: u32 = 30;
+/// What the lamp gives where it shows nothing.
+const DARK: u32 = 16;
 /// What stands in the answer's buffer before a step.
 pub const UNWRITTEN: [u8; ANSWER + 4] = [0xA5; ANSWER + 4];
 
@@ -55,15 +57,20 @@ impl Trial<'_> {
         Ok(())
     }
 
-    /// The image that a board wrote before unit 5 was a day is well formed still, and its steps go on.
+    /// The image that a board wrote before unit 5 was a day is well formed still once it has the word of the ready levels
+    /// (docs/EMBEDDING.md), and its steps go on.
     fn before_days(&mut self) -> Told {
         let text = include_str!("before-days.hex").lines();
         let bytes = text
             .filter(|line| !line.starts_with('#'))
             .flat_map(|line| line.split(' ').map(|byte| u8::from_str_radix(byte, 16).expect("a byte in hex")));
-        let image: Vec<u8> = bytes.collect();
+        let mut image: Vec<u8> = bytes.collect();
+        if self.library.check(&image) != 1 {
+            return Err("an image without the word of the ready levels is taken".to_string());
+        }
+        image.extend(levels_of(&image).to_be_bytes());
         if self.library.check(&image) != 0 {
-            return Err("the image of an older board is refused".to_string());
+            return Err("the image of an older board, with its word, is refused".to_string());
         }
         self.image(&image, &[0x80])?;
         self.image(&image, &[0x00])?;
@@ -177,7 +184,26 @@ impl Trial<'_> {
             self.met.counted(&given.2[8..ANSWER], given.2[5]);
         }
         self.counts.add(record, number, self.library.spent());
+        self.lit(&given.1)?;
         Ok(given)
+    }
+
+    /// What the lamp shows of an image: of a well-formed table by its entries, of any other by its word.
+    fn lit(&mut self, image: &[u8]) -> Told {
+        let sound = decode(image).filter(well_formed);
+        let expected = match (&sound, self.wrong) {
+            (Some(table), Wrong::Lowest) if table.levels != 0 => table.levels.trailing_zeros(),
+            (Some(table), _) => table.lamp().map_or(DARK, u32::from),
+            (None, _) => shown(image),
+        };
+        let given = self.library.lamp(image);
+        if given != expected {
+            return Err(format!("lamp: the library gives {given}, the model {expected}\nimage {}", hex(image)));
+        }
+        if sound.is_some() {
+            self.met.lit(given);
+        }
+        Ok(())
     }
 
     /// What the model gives for a step.
@@ -230,6 +256,23 @@ impl Trial<'_> {
         self.met.made(given.0 as u8);
         Ok(())
     }
+}
+
+/// What the lamp shows of any bytes: the highest bit of the last two, where they have an image's length.
+fn shown(image: &[u8]) -> u32 {
+    match image {
+        [.., high, low] if image.len() == LENGTH => {
+            let word = u32::from(*high) << 8 | u32::from(*low);
+            word.checked_ilog2().unwrap_or(DARK)
+        }
+        _ => DARK,
+    }
+}
+
+/// The word that an image without one is to have: bit p for each entry with state 1 (ready) and priority p.
+fn levels_of(image: &[u8]) -> u16 {
+    let entries = image[..416].chunks(26).filter(|entry| entry[1] == 1);
+    entries.fold(0, |levels, entry| levels | 1 << entry[14])
 }
 
 /// The table of an image that the walk made; encoding it again must give the same bytes.

@@ -12,16 +12,18 @@ pub enum Wrong {
     Image,
     Check,
     Fresh,
+    Lowest,
 }
 
 /// Those that are no rule of the model, by name.
-const WRONGS: [(&str, Wrong); 6] = [
+const WRONGS: [(&str, Wrong); 7] = [
     ("answer", Wrong::Answer),
     ("one-skipped-too-few", Wrong::Skipped),
     ("walk-of-higher-only", Wrong::Walked),
     ("image", Wrong::Image),
     ("check", Wrong::Check),
     ("fresh", Wrong::Fresh),
+    ("lamp-lowest", Wrong::Lowest),
 ];
 
 /// What is made wrong, by its name.

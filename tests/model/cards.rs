@@ -255,7 +255,7 @@ fn rich_table() -> Table {
 }
 
 /// Each rule of the sentence, broken once or more in the rich table.
-const BREAKS: [fn(&mut Table); 34] = [
+const BREAKS: [fn(&mut Table); 38] = [
     |t| t.count = 0,
     |t| t.count = 17,
     |t| t.granule = 0,
@@ -290,6 +290,10 @@ const BREAKS: [fn(&mut Table); 34] = [
     |t| t.tasks[6].argument = 1,
     |t| t.tasks[8].own = 1,
     |t| t.pool[2].argument = 1,
+    |t| t.levels |= 1 << 12,
+    |t| t.levels &= t.levels - 1,
+    |t| t.levels |= 1 << t.tasks[5].priority,
+    |t| t.levels = 0,
 ];
 
 /// On each broken table every step answers 1 and keeps it.

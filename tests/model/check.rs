@@ -2,7 +2,7 @@
 
 use crate::table::{Request, State, Table, Task, LAST_CLOCK, LONGEST, PLACES, TASKS};
 
-/// Whether a table keeps every rule, in the sentence's order.
+/// Whether a table keeps every rule, in the sentence's order; then document 02's.
 pub fn well_formed(table: &Table) -> bool {
     in_range(table)
         && queue_is_right(table)
@@ -12,6 +12,7 @@ pub fn well_formed(table: &Table) -> bool {
         && table.pool[..table.asked as usize].iter().all(|request| table.task(request.task).state != State::Dormant)
         && links_match(table)
         && idle_entries_are_zero(table)
+        && table.levels == table.ready_levels()
 }
 
 /// Every number is in range.

@@ -23,7 +23,10 @@ pub fn fresh_from_start(bytes: &[u8]) -> Option<(Table, usize)> {
         rest = more;
     }
     match rest {
-        [0x42, steps @ ..] if table.count > 0 => Some((table, bytes.len() - steps.len())),
+        [0x42, steps @ ..] if table.count > 0 => {
+            table.levels = table.ready_levels();
+            Some((table, bytes.len() - steps.len()))
+        }
         _ => None,
     }
 }

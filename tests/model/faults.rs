@@ -1,4 +1,4 @@
-//! The faults that the last board had, and some more of its kind, beside the model: its own step, and then what such a
+//! The faults that the last board had, and more of their kind, beside the model: its own step, and then what such a
 //! board did otherwise. They show that the comparisons find them.
 
 use crate::steps::step_unchecked;
@@ -14,10 +14,11 @@ pub enum Fault {
     StartTwice,
     WakeByNumber,
     FlagsFirst,
+    LampLags,
 }
 
 /// The faults, by name.
-pub const FAULTS: [(&str, Fault); 8] = [
+pub const FAULTS: [(&str, Fault); 9] = [
     ("equal-in-front", Fault::EqualInFront),
     ("drifting-catch-up", Fault::DriftingCatchUp),
     ("cancel-wakes-due", Fault::CancelWakesDue),
@@ -26,6 +27,7 @@ pub const FAULTS: [(&str, Fault); 8] = [
     ("start-twice", Fault::StartTwice),
     ("wake-by-number", Fault::WakeByNumber),
     ("flags-first", Fault::FlagsFirst),
+    ("lamp-lags", Fault::LampLags),
 ];
 
 impl Fault {
@@ -45,7 +47,10 @@ impl Fault {
             Fault::StartTwice => start_twice(&before, table, record),
             Fault::WakeByNumber => wake_by(&before, table, record, |number, _| number),
             Fault::FlagsFirst => wake_by(&before, table, record, |number, state| (state.time(), number)),
+            Fault::LampLags => {}
         }
+        // the word of the ready levels is that of the table then, or of the table before
+        table.levels = if self == Fault::LampLags { before.levels } else { table.ready_levels() };
         answer.name_active(table);
         answer
     }

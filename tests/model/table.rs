@@ -65,6 +65,8 @@ pub struct Table {
     pub alarms: [u64; FLAGS],
     pub pool: [Request; PLACES],
     pub asked: u8,
+    /// Bit p is set exactly if some ready task has priority p.
+    pub levels: u16,
 }
 
 /// What a step answers.
@@ -98,6 +100,18 @@ impl Table {
             State::WaitAll(mask) => self.flags & mask == mask,
             _ => false,
         }
+    }
+
+    /// The word of the ready levels, by the entries.
+    pub fn ready_levels(&self) -> u16 {
+        let ready = self.tasks.iter().filter(|task| task.state == State::Ready);
+        ready.fold(0, |levels, task| levels | 1u16.checked_shl(task.priority.into()).unwrap_or(0))
+    }
+
+    /// What the lamp shows, by the entries: the highest ready priority; dark when idle.
+    pub fn lamp(&self) -> Option<u8> {
+        let ready = self.tasks.iter().filter(|task| task.state == State::Ready);
+        ready.map(|task| task.priority).max()
     }
 
     /// The earliest request for a task, taken from the pool.

@@ -52,6 +52,7 @@ pub struct Table {
     pub flags: u32,
     pub alarms: Vec<u64>,
     pub pool: Vec<Request>,
+    pub levels: u16,
 }
 
 pub fn read(image: &[u8]) -> Table {
@@ -66,6 +67,7 @@ pub fn read(image: &[u8]) -> Table {
         flags: FLAGS.number(image) as u32,
         alarms: (0..ALARMS.many).map(|i| ALARMS.part(i, ALARM_TIME).number(image)).collect(),
         pool: (0..POOL.many).map(|i| request(image, i)).collect(),
+        levels: LEVELS.number(image) as u16,
     }
 }
 

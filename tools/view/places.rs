@@ -24,7 +24,7 @@ const fn rows(from: usize, step: usize, many: usize) -> Rows {
 }
 
 /// The bytes of an image.
-pub const LENGTH: usize = 896;
+pub const LENGTH: usize = 898;
 
 /// The tasks' entries, and the parts of one.
 pub const ENTRIES: Rows = rows(0, 26, 16);
@@ -60,6 +60,9 @@ pub const RUN_PRIORITY: Place = place(1, 1);
 pub const RUN_ARGUMENT: Place = place(2, 2);
 pub const START_WAITER: Place = place(4, 1);
 pub const RUN_END_WAITER: Place = place(5, 1);
+
+/// The word of the ready levels.
+pub const LEVELS: Place = place(896, 2);
 
 /// The bytes of an answer, and the parts of one (docs/EMBEDDING.md).
 pub const ANSWER: usize = 16;

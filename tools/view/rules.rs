@@ -3,8 +3,8 @@
 use crate::image::{Request, State, Table, Task};
 use crate::places::*;
 
-/// The rules, in document 01's order; before them what makes bytes an image at all.
-pub const RULES: [&str; 10] = [
+/// The rules, in document 01's order, then 02's; before them what makes bytes an image at all.
+pub const RULES: [&str; 11] = [
     "an image has no byte that no stored table has there",
     "every number is in range",
     "the ready queue holds exactly the ready tasks, once each, in descending priority",
@@ -15,6 +15,7 @@ pub const RULES: [&str; 10] = [
     "a waiter that is named is another task in the matching state, and each such state is named once",
     "a dormant task holds zeros but for its own priority",
     "entries past the task count and free places are zero",
+    "the word of the ready levels has bit p set exactly if some ready task has priority p",
 ];
 
 /// A rule that is broken, the first byte of the number that breaks it, and how.
@@ -38,6 +39,7 @@ pub fn broken(table: &Table) -> Vec<Broken> {
     found.links();
     found.dormant();
     found.free();
+    found.levels();
     found.list
 }
 
@@ -255,6 +257,16 @@ impl Found<'_> {
             self.rule(9, parts == [0; 4] && place.argument == 0, POOL.part(i, TARGET), || {
                 format!("place {} of the pool is free, and not zero", i + 1)
             });
+        }
+    }
+
+    fn levels(&mut self) {
+        let levels = self.table.levels;
+        for p in 0..=HIGHEST {
+            let lit = levels >> p & 1 == 1;
+            let ready = self.table.tasks.iter().any(|task| task.state == State::Ready && task.priority == p);
+            self.rule(10, !lit || ready, LEVELS, || format!("bit {p} is set, and no ready task has priority {p}"));
+            self.rule(10, lit || !ready, LEVELS, || format!("a ready task has priority {p}, and bit {p} is not set"));
         }
     }
 }

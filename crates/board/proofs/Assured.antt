@@ -4,6 +4,7 @@ use Rattle.board.specs.Promises.{Promises}
 use Rattle.board.proofs.Trips.{load-store, image-parts, stored, load-fits}
 use Rattle.board.proofs.Answered.{refused, short, not-made}
 use Rattle.board.proofs.Histories.{fresh-kept, step-kept, active, overtaking}
+use Rattle.board.proofs.Shown.{lamp}
 
 pub promises : Promises
 promises = record {
@@ -18,10 +19,12 @@ promises = record {
   fresh-kept = fresh-kept;
   step-kept = step-kept;
   active = active;
+  lamp = lamp;
   overtaking = overtaking;
   fresh-determined = λ g o _ _ x y p q. (p .image ∙ sym (q .image), p .number ∙ sym (q .number));
   check-determined = λ s x y p q. p .number ∙ sym (q .number);
   step-determined = λ s k o _ _ _ _ x y p q. (p .image ∙ sym (q .image), p .answer ∙ sym (q .answer), p .number ∙ sym (q .number));
+  lamp-determined = λ s x y p q. p ∙ sym q;
   load-determined = λ s x y p q. p ∙ sym q;
   store-determined = λ t o _ _ x y p q. (p .image ∙ sym (q .image), p .number ∙ sym (q .number));
   trip-determined = λ t x y p q. p ∙ sym q;

@@ -1,4 +1,4 @@
--- The whole image: what its five parts make, and the round trips.
+-- The whole image: what its six parts make, and the round trips.
 use Prim.Native.Nat.{ℕ, suc, _+_}
 use mathlib.Core.Path.{_≡_, refl, sym, ap, _∙_}
 use mathlib.Core.List.{List, [], _∷_, _++_, append-assoc}
@@ -11,10 +11,11 @@ use Rattle.board.specs.Blocks.{row, blocks, Each, written}
 use Rattle.board.proofs.Digits.{length-bytes}
 use Rattle.board.proofs.Spans.{and-then, written-whole}
 
--- ---- five writes, each right behind the one before, that fill a buffer
-pub put-all : (o : List ℕ) {p q r s u : List ℕ} (a b c d e : List ℕ) (i j k l : ℕ) → p ≡ written o 0 a → q ≡ written p i b → r ≡ written q j c → s ≡ written r k d
-    → u ≡ written s l e → length a ≡ i → i + length b ≡ j → j + length c ≡ k → k + length d ≡ l → l + length e ≡ length o → u ≡ a ++ (b ++ (c ++ (d ++ e)))
-put-all o {p} {q} {r} {s} {u} a b c d e i j k l ep eq er es eu ha hb hc hd he =
+-- ---- six writes, each right behind the one before, that fill a buffer
+pub put-all : (o : List ℕ) {p q r s u v : List ℕ} (a b c d e f : List ℕ) (i j k l m : ℕ) → p ≡ written o 0 a → q ≡ written p i b → r ≡ written q j c → s ≡ written r k d
+    → u ≡ written s l e → v ≡ written u m f → length a ≡ i → i + length b ≡ j → j + length c ≡ k → k + length d ≡ l → l + length e ≡ m → m + length f ≡ length o
+    → v ≡ a ++ (b ++ (c ++ (d ++ (e ++ f))))
+put-all o {p} {q} {r} {s} {u} {v} a b c d e f i j k l m ep eq er es eu ev ha hb hc hd he hf =
     let ni : i ≡ 0 + length a = omega arith in
     let nab : length (a ++ b) ≡ j = length-append a b ∙ omega arith in
     let nj : j ≡ 0 + length (a ++ b) = omega arith in
@@ -22,11 +23,14 @@ put-all o {p} {q} {r} {s} {u} a b c d e i j k l ep eq er es eu ha hb hc hd he =
     let nk : k ≡ 0 + length ((a ++ b) ++ c) = omega arith in
     let nabcd : length (((a ++ b) ++ c) ++ d) ≡ l = length-append ((a ++ b) ++ c) d ∙ omega arith in
     let nl : l ≡ 0 + length (((a ++ b) ++ c) ++ d) = omega arith in
+    let nabcde : length ((((a ++ b) ++ c) ++ d) ++ e) ≡ m = length-append (((a ++ b) ++ c) ++ d) e ∙ omega arith in
+    let nm : m ≡ 0 + length ((((a ++ b) ++ c) ++ d) ++ e) = omega arith in
     let w = and-then o 0 a b ep (eq ∙ ap (λ n. written p n b) ni) (omega arith) in
     let x = and-then o 0 (a ++ b) c w (er ∙ ap (λ n. written q n c) nj) (omega arith) in
     let y = and-then o 0 ((a ++ b) ++ c) d x (es ∙ ap (λ n. written r n d) nk) (omega arith) in
     let z = and-then o 0 (((a ++ b) ++ c) ++ d) e y (eu ∙ ap (λ n. written s n e) nl) (omega arith) in
-    z ∙ written-whole o ((((a ++ b) ++ c) ++ d) ++ e) (length-append (((a ++ b) ++ c) ++ d) e ∙ omega arith) ∙ simp append-assoc
+    let t = and-then o 0 ((((a ++ b) ++ c) ++ d) ++ e) f z (ev ∙ ap (λ n. written u n f) nm) (omega arith) in
+    t ∙ written-whole o (((((a ++ b) ++ c) ++ d) ++ e) ++ f) (length-append ((((a ++ b) ++ c) ++ d) ++ e) f ∙ omega arith) ∙ simp append-assoc
 
 -- ---- bytes in the middle of others are read as they stand
 part-middle : (p bs q : List ℕ) → part (length bs) (length p) (p ++ (bs ++ q)) ≡ bs

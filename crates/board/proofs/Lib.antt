@@ -7,5 +7,6 @@ pub mod Images
 pub mod Trips
 pub mod Answered
 pub mod Histories
+pub mod Shown
 pub mod Assured
 pub mod Owned

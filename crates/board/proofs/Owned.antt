@@ -84,7 +84,7 @@ module _ (F : Field) (P : F .Value → Type 0) (known : (x : F .Value) (vs : Lis
 pub table-owned : (t : Table) (vs : List Val) → Is (row table-type) t vs → FitsTable t
 table-owned t vs q =
     let f = owed table-type table-laws t vs q in
-    let g = owed rest-type rest-laws (t .rest) _ (f .1 .1 .1 .0) in
+    let g = owed rest-type rest-laws (t .rest) _ (f .1 .1 .1 .1 .0) in
     let ts = array-owned (field task-type) (λ e. Fits taskWidths (taskNumbers e)) task-owned 16 (t .tasks) _ (f .0) in
     let qs = array-owned (field task-no-type) (λ k. Fits placeWidths (placeNumbers k)) place-owned 16 (t .queue) _ (f .1 .0) in
     let al = array-owned (field millis-type) (λ a. Fits alarmWidths (alarmNumbers a)) alarm-owned 32 (t .rest .alarms) _ (g .1 .1 .1 .1 .0) in
@@ -96,6 +96,7 @@ table-owned t vs q =
       head = (omega arith, (omega arith, (omega arith, (omega arith, (omega arith, (omega arith, tt))))));
       alarms = al .1;
       pool = rs .1;
+      levels = (omega arith, tt);
     }
 
 pub outcome-owned : (x : Outcome) (vs : List Val) → Is (row outcome-type) x vs → FitsTable (x .table)

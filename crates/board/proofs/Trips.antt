@@ -17,7 +17,7 @@ use Rattle.executive.specs.States.{dormant, ready, paused, due, awaitAny, await
 use Rattle.executive.specs.WellFormed.{Sizes}
 use Rattle.executive.proofs.Assured.{states-told}
 use Rattle.board.specs.Blocks.{row, blocks, Each, written, same}
-use Rattle.board.specs.Image.{taskWidths, placeWidths, headWidths, alarmWidths, requestWidths, taskNumbers, placeNumbers, headNumbers, alarmNumbers, requestNumbers, taskOf, placeOf, alarmOf, requestOf, taskBytes, placeBytes, headBytes, alarmBytes, requestBytes, taskFrom, placeFrom, alarmFrom, requestFrom, tableOf, queueAt, headAt, alarmsAt, poolAt, imageLength, imageOf, loadOf, isImageOf, isImage, FitsTable}
+use Rattle.board.specs.Image.{taskWidths, placeWidths, headWidths, alarmWidths, requestWidths, levelsWidths, taskNumbers, placeNumbers, headNumbers, alarmNumbers, requestNumbers, levelsNumbers, taskOf, placeOf, alarmOf, requestOf, taskBytes, placeBytes, headBytes, alarmBytes, requestBytes, levelsBytes, taskFrom, placeFrom, alarmFrom, requestFrom, tableOf, queueAt, headAt, alarmsAt, poolAt, levelsAt, imageLength, imageOf, loadOf, isImageOf, isImage, FitsTable}
 use Rattle.board.proofs.Digits.{digit-fits}
 use Rattle.board.proofs.Spans.{length-row, length-blocks}
 use Rattle.board.proofs.Alike.{decide, never, same-self, same-true}
@@ -41,18 +41,18 @@ module _ (t : Table) (z : Sizes t) where
   pool-length : length (row requestBytes (t .rest .pool)) ≡ 192
   pool-length = length-row requestBytes 6 (λ x. refl) (t .rest .pool) ∙ ap (λ n. n * 6) (z .pool)
 
-  -- what five writes leave, each where the image has its part
-  pub image-made : (o : List ℕ) {p q r s u : List ℕ} → p ≡ written o 0 (row taskBytes (t .tasks)) → q ≡ written p queueAt (row placeBytes (t .queue))
+  -- what six writes leave, each where the image has its part
+  pub image-made : (o : List ℕ) {p q r s u v : List ℕ} → p ≡ written o 0 (row taskBytes (t .tasks)) → q ≡ written p queueAt (row placeBytes (t .queue))
       → r ≡ written q headAt (headBytes t) → s ≡ written r alarmsAt (row alarmBytes (t .rest .alarms)) → u ≡ written s poolAt (row requestBytes (t .rest .pool))
-      → length o ≡ imageLength → u ≡ imageOf t
+      → v ≡ written u levelsAt (levelsBytes t) → length o ≡ imageLength → v ≡ imageOf t
   unfolding imageOf
-  image-made o ep eq er es eu n =
+  image-made o ep eq er es eu ev n =
       let a = tasks-length in
       let b = queue-length in
       let d = alarms-length in
       let e = pool-length in
-      put-all o (row taskBytes (t .tasks)) (row placeBytes (t .queue)) (headBytes t) (row alarmBytes (t .rest .alarms)) (row requestBytes (t .rest .pool))
-      queueAt headAt alarmsAt poolAt ep eq er es eu a (omega arith) refl (omega arith) (omega arith)
+      put-all o (row taskBytes (t .tasks)) (row placeBytes (t .queue)) (headBytes t) (row alarmBytes (t .rest .alarms)) (row requestBytes (t .rest .pool)) (levelsBytes t)
+      queueAt headAt alarmsAt poolAt levelsAt ep eq er es eu ev a (omega arith) refl (omega arith) (omega arith) (omega arith)
 
   pub image-length : length (imageOf t) ≡ imageLength
   unfolding imageOf
@@ -62,11 +62,12 @@ module _ (t : Table) (z : Sizes t) where
       let c = headBytes t in
       let d = row alarmBytes (t .rest .alarms) in
       let e = row requestBytes (t .rest .pool) in
+      let f = levelsBytes t in
       let la = tasks-length in
       let lb = queue-length in
       let ld = alarms-length in
       let le = pool-length in
-      length-append a (b ++ (c ++ (d ++ e))) ∙ rw (length-append b (c ++ (d ++ e)), length-append c (d ++ e), length-append d e) (omega arith)
+      length-append a (b ++ (c ++ (d ++ (e ++ f)))) ∙ rw (length-append b (c ++ (d ++ (e ++ f))), length-append c (d ++ (e ++ f)), length-append d (e ++ f), length-append e f) (omega arith)
 
 -- ---- storing and loading
 module _ (t : Table) (f : FitsTable t) where
@@ -78,27 +79,35 @@ module _ (t : Table) (f : FitsTable t) where
       let c = headBytes t in
       let d = row alarmBytes (t .rest .alarms) in
       let e = row requestBytes (t .rest .pool) in
-      let s = a ++ (b ++ (c ++ (d ++ e))) in
+      let g = levelsBytes t in
+      let s = a ++ (b ++ (c ++ (d ++ (e ++ g)))) in
       let la : length a ≡ 416 = tasks-length t (f .sizes) in
       let lb : length b ≡ 16 = queue-length t (f .sizes) in
       let ld : length d ≡ 256 = alarms-length t (f .sizes) in
+      let le : length e ≡ 192 = pool-length t (f .sizes) in
       let lab : length (a ++ b) ≡ 432 = length-append a b ∙ omega arith in
       let labc : length ((a ++ b) ++ c) ≡ 448 = length-append (a ++ b) c ∙ omega arith in
       let labcd : length (((a ++ b) ++ c) ++ d) ≡ 704 = length-append ((a ++ b) ++ c) d ∙ omega arith in
-      let sh : s ≡ (a ++ b) ++ (c ++ (d ++ e)) = simp append-assoc in
-      let sa : s ≡ ((a ++ b) ++ c) ++ (d ++ e) = simp append-assoc in
-      let sp : s ≡ (((a ++ b) ++ c) ++ d) ++ (e ++ []) = simp (append-assoc, append-nil) in
+      let labcde : length ((((a ++ b) ++ c) ++ d) ++ e) ≡ 896 = length-append (((a ++ b) ++ c) ++ d) e ∙ omega arith in
+      let sh : s ≡ (a ++ b) ++ (c ++ (d ++ (e ++ g))) = simp append-assoc in
+      let sa : s ≡ ((a ++ b) ++ c) ++ (d ++ (e ++ g)) = simp append-assoc in
+      let sp : s ≡ (((a ++ b) ++ c) ++ d) ++ (e ++ g) = simp append-assoc in
+      let sg : s ≡ ((((a ++ b) ++ c) ++ d) ++ e) ++ (g ++ []) = simp (append-assoc, append-nil) in
       let eh : cut headWidths headAt s ≡ headNumbers t =
-      ap (λ n. cut headWidths n s) (sym lab) ∙ ap (cut headWidths (length (a ++ b))) sh ∙ cut-lay headWidths (headNumbers t) (a ++ b) (d ++ e) (f .head) in
+      ap (λ n. cut headWidths n s) (sym lab) ∙ ap (cut headWidths (length (a ++ b))) sh ∙ cut-lay headWidths (headNumbers t) (a ++ b) (d ++ (e ++ g)) (f .head) in
       let et : blocks (taskFrom s) 26 16 0 ≡ t .tasks =
-      blocks-back taskWidths taskNumbers taskOf task-back 26 (λ x. refl) (t .tasks) [] (b ++ (c ++ (d ++ e))) s 16 0 (f .tasks) refl (f .sizes .tasks) refl in
+      blocks-back taskWidths taskNumbers taskOf task-back 26 (λ x. refl) (t .tasks) [] (b ++ (c ++ (d ++ (e ++ g)))) s 16 0 (f .tasks) refl (f .sizes .tasks) refl in
       let eq : blocks (placeFrom s) 1 16 queueAt ≡ t .queue =
-      blocks-back placeWidths placeNumbers placeOf (λ x. refl) 1 (λ x. refl) (t .queue) a (c ++ (d ++ e)) s 16 queueAt (f .queue) refl (f .sizes .queue) la in
+      blocks-back placeWidths placeNumbers placeOf (λ x. refl) 1 (λ x. refl) (t .queue) a (c ++ (d ++ (e ++ g))) s 16 queueAt (f .queue) refl (f .sizes .queue) la in
       let ea : blocks (alarmFrom s) 8 32 alarmsAt ≡ t .rest .alarms =
-      blocks-back alarmWidths alarmNumbers alarmOf (λ x. refl) 8 (λ x. refl) (t .rest .alarms) ((a ++ b) ++ c) e s 32 alarmsAt (f .alarms) sa (f .sizes .alarms) labc in
+      blocks-back alarmWidths alarmNumbers alarmOf (λ x. refl) 8 (λ x. refl) (t .rest .alarms) ((a ++ b) ++ c) (e ++ g) s 32 alarmsAt (f .alarms) sa (f .sizes .alarms) labc in
       let ep : blocks (requestFrom s) 6 32 poolAt ≡ t .rest .pool =
-      blocks-back requestWidths requestNumbers requestOf (λ x. refl) 6 (λ x. refl) (t .rest .pool) (((a ++ b) ++ c) ++ d) [] s 32 poolAt (f .pool) sp (f .sizes .pool) labcd in
-      λ i. tableOf (eh i) (et i) (eq i) (ea i) (ep i)
+      blocks-back requestWidths requestNumbers requestOf (λ x. refl) 6 (λ x. refl) (t .rest .pool) (((a ++ b) ++ c) ++ d) g s 32 poolAt (f .pool) sp (f .sizes .pool) labcd in
+      let eg : cut levelsWidths levelsAt s ≡ levelsNumbers t =
+      ap (λ n. cut levelsWidths n s) (sym labcde)
+      ∙ ap (cut levelsWidths (length ((((a ++ b) ++ c) ++ d) ++ e))) sg
+      ∙ cut-lay levelsWidths (levelsNumbers t) ((((a ++ b) ++ c) ++ d) ++ e) [] (f .levels) in
+      λ i. tableOf (eh i) (et i) (eq i) (ea i) (ep i) (eg i)
 
 -- ---- what an image is
 module _ (s : List ℕ) (t : Table) where
@@ -188,4 +197,5 @@ load-fits s h = record {
   head = cut-fits s h headWidths headAt;
   alarms = each-block (λ a. Fits alarmWidths (alarmNumbers a)) (alarmFrom s) (cut-fits s h alarmWidths) 8 32 alarmsAt;
   pool = each-block (λ r. Fits requestWidths (requestNumbers r)) (requestFrom s) (cut-fits s h requestWidths) 6 32 poolAt;
+  levels = cut-fits s h levelsWidths levelsAt;
 }

@@ -1,14 +1,19 @@
 -- What the entry points answer and leave in their buffers, for every input.
-use Prim.Native.Nat.{ℕ, _≤_}
+use Prim.Native.Nat.{ℕ, _≤_, _<_}
 use mathlib.Core.Path.{_≡_}
 use mathlib.Core.Bool.{true, cond}
 use mathlib.Core.List.{List, [], _∷_}
 use mathlib.Core.Logic.{_↔_}
 use lib.Dec.{eqb, ltb}
 use lib.ListN.{length}
-use Rattle.records.specs.Numbers.{lay}
+use Rattle.records.specs.Numbers.{numberOf, part, lay}
 use Rattle.executive.specs.declared.Answer.{Answer}
 use Rattle.executive.specs.declared.Table.{Table}
+use Rattle.executive.specs.declared.Lamp.{Lamp}
+use Rattle.executive.specs.declared.Lamp.the-variants.{Dark, Level}
+use Rattle.executive.specs.Places.{taskAt}
+use Rattle.executive.specs.Plans.{caller}
+use Rattle.executive.specs.Lamp.{lampOf}
 use Rattle.executive.specs.Lists.{one}
 use Rattle.executive.specs.WellFormed.{WellFormed}
 use Rattle.executive.specs.Check.{isWellFormed}
@@ -16,7 +21,7 @@ use Rattle.executive.specs.Step.{noTable, stepOf}
 use Rattle.executive.specs.Configuration.{freshOf}
 use Rattle.executive.specs.Promises.Demands.{after, Overtaking}
 use Rattle.board.specs.Blocks.{written}
-use Rattle.board.specs.Image.{noRoom, imageLength, imageOf, loadOf, isImage}
+use Rattle.board.specs.Image.{noRoom, levelsAt, imageLength, imageOf, loadOf, isImage}
 
 -- ---- the check: 0 exactly where the bytes are the image of a well-formed table, else 1
 unfoldable pub checkNumber : List ℕ → ℕ
@@ -88,6 +93,27 @@ pub record StepsImage (s call o p q : List ℕ) (n : ℕ) : Type 0 where
   pub image : p ≡ stepImage s call o
   pub answer : q ≡ stepAnswer s call o
   pub holds : n ≡ 0 → Holds p (stepOf (loadOf s) call .table)
+
+-- ---- the lamp: the level that the word of an image shows, and 16 where it is dark or the bytes have not an image's
+-- length; of the bytes the word's two are looked at, and no other
+abbrev pub lampDark : ℕ
+lampDark = 16
+
+abbrev pub lampByte : Lamp → ℕ
+lampByte Dark = lampDark
+lampByte (Level p) = p
+
+unfoldable pub lampNumber : List ℕ → ℕ
+lampNumber s = cond (eqb (length s) imageLength) (lampByte (lampOf (numberOf (part 2 levelsAt s)))) lampDark
+
+-- the contract: n is what the lamp shows of the bytes s
+abbrev pub ReadsLamp : List ℕ → ℕ → Type 0
+ReadsLamp s n = n ≡ lampNumber s
+
+-- the lamp of an image whose table is t: its active task's priority, and 16 exactly when idle
+pub record ShowsImage (s : List ℕ) (t : Table) : Type 0 where
+  pub level : 0 < caller t .0 → lampNumber s ≡ taskAt (t .tasks) (caller t .0) .priority
+  pub dark : (lampNumber s ≡ lampDark) ↔ (caller t .0 ≡ 0)
 
 -- ---- a history of images: from s to p by calls one after the other, each with room for its answer
 pub record Stepped (s call p : List ℕ) : Type 0 where

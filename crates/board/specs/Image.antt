@@ -1,4 +1,4 @@
--- The image of a table: 896 bytes, numbers big-endian. docs/TABLE.md has the layout in words.
+-- The image of a table: 898 bytes, numbers big-endian. docs/TABLE.md has the layout in words.
 use Prim.Native.Nat.{ℕ, _+_}
 use mathlib.Core.Path.{_≡_}
 use mathlib.Core.Bool.{Bool, false, cond}
@@ -34,6 +34,10 @@ alarmWidths = 8 ∷ []
 -- target, priority, argument, start waiter, end waiter
 abbrev pub requestWidths : List ℕ
 requestWidths = 1 ∷ 1 ∷ 2 ∷ 1 ∷ 1 ∷ []
+
+-- the word of the ready levels
+abbrev pub levelsWidths : List ℕ
+levelsWidths = 2 ∷ []
 
 -- ---- the numbers of each block, and the block's value from its numbers
 abbrev pub taskNumbers : Task → List ℕ
@@ -77,7 +81,10 @@ requestOf xs = record {
   «end_waiter» = record { 0 = getD xs 4 0 };
 }
 
--- ---- the image: where each part begins, and how long it all is
+abbrev pub levelsNumbers : Table → List ℕ
+levelsNumbers t = t .levels ∷ []
+
+-- ---- the image: where each part begins, and how long it all is. A part that comes later stands behind those before it
 abbrev pub queueAt : ℕ
 queueAt = 416
 
@@ -90,8 +97,11 @@ alarmsAt = 448
 abbrev pub poolAt : ℕ
 poolAt = 704
 
+abbrev pub levelsAt : ℕ
+levelsAt = 896
+
 abbrev pub imageLength : ℕ
-imageLength = 896
+imageLength = 898
 
 abbrev pub taskBytes : Task → List ℕ
 taskBytes e = lay taskWidths (taskNumbers e)
@@ -108,13 +118,17 @@ alarmBytes at = lay alarmWidths (alarmNumbers at)
 abbrev pub requestBytes : Request → List ℕ
 requestBytes r = lay requestWidths (requestNumbers r)
 
+abbrev pub levelsBytes : Table → List ℕ
+levelsBytes t = lay levelsWidths (levelsNumbers t)
+
 unfoldable pub imageOf : Table → List ℕ
 imageOf t =
     row taskBytes (t .tasks)
     ++ (row placeBytes (t .queue)
     ++ (headBytes t
     ++ (row alarmBytes (t .rest .alarms)
-    ++ row requestBytes (t .rest .pool))))
+    ++ (row requestBytes (t .rest .pool)
+    ++ levelsBytes t))))
 
 -- the board's own number, judged before any of 01's: a buffer that is to be written to has not the length it needs
 abbrev pub noRoom : ℕ
@@ -145,12 +159,13 @@ alarmFrom s at = alarmOf (cut alarmWidths at s)
 abbrev pub requestFrom : List ℕ → ℕ → Request
 requestFrom s at = requestOf (cut requestWidths at s)
 
--- the table of the head's numbers and the four arrays
-abbrev pub tableOf : List ℕ → List Task → List TaskNo → List Millis → List Request → Table
-tableOf xs ts q al rs = record {
+-- the table of the head's numbers, the four arrays and the word
+abbrev pub tableOf : List ℕ → List Task → List TaskNo → List Millis → List Request → List ℕ → Table
+tableOf xs ts q al rs ws = record {
   tasks = ts;
   queue = q;
   ready = getD xs 0 0;
+  levels = getD ws 0 0;
   rest = record {
     count = getD xs 1 0;
     granule = getD xs 2 0;
@@ -169,6 +184,7 @@ loadOf s =
     (blocks (placeFrom s) 1 16 queueAt)
     (blocks (alarmFrom s) 8 32 alarmsAt)
     (blocks (requestFrom s) 6 32 poolAt)
+    (cut levelsWidths levelsAt s)
 
 -- the contracts: t is the table of the bytes s; storing t and loading it gives u
 abbrev pub Loads : List ℕ → Table → Type 0
@@ -192,3 +208,4 @@ pub record FitsTable (t : Table) : Type 0 where
   pub head : Fits headWidths (headNumbers t)
   pub alarms : Each (λ a. Fits alarmWidths (alarmNumbers a)) (t .rest .alarms)
   pub pool : Each (λ r. Fits requestWidths (requestNumbers r)) (t .rest .pool)
+  pub levels : Fits levelsWidths (levelsNumbers t)

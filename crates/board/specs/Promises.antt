@@ -9,7 +9,7 @@ use Rattle.executive.specs.declared.Table.{Table}
 use Rattle.executive.specs.Promises.Demands.{AllBytes, IsReady, Dispatched, NotYet}
 use Rattle.board.specs.Image.{imageLength, imageOf, Stores, loadOf, Loads, ComesBack, isImage, FitsTable}
 use Rattle.board.specs.EntryPoints.{WellFormedImage, CheckedImage, answerLength, activeAt, freshNumber, freshImage, MakesImage, stepNumber}
-use Rattle.board.specs.EntryPoints.{stepImage, stepAnswer, StepsImage, Runs, OvertakingImage}
+use Rattle.board.specs.EntryPoints.{stepImage, stepAnswer, StepsImage, ReadsLamp, ShowsImage, Runs, OvertakingImage}
 
 pub record Promises : Type 0 where
   -- storing a table and loading it gives the same table
@@ -35,6 +35,8 @@ pub record Promises : Type 0 where
   -- the answer's active byte is the first of those with highest priority, and 0 exactly if none is ready
   pub active : (s k o p q : List ℕ) (n : ℕ) → Bytes k → WellFormedImage s → StepsImage s k o p q n
       → answerLength ≤ length o → Dispatched (loadOf p) (getD q activeAt 0)
+  -- the lamp of the image of a well-formed table shows its active task's priority, and 16 exactly when idle
+  pub lamp : (s : List ℕ) → WellFormedImage s → ShowsImage s (loadOf s)
   -- demand 3 over a history of images
   pub overtaking : (s : List ℕ) (k : ℕ) (ks : List (List ℕ)) (p : List ℕ) → AllBytes ks → WellFormedImage s
       → Runs s ks p → IsReady (loadOf s) k → NotYet k (loadOf s) ks → OvertakingImage s k ks p
@@ -43,6 +45,7 @@ pub record Promises : Type 0 where
   pub check-determined : (s : List ℕ) (x y : ℕ) → CheckedImage s x → CheckedImage s y → x ≡ y
   pub step-determined : (s k o p q u v : List ℕ) (x y : ℕ) → StepsImage s k o p u x → StepsImage s k o q v y
       → (p ≡ q) × (u ≡ v) × (x ≡ y)
+  pub lamp-determined : (s : List ℕ) (x y : ℕ) → ReadsLamp s x → ReadsLamp s y → x ≡ y
   pub load-determined : (s : List ℕ) (x y : Table) → Loads s x → Loads s y → x ≡ y
   pub store-determined : (t : Table) (o p q : List ℕ) (x y : ℕ) → Stores t o p x → Stores t o q y → (p ≡ q) × (x ≡ y)
   pub trip-determined : (t x y : Table) → ComesBack t x → ComesBack t y → x ≡ y

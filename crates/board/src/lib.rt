@@ -1,6 +1,8 @@
 // The board library: the executive's table as bytes, and entry points for C, on byte slices and numbers only.
+use executive::Lamp;
 use executive::configuration;
-ghost use Rattle.board.specs.EntryPoints.{MakesImage, CheckedImage, StepsImage};
+use executive::levels;
+ghost use Rattle.board.specs.EntryPoints.{MakesImage, CheckedImage, StepsImage, ReadsLamp};
 
 mod answers;
 mod checking;
@@ -14,7 +16,13 @@ pub mod storing;
 pub(crate) const NO_ROOM: u8 = 30;
 
 // The length of an image in bytes.
-pub(crate) const IMAGE: usize = 896;
+pub(crate) const IMAGE: usize = 898;
+
+// Where the word of the ready levels stands in an image.
+pub(crate) const LEVELS: usize = 896;
+
+// What the lamp reads where nothing is shown: no priority.
+const LAMP_DARK: u8 = 16;
 
 // Makes a fresh table from configuration bytes: 0 and its image written; 30 where the buffer has not the image's
 // length, 2 where they
@@ -74,4 +82,20 @@ pub extern "C" fn quermanic_step(image: &mut [u8], call: &[u8], answer: &mut [u8
     let next = outcome.table;
     storing::put_table(image, next);
     0
+}
+
+// What the status lamp shows of an image: 0 to 15, the highest ready priority, or 16 for dark; 16 also where the bytes
+// have not an image's length. It reads the two bytes of the word and nothing else, and checks nothing.
+#[no_mangle]
+pub extern "C" fn quermanic_lamp(image: &[u8]) -> u8
+    ensures { λ r. ⌜ ReadsLamp (now (image .entry)) r ⌝ }
+{
+    if image.len() != IMAGE {
+        return LAMP_DARK;
+    }
+    let word = numbers::pair_in(image, LEVELS);
+    match levels::lamp(word) {
+        Lamp::Dark => LAMP_DARK,
+        Lamp::Level(p) => p,
+    }
 }

@@ -1,4 +1,5 @@
 // Loading: from the bytes of an image to the table. Any bytes load; those past the end read as 0.
+use crate::LEVELS;
 use crate::numbers;
 use executive::Millis;
 use executive::Mode;
@@ -154,6 +155,7 @@ pub fn load(bytes: &[u8]) -> Table
         tasks,
         queue,
         ready: numbers::byte_in(bytes, 432),
+        levels: numbers::pair_in(bytes, LEVELS),
         rest,
     }
 }

@@ -1,5 +1,6 @@
 // Storing: from a table to its image, in a lent buffer.
 use crate::IMAGE;
+use crate::LEVELS;
 use crate::NO_ROOM;
 use crate::numbers;
 use executive::Millis;
@@ -157,6 +158,7 @@ pub(crate) fn put_table(out: &mut [u8], table: Table)
     put_alarms(out, alarms);
     let pool = rest.pool;
     put_pool(out, pool);
+    numbers::put(out, LEVELS, 2, table.levels as u64);
 }
 
 // Stores a table: 0 and its image in out, or 30 where out has not the image's length, and no byte is changed.

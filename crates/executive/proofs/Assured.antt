@@ -3,10 +3,12 @@ use Rattle.executive.specs.Promises.Demands.{Demands}
 use Rattle.executive.specs.Check.{Decided}
 use Rattle.executive.specs.Promises.FreshLaw.{FreshLaw}
 use Rattle.executive.specs.States.{StatesTold}
+use Rattle.executive.specs.Promises.LampLaw.{LampLaw}
 use Rattle.executive.proofs.check.Decides as checked
 use Rattle.executive.proofs.states.Laws as named
 use Rattle.executive.proofs.promises.CardsAndFresh as shown
 use Rattle.executive.proofs.promises.Demands as theorems
+use Rattle.executive.proofs.promises.LampLaw as lit
 
 pub demands : Demands
 demands = theorems.demands
@@ -19,3 +21,6 @@ fresh-law = shown.fresh-law
 
 pub states-told : StatesTold
 states-told = named.states-told
+
+pub lamp-law : LampLaw
+lamp-law = lit.lamp-law

@@ -9,13 +9,14 @@ use Rattle.board.proofs.loading.load.Tie as tie
 returns : tie.Need-returns
 unfolding loadOf
 returns c =
-    let m = c .before .before .before .before .before in
+    let m = c .before .before .before .before .before .before in
     rw (
-      c .byte-in4 .ensures,
-      c .before .byte-in3 .ensures,
-      c .before .before .word-in .ensures,
-      c .before .before .before .byte-in2 .ensures,
-      c .before .before .before .before .byte-in .ensures,
+      c .pair-in .ensures,
+      c .before .byte-in4 .ensures,
+      c .before .before .byte-in3 .ensures,
+      c .before .before .before .word-in .ensures,
+      c .before .before .before .before .byte-in2 .ensures,
+      c .before .before .before .before .before .byte-in .ensures,
       m .long-in .ensures,
       m .before .pool-in .ensures,
       m .before .before .alarms-in .ensures,
@@ -28,6 +29,7 @@ pub load-spec : {M : Type 1} → statement M
 load-spec =
     tie.close
     (tie.spec
+    (λ c κs. search needs)
     (λ c κs. search needs)
     (λ c κs. search needs)
     (λ c κs. search needs)

@@ -1,4 +1,4 @@
--- `storing::put_table` meets its contract: its five writes make the image, and the arrays' types say how long they are.
+-- `storing::put_table` meets its contract: its six writes make the image, and the arrays' types say how long they are.
 use denote.Ref.{now}
 use Rattle.board.proofs.Trips.{image-made}
 use borrow.Author.Needs.{needs}
@@ -7,22 +7,24 @@ use Rattle.board.proofs.storing.put_table.Tie as tie
 
 returns : tie.Need-returns
 returns c =
-    let m = c .before .before .before .before .before .before .before .before .before .before .before .before in
+    let d = c .before .before .before .before .before in
+    let m = d .before .before .before .before .before .before .before .before .before .before .before .before in
     let n = m .before .before .before .before .before .before .before .before .before .before in
     let start = n .before .before .before .before in
     image-made (start .args .table)
     (record {
       tasks = n .put-tasks .ensures .0;
       queue = m .before .before .before .before .before .put-queue .ensures .0;
-      alarms = c .before .before .before .before .before .before .before .put-alarms .ensures .0;
-      pool = c .before .before .put-pool .ensures .0;
+      alarms = d .before .before .before .before .before .before .before .put-alarms .ensures .0;
+      pool = d .before .before .put-pool .ensures .0;
     })
     (now (start .args .out))
     (n .put-tasks .ensures .1)
     (m .before .before .before .before .before .put-queue .ensures .1)
     (m .put-head .ensures)
-    (c .before .before .before .before .before .before .before .put-alarms .ensures .1)
-    (c .before .before .put-pool .ensures .1)
+    (d .before .before .before .before .before .before .before .put-alarms .ensures .1)
+    (d .before .before .put-pool .ensures .1)
+    (c .before .before .put .ensures)
     (start .pre)
 
 pub put-table-spec : {M : Type 1} → statement M
@@ -33,6 +35,8 @@ put-table-spec =
     (λ c κs. search needs)
     (λ c κs. search needs)
     (λ c κs. search needs)
+    (λ c κs. search needs)
+    (λ c. search needs)
     (λ c κs. search needs)
     (λ c. search needs)
     returns)
