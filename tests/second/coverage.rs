@@ -47,7 +47,7 @@ const WAYS: [&str; 15] = [
 ];
 
 /// Two tasks of one priority that a tick woke, of which the first has the lower number.
-const ORDERS: [&str; 3] = ["the first has the later time", "equal times", "only the first by flags"];
+const ORDERS: [&str; 3] = ["the first has a later time", "equal times", "only the first by flags"];
 
 /// The kinds with an interval.
 const TIMED: [u8; 3] = [0x01, 0x02, 0x0B];

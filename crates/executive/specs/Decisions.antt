@@ -37,6 +37,7 @@ use Rattle.executive.specs.Table.{ArraysInOrder, Out, stays, leaves, Joi
 use Rattle.executive.specs.Entries.{withState, asDormant, begun, dueAt, risen}
 use Rattle.executive.specs.Clock.{interval, aimAt, withAlarm, isDue, advanced}
 use Rattle.executive.specs.Flags.{withFlags, flagSet, flagReset, met, modeOf}
+use Rattle.executive.specs.WellFormed.{Unmet}
 use Rattle.executive.specs.Plans.{priorityOf, waitOf, argumentOf, atOnce, asks, holds, passing, storedTime, timed}
 use Rattle.executive.specs.States.{isDormant, isPaused}
 
@@ -233,10 +234,15 @@ tickDeed ts r =
     deed leave.Stays (raisedAll (timed (advanced r .clock .0) ts) ++ rising (holds (advanced r .flags)) 1 ts) noRequest (change.Clock (firstDue r))
 
 -- ---- what the kinds' functions ask of the tasks, the rest and the caller
+-- nobody's flag condition holds
+abbrev pub AllUnmet : ℕ → List Task → Type 0
+AllUnmet fs ts = (k : ℕ) → Unmet fs (taskAt ts k .state)
+
 pub record Judgeable (ts : List Task) (r : Rest) (c : TaskNo) : Type 0 where
   pub queued : r .queued ≤ mostQueued
   pub clock : r .clock .0 ≤ endOfTime
   pub started : taskAt ts (c .0) .start .0 ≤ r .clock .0
+  pub unmet : AllUnmet (r .flags) ts
 
 -- ---- a decision: refused with a number, or done with the marks of the answer
 abbrev pub refusing : ℕ → Decision

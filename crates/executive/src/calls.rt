@@ -25,7 +25,7 @@ ghost use lib.Dec.{eqb, ltb};
 ghost use lib.ListN.{take};
 ghost use Rattle.executive.specs.Numbers.{lastUnit, mostQueued, endOfTime};
 ghost use Rattle.executive.specs.States.{isPaused};
-ghost use Rattle.executive.specs.Decisions.{AllRests, terminateDeed, restartDeed, pauseDeed, cancelPauseDeed, tickDeed, refusing, doing};
+ghost use Rattle.executive.specs.Decisions.{AllUnmet, AllRests, terminateDeed, restartDeed, pauseDeed, cancelPauseDeed, tickDeed, refusing, doing};
 ghost use Rattle.executive.specs.Sheet.{onlyZ, restartMarks};
 
 // Kind 00: whoever waits for the end enters, then the caller with the earliest request for it, then whoever waited for
@@ -139,7 +139,7 @@ pub(crate) fn tick(
     granule: u8,
     flags: u32,
 ) -> Decision
-    requires { ⌜ clock .0 ≤ endOfTime ⌝ }
+    requires { ⌜ (clock .0 ≤ endOfTime) × AllUnmet flags tasks ⌝ }
     ensures { λ r. ⌜ AllRests alarms clock granule flags
         (λ q. r ≡ cond (ltb endOfTime (clock .0 + granule)) (refusing 10) (doing (onlyZ false) (tickDeed tasks q))) ⌝ }
 {
@@ -151,8 +151,7 @@ pub(crate) fn tick(
     let first = clock::next_due(alarms, 0, now);
     let more = clock::rings(alarms, flags, first, now);
     let marks = answers::only_z(false);
-    let by_time = waking::timed(tasks, now);
-    let entrants = waking::held(by_time, tasks, more);
+    let entrants = waking::woken(tasks, now, flags, more);
     let deed = Deed {
         leave: Leave::Stays,
         entrants,

@@ -7,14 +7,12 @@ use Rattle.executive.specs.declared.Task.{Task}
 use Rattle.executive.specs.declared.Rest.{Rest}
 use Rattle.executive.specs.declared.decisions.Leave.the-variants as leave
 use Rattle.executive.specs.declared.decisions.Change.the-variants as change
-use Rattle.executive.specs.declared.decisions.Entrant.{Entrant}
 use Rattle.executive.specs.declared.decisions.Deed.{Deed}
 use Rattle.executive.specs.Places.{noRequest}
 use Rattle.executive.specs.Clock.{isDue, advanced}
 use Rattle.executive.specs.Lists.{each, nextOf}
 use Rattle.executive.specs.Plans.{holds, timed}
-use Rattle.executive.specs.Decisions.{named, listed, raisedAll, rising, deed, firstDue, rungIn, tickDeed}
-use Rattle.executive.proofs.decisions.Listing.{named-listed}
+use Rattle.executive.specs.Decisions.{raisedAll, rising, deed, firstDue, rungIn, tickDeed}
 use Rattle.executive.proofs.clock.Alarms.{flags-rung}
 use Rattle.executive.proofs.Plans.Tick.{advanced-alone}
 
@@ -26,7 +24,7 @@ clock-after : (q : Rest) → advanced q .clock .0 ≡ q .clock .0 + q .granule
 clock-after q = advanced-alone (λ (r : Rest). r .clock .0) (λ r fs al. refl) q
 
 abbrev told : List Task → ℕ → ℕ → ℕ → Deed
-told ts now fs i = deed leave.Stays (named (listed (raisedAll (timed now ts))) ++ rising (holds fs) 1 ts) noRequest (change.Clock i)
+told ts now fs i = deed leave.Stays (raisedAll (timed now ts) ++ rising (holds fs) 1 ts) noRequest (change.Clock i)
 
 pub ticks : (ts : List Task) (q : Rest) (n : ℕ) → n ≡ q .clock .0 + q .granule
     → told ts n (each (rungIn n (q .alarms)) 32 0 (q .flags)) (nextOf (isDue n) 0 (q .alarms)) ≡ tickDeed ts q
@@ -37,5 +35,3 @@ ticks ts q n e =
     ap (λ (x : ℕ). told ts x (each (rungIn x (q .alarms)) 32 0 (q .flags)) (nextOf (isDue x) 0 (q .alarms))) e
     ∙ ap (λ (x : ℕ). told ts x fs (nextOf (isDue m) 0 (q .alarms))) (sym (clock-after q))
     ∙ ap (λ (x : ℕ). told ts (advanced q .clock .0) x (nextOf (isDue m) 0 (q .alarms))) (sym (flags-after q))
-    ∙ ap (λ (xs : List Entrant). deed leave.Stays (xs ++ rising (holds (advanced q .flags)) 1 ts) noRequest (change.Clock (nextOf (isDue m) 0 (q .alarms))))
-    (named-listed (raisedAll (timed (advanced q .clock .0) ts)))

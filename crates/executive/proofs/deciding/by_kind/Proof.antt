@@ -17,7 +17,7 @@ alarm-requires : tie.Need-alarm-requires
 alarm-requires c κs = c .before .before .before .before .before .before .pre .clock
 
 tick-requires : tie.Need-tick-requires
-tick-requires c κs = c .before .before .before .before .pre .clock
+tick-requires c κs = (c .before .before .before .before .pre .clock, c .before .before .before .before .pre .unmet)
 
 returns : tie.Need-returns
 unfolding decided
