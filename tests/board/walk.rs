@@ -20,6 +20,8 @@ use std::time::Instant;
 const LONGEST_WALK: usize = 400;
 /// The board's own number: a buffer that is to be written to has not the length it needs.
 const NO_ROOM: u32 = 30;
+/// Where the word of the ready levels stands in an image.
+const WORD: usize = 896;
 /// What the lamp gives where it shows nothing.
 const DARK: u32 = 16;
 /// What stands in the answer's buffer before a step.
@@ -57,19 +59,19 @@ impl Trial<'_> {
         Ok(())
     }
 
-    /// The image that a board wrote before unit 5 was a day is well formed still once it has the word of the ready levels
-    /// (docs/EMBEDDING.md), and its steps go on.
+    /// The image that a board wrote before unit 5 was a day, and before there was the word of the ready levels, is refused;
+    /// with the word behind it (docs/EMBEDDING.md) it is well formed, and its steps go on.
     fn before_days(&mut self) -> Told {
         let text = include_str!("before-days.hex").lines();
         let bytes = text
             .filter(|line| !line.starts_with('#'))
             .flat_map(|line| line.split(' ').map(|byte| u8::from_str_radix(byte, 16).expect("a byte in hex")));
-        let mut image: Vec<u8> = bytes.collect();
-        if self.library.check(&image) != 1 {
+        let image: Vec<u8> = bytes.collect();
+        let (older, word) = image.split_at(WORD);
+        if self.library.check(older) != 1 {
             return Err("an image without the word of the ready levels is taken".to_string());
         }
-        image.extend(levels_of(&image).to_be_bytes());
-        if self.library.check(&image) != 0 {
+        if word != levels_of(older).to_be_bytes() || self.library.check(&image) != 0 {
             return Err("the image of an older board, with its word, is refused".to_string());
         }
         self.image(&image, &[0x80])?;
