@@ -14,7 +14,7 @@ mod flags;
 pub mod levels;
 mod methods;
 mod passes;
-mod places;
+pub mod places;
 mod pool;
 mod promises;
 mod queue;

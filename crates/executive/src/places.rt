@@ -34,7 +34,7 @@ pub(crate) fn entry_place(k: TaskNo) -> usize
 }
 
 // The task's entry; a blank one where there is no such task.
-pub(crate) fn task_at(tasks: [Task; 16], k: TaskNo) -> Task
+pub fn task_at(tasks: [Task; 16], k: TaskNo) -> Task
     ensures { λ r. ⌜ r ≡ taskAt tasks (k .0) ⌝ }
 {
     let i = entry_place(k);

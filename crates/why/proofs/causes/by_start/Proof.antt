@@ -1,0 +1,12 @@
+-- `causes::by_start` meets its contract.
+use native.Mathlib.Omega.{arith}
+use mathlib.Core.Path.{_≡_, refl, sym, ap, _∙_}
+use borrow.Author.Needs.{needs}
+use Rattle.why.proofs.causes.by_start.Statement.{statement}
+use Rattle.why.proofs.causes.by_start.Tie as tie
+
+returns : tie.Need-returns
+returns c = rw (c .target-at .ensures, c .before .named-at .ensures) refl
+
+pub by-start-spec : {M : Type 1} → statement M
+by-start-spec = tie.close (tie.spec (λ c κs. search needs) (λ c κs. search needs) returns)
