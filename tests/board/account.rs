@@ -2,9 +2,9 @@
 
 use crate::answer::answer_bytes;
 use crate::book::{Book, Held};
-use crate::image::encode;
 use crate::wrong::Wrong;
 use model::configuration::fresh_from_start;
+use model::image::encode;
 use model::records::records_of;
 use model::runs::run;
 use model::steps::step;

@@ -1,7 +1,7 @@
 //! The book of starts that the trial keeps from records, answers and images alone: those asked for by an accepted 05,
 //! those that have begun, those that wait. It is held to the image after every step.
 
-use crate::image::decode;
+use model::image::decode;
 use model::table::{State, Table};
 
 /// A start that was asked for: the number of the step that was accepted, 0 where it waited already when the book was

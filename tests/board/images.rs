@@ -1,9 +1,9 @@
 //! Images for whoever judges them: sound, damaged and broken ones, each with the number of the library's check.
 
-use crate::image::encode;
 use crate::library::Library;
 use crate::tables::{broken, damage, edited};
 use model::configuration::fresh_from_start;
+use model::image::encode;
 use model::records::records_of;
 use model::runs::{run, Rng};
 use model::steps::step;

@@ -1,10 +1,10 @@
 //! The bench's listing by the board library: standard input to standard output, as `./bench` runs a program.
 
 use crate::answer::ANSWER;
-use crate::image::LENGTH;
 use crate::library::Library;
 use model::bench::LONGEST_INPUT;
 use model::configuration::fresh_from_start;
+use model::image::LENGTH;
 use model::records::cut;
 use std::io::{Read, Write};
 

@@ -1,10 +1,10 @@
 //! The time of one step through the board library, against the same step of the second program.
 
 use crate::answer::{answer_bytes, ANSWER};
-use crate::image::{decode, encode};
 use crate::library::Library;
 use crate::short::short_mixes;
 use model::configuration::fresh_from_start;
+use model::image::{decode, encode};
 use model::mixes::{median, mixes};
 use model::records::records_of;
 use model::steps::step;

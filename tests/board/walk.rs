@@ -3,13 +3,13 @@
 use crate::answer::{answer_bytes, ANSWER};
 use crate::book::Book;
 use crate::counts::Counts;
-use crate::image::{decode, encode, LENGTH};
 use crate::library::Library;
 use crate::met::{Met, Since};
 use crate::tables;
 use crate::wrong::Wrong;
 use model::check::well_formed;
 use model::configuration::{fresh, fresh_from_start};
+use model::image::{decode, encode, LENGTH};
 use model::records::records_of;
 use model::runs::{run, Rng};
 use model::steps::step;

@@ -5,6 +5,7 @@ use crate::check::well_formed;
 use crate::configuration::fresh;
 use crate::steps::step;
 use crate::table::{Answer, State, Table, Task, LAST_CLOCK, LONGEST};
+use crate::why::{why, Reason, Why};
 
 /// The input of document 01's listing.
 pub const PAPER_INPUT: [u8; 39] = [
@@ -65,6 +66,8 @@ cards! {
     "order at an end": order_at_an_end,
     "refusals change nothing": refusals_change_nothing,
     "broken tables give 1": broken_tables,
+    "A2: a ring and what leads to it": ring_with_a_lead,
+    "A2: flags that are missing": missing_flags,
 }
 
 /// Prints of every card whether it holds; true if all do.
@@ -312,4 +315,25 @@ fn broken_tables() -> bool {
             }
             right && broken == kept
         })
+}
+
+fn ring_with_a_lead() -> bool {
+    let mut t = table(1, &[(5, 1), (9, 1), (8, 1), (7, 1)]);
+    accepted(&mut t, &[&[5, 0xC0, 3, 0, 0], &[5, 0xA0, 4, 0, 0], &[5, 0xC0, 2, 0, 0], &[5, 0xA0, 2, 0, 0]]);
+    let ring = [(2, Reason::EndOfRequest(1, 3)), (3, Reason::Start(2, 4)), (4, Reason::EndOfRequest(3, 2))];
+    let led = Why { path: [&[(1, Reason::Start(4, 2))], &ring[..]].concat(), ring: 3, ..Why::default() };
+    let inside = Why { path: [&ring[1..], &ring[..1]].concat(), ring: 3, ..Why::default() };
+    why(&t, 1) == led && why(&t, 3) == inside && why(&t, 5).number == 6 && why(&t, 0).v
+}
+
+fn missing_flags() -> bool {
+    let mut t = table(1, &[(9, 1), (8, 1), (7, 1), (7, 1)]);
+    let all = [0x0A, 1, 0, 0, 0, 0x88];
+    let any = [0x0A, 0, 0, 0, 0, 0x81];
+    accepted(&mut t, &[&all, &any, &[9, 1, 3]]);
+    let of = |task| why(&t, task).path;
+    of(1) == [(1, Reason::AllOf(0x80))]
+        && of(2) == [(2, Reason::AnyOf(0x81))]
+        && of(3) == [(3, Reason::Active)]
+        && of(4) == [(4, Reason::Ready(1))]
 }

@@ -4,9 +4,12 @@ mod compare;
 mod coverage;
 mod speed;
 
+use model::configuration::fresh_from_start;
 use model::faults::FAULTS;
+use model::records::cut;
 use model::steps::{step, step_unchecked};
-use model::{bench, cards, ending, mixes, runs};
+use model::table::Table;
+use model::{bench, cards, ending, image, mixes, runs, why};
 use std::io::{Read, Write};
 use std::process::ExitCode;
 
@@ -16,6 +19,8 @@ const USAGE: &str = "usage: second listing [--no-check] [--fault NAME] < input
        second compare PROGRAM [--part] [--runs N] [--seed S]
        second speed PROGRAM [--rounds N]
        second mix NAME
+       second image < input
+       second why TASK < image
        second run INDEX [--seed S]";
 
 fn main() -> ExitCode {
@@ -38,6 +43,8 @@ fn main() -> ExitCode {
         }
         ["run", index, options @ ..] => print_run(index, options),
         ["mix", name] => print_mix(name),
+        ["image"] => Some(print_image()),
+        ["why", task] => task.parse().ok().map(print_why),
         _ => None,
     };
     ending::ending(right, USAGE)
@@ -86,4 +93,35 @@ fn print_mix(name: &str) -> Option<bool> {
     let mixes = mixes::mixes();
     let (_, bytes) = mixes.iter().find(|(known, _)| *known == name)?;
     Some(std::io::stdout().lock().write_all(bytes).is_ok())
+}
+
+/// The image after a run: that of its configuration and of all its steps.
+fn print_image() -> bool {
+    match input().ok().and_then(|input| after(&input)) {
+        Some(table) => std::io::stdout().lock().write_all(&image::encode(&table)).is_ok(),
+        None => {
+            eprintln!("second: standard input is no whole run.");
+            false
+        }
+    }
+}
+
+fn after(input: &[u8]) -> Option<Table> {
+    let (mut table, used) = fresh_from_start(input)?;
+    let mut rest = &input[used..];
+    while !rest.is_empty() {
+        let (record, more) = cut(rest).ok()?;
+        step(&mut table, record);
+        rest = more;
+    }
+    Some(table)
+}
+
+/// Why a task of an image is not running, in words.
+fn print_why(task: u8) -> bool {
+    let told = input().map(|bytes| match image::decode(&bytes) {
+        Some(table) => why::told(&why::why(&table, task), table.clock),
+        None => "refused 1\n".to_string(),
+    });
+    told.and_then(|told| std::io::stdout().lock().write_all(told.as_bytes())).is_ok()
 }

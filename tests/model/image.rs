@@ -1,6 +1,6 @@
 //! The table's image by docs/TABLE.md, written apart from the proved code.
 
-use model::table::{Request, State, Table, Task};
+use crate::table::{Request, State, Table, Task};
 
 pub const LENGTH: usize = 898;
 
