@@ -1,5 +1,5 @@
 /*
- * quermanic.h: the executive's table as bytes, and the three things that a board does with it.
+ * quermanic.h: the executive's table as bytes, and the four things that a board does with it.
  *
  * The functions are proved against their definitions (crates/board); docs/EMBEDDING.md says how to link them and what is promised.
  * They keep nothing between calls, allocate nothing, and use no memory but their buffers and their stack.
@@ -44,6 +44,33 @@ typedef uint64_t quermanic_length;
 #define QUERMANIC_ANSWER_WALKED 5
 #define QUERMANIC_ANSWER_ARGUMENT 6
 #define QUERMANIC_ANSWER_SKIPPED 8
+
+/* The bytes of the reasons why a task is not running, and where each part stands: the path's steps, the first is the task
+ * asked for; of a step the task, its cause, the task it waits on, a byte of its cause, and eight bytes, the highest first.
+ * The last QUERMANIC_WHY_RING steps of the path wait on one another; 0: no ring. Places behind the path are 0. */
+#define QUERMANIC_WHY_BYTES 196
+#define QUERMANIC_WHY_NUMBER 0
+#define QUERMANIC_WHY_LENGTH 1 /* how many steps */
+#define QUERMANIC_WHY_RING 2
+#define QUERMANIC_WHY_ZERO 3
+#define QUERMANIC_WHY_STEPS 4 /* step i, from 0, begins QUERMANIC_WHY_STEP_BYTES * i further on */
+#define QUERMANIC_WHY_STEP_BYTES 12
+#define QUERMANIC_WHY_TASK 0
+#define QUERMANIC_WHY_CAUSE 1
+#define QUERMANIC_WHY_ON 2
+#define QUERMANIC_WHY_OWN 3
+#define QUERMANIC_WHY_UNTIL 4
+
+/* The causes, with their own byte and their eight bytes; what is not named is 0. */
+#define QUERMANIC_CAUSE_DORMANT 0
+#define QUERMANIC_CAUSE_ACTIVE 1
+#define QUERMANIC_CAUSE_READY 2          /* behind so many (own byte) */
+#define QUERMANIC_CAUSE_PAUSED 3         /* until then, in ms (eight bytes) */
+#define QUERMANIC_CAUSE_DUE 4            /* to restart then */
+#define QUERMANIC_CAUSE_FLAGS 5          /* QUERMANIC_ANY or _ALL (own byte); the flags that are missing (eight bytes) */
+#define QUERMANIC_CAUSE_START 6          /* for the start of the request at this place, from 1 (own byte) */
+#define QUERMANIC_CAUSE_END_OF_REQUEST 7 /* for the end of the run that the request at this place begins */
+#define QUERMANIC_CAUSE_END_OF_RUN 8     /* for the end of the run of the task that is waited on */
 
 /* The longest configuration: one 40, sixteen 41, one 42. */
 #define QUERMANIC_LONGEST_CONFIGURATION 51
@@ -180,6 +207,21 @@ uint8_t quermanic_step(uint8_t *image, quermanic_length image_length, const uint
  * It reads the word of the ready levels and no other byte of `image`, checks nothing, and writes nothing.
  */
 uint8_t quermanic_lamp(const uint8_t *image, quermanic_length image_length);
+
+/*
+ * Tells why a task is not running, in the table whose image is given: follows it to whom it waits on, and that one in
+ * turn, until one waits on nobody else or a task is met again.
+ *
+ *   0   the path
+ *   1   the bytes are not the image of a well-formed table
+ *   6   the table has no such task
+ *   30  `out_length` is less than QUERMANIC_WHY_BYTES: no byte of `out` is changed
+ *
+ * But for 30, the answer is written to the first QUERMANIC_WHY_BYTES bytes of `out`; after 1 and 6 all of them but the number
+ * are 0. The bytes after it keep their content. `image` is only read.
+ */
+uint8_t quermanic_why(const uint8_t *image, quermanic_length image_length, uint8_t task, uint8_t *out,
+                      quermanic_length out_length);
 
 /*
  * What follows is for convenience, and no part of what is proved: builders of each record, and readers of an answer

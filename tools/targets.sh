@@ -3,7 +3,8 @@
 # of their own, so that their variables are nobody else's.
 
 targets='cortex-m3 cortex-m0plus riscv32 riscv64 aarch64 aarch64-linux x86-64'
-entries='quermanic_fresh quermanic_check quermanic_step quermanic_lamp'
+entries='quermanic_fresh quermanic_check quermanic_step quermanic_lamp quermanic_why'
+rounds='quermanic_why 17' # why goes from task to task: sixteen, and one that is met again
 memory_stack=32 # bytes of stack that a memory function of the board counts for
 
 # target NAME: sets what clang is to know of this machine; false where there is no such target.
@@ -63,7 +64,7 @@ section_sizes() (
 
 # stack_bounds FOLDER: prints 'stack ENTRY BYTES' and 'wants NAME' of the library there: see tools/targets/stack.awk.
 stack_bounds() (
-    awk -v entries="$entries" -v wanted=$memory_stack -v pushed=$pushed -f tools/targets/stack.awk \
+    awk -v entries="$entries" -v rounds="$rounds" -v wanted=$memory_stack -v pushed=$pushed -f tools/targets/stack.awk \
         "$1/board.su" "$1/board.s"
 )
 
@@ -77,7 +78,7 @@ make_library() (
     if [ "$1" = x86-64 ]; then # as the kit has it: what it makes of the kept module is its archive
         cp target/module/board.ll "$out/board.ll" && cp target/module/board.object "$out/board.o" || return 1
     else
-        retarget board 3 "${4-}" >"$out/board.ll" &&
+        retarget board 5 "${4-}" >"$out/board.ll" &&
             compile_module "$level" "$out/board.ll" "$out/board.o" -c || return 1
     fi
     compile_module "$level" "$out/board.ll" "$out/board.s" -S -fstack-usage &&

@@ -3,8 +3,10 @@
 #   entries   the functions to tell of
 #   wanted    the bytes that a function of another library counts for
 #   pushed    the bytes that a call itself pushes (8 on x86-64)
+#   rounds    'ENTRY N ..': below this entry functions may call each other in a circle, which is proved to come round N
+#             times at most; the bound is then N times that of one round with all it calls
 # Prints 'stack ENTRY BYTES' for each entry, and 'wants NAME' for each function that the library calls and has not.
-# It refuses recursion, a call through a register and a frame of no fixed size.
+# It refuses any other recursion, a call through a register and a frame of no fixed size.
 
 function refuse(why) {
     print "the stack has no bound: " why > "/dev/stderr"
@@ -18,12 +20,17 @@ function bare(name) {
     return name
 }
 
-# The bytes that a function and all it calls take at most.
+# The bytes that a function and all it calls take at most. What is counted inside a circle is not kept.
 function depth(name,    list, count, i, below, most) {
     while (name in alias) name = alias[name]
     if (!(name in is_here)) { wants[name] = 1; return wanted }
     if (name in known) return known[name]
-    if (name in open) refuse("recursion through " name)
+    if (name in open) {
+        if (!times) refuse("recursion through " name)
+        if (circle != "" && circle != name) refuse("two circles, through " circle " and " name)
+        circle = name
+        return 0
+    }
     if (!(name in frame)) refuse("no frame is known of " name)
     open[name] = 1
     count = split(calls[name], list, "\n")
@@ -32,7 +39,10 @@ function depth(name,    list, count, i, below, most) {
         if (below > most) most = below
     }
     delete open[name]
-    return known[name] = frame[name] + most
+    if (circle == "") return known[name] = frame[name] + most
+    if (circle != name) return frame[name] + most
+    circle = ""
+    return known[name] = times * (frame[name] + most)
 }
 
 BEGIN {
@@ -81,9 +91,12 @@ $1 ~ direct && $2 !~ /^\.L/ { calls[here] = calls[here] (calls[here] == "" ? "" 
 
 END {
     if (refused) exit 1
+    count = split(rounds, list, " ")
+    for (i = 1; i < count; i += 2) round[list[i]] = list[i + 1]
     count = split(entries, list, " ")
     for (i = 1; i <= count; i++) {
         if (!(list[i] in is_here)) refuse("there is no function " list[i])
+        times = round[list[i]] + 0
         print "stack " list[i] " " depth(list[i])
     }
     for (name in wants) print "wants " name | "sort"

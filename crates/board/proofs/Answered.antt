@@ -14,9 +14,12 @@ use Rattle.executive.specs.Check.{isWellFormed, Checked}
 use Rattle.executive.proofs.Assured.{decided}
 use Rattle.executive.specs.Step.{noTable, stepOf}
 use Rattle.executive.specs.Configuration.{freshOf}
+use Rattle.records.specs.declared.TaskNo.{TaskNo}
+use Rattle.why.specs.declared.Reasons.{Reasons}
 use Rattle.board.specs.Blocks.{written}
 use Rattle.board.specs.Image.{noRoom, imageLength, imageOf, loadOf, isImageOf, isImage, FitsTable}
 use Rattle.board.specs.EntryPoints.{checkNumber, CheckedImage, Holds, freshNumber, freshImage, answerLength, answerBytes, answerTo, imageAfter, stepNumber, stepImage, stepAnswer}
+use Rattle.board.specs.Reasons.{reasonsLength, reasonsBytes, reasonsTo, whyNumber, whyAnswer}
 use Rattle.board.proofs.Alike.{decide, never}
 use Rattle.board.proofs.Trips.{load-store, stored}
 
@@ -89,6 +92,17 @@ module _ (s k o : List ℕ) where
           let e = le-ltb (length o) answerLength h in
           let z = eq-eqb (x .answer .number) 0 n in
           (rw (e, i, ← ex) (sym n), (rw (e, i, ← ex, z) ev, rw (e, i, ← ex) eu))
+
+-- ---- a question why a task is not running
+module _ (s : List ℕ) (k : TaskNo) (o : List ℕ) where
+  pub why-short : length o < reasonsLength → (noRoom ≡ whyNumber s k o) × (o ≡ whyAnswer s k o)
+  unfolding whyNumber whyAnswer
+  why-short h = let e = lt-ltb (length o) reasonsLength h in (rw e, rw e)
+
+  pub why-told : {u : List ℕ} (r : Reasons) → reasonsLength ≤ length o → r ≡ reasonsTo s k → u ≡ written o 0 (reasonsBytes r)
+      → (r .number ≡ whyNumber s k o) × (u ≡ whyAnswer s k o)
+  unfolding whyNumber whyAnswer
+  why-told r h er eu = let e = le-ltb (length o) reasonsLength h in (rw (e, ← er), rw (e, ← er) eu)
 
 -- ---- what is promised of refusals
 pub not-made : (g o : List ℕ) → (freshNumber g o ≡ 0 → ⊥) → freshImage g o ≡ o

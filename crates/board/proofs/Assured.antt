@@ -1,8 +1,10 @@
 -- What is promised holds.
 use mathlib.Core.Path.{sym, _∙_}
 use Rattle.board.specs.Promises.{Promises}
+use Rattle.board.specs.Reasons.{WhyPromises}
 use Rattle.board.proofs.Trips.{load-store, image-parts, stored, load-fits}
-use Rattle.board.proofs.Answered.{refused, short, not-made}
+use Rattle.board.proofs.Answered.{refused, short, not-made, why-short}
+use Rattle.board.proofs.Explained.{of-table, numbers-in}
 use Rattle.board.proofs.Histories.{fresh-kept, step-kept, active, overtaking}
 use Rattle.board.proofs.Shown.{lamp}
 
@@ -28,4 +30,12 @@ promises = record {
   load-determined = λ s x y p q. p ∙ sym q;
   store-determined = λ t o _ _ x y p q. (p .image ∙ sym (q .image), p .number ∙ sym (q .number));
   trip-determined = λ t x y p q. p ∙ sym q;
+}
+
+pub why-promises : WhyPromises
+why-promises = record {
+  short = λ s k o h. let e = why-short s k o h in (sym (e .0), sym (e .1));
+  numbers = numbers-in;
+  table = of-table;
+  determined = λ s k o _ _ x y p q. (p .answer ∙ sym (q .answer), p .number ∙ sym (q .number));
 }

@@ -6,6 +6,7 @@ pub mod Alike
 pub mod Images
 pub mod Trips
 pub mod Answered
+pub mod Explained
 pub mod Histories
 pub mod Shown
 pub mod Assured

@@ -1,19 +1,23 @@
--- What several writes leave whose numbers come from calls: the front of a task's entry, an answer.
-use Prim.Native.Nat.{ℕ, _+_, _≤_}
-use mathlib.Core.Path.{_≡_, ap, _∙_}
+-- What several writes leave whose numbers come from calls: the front of a task's entry, an answer, the reasons.
+use Prim.Native.Nat.{ℕ, _+_, _*_, _≤_}
+use mathlib.Core.Path.{_≡_, refl, ap, _∙_}
 use mathlib.Core.List.{List, [], _∷_, _++_}
 use native.Mathlib.Omega.{arith}
 use lib.ListN.{length}
 use Rattle.records.specs.Numbers.{bytesIn}
+use Rattle.records.specs.declared.TaskNo.{TaskNo}
 use Rattle.executive.specs.declared.Answer.{Answer}
 use Rattle.executive.specs.declared.State.{State}
 use Rattle.executive.specs.Lists.{one}
 use Rattle.executive.specs.declared.Millis.{Millis}
 use Rattle.executive.specs.States.{stateKind, timeOf, maskOf}
-use Rattle.board.specs.Blocks.{written}
+use Rattle.why.specs.declared.Step.{Step}
+use Rattle.why.specs.declared.Reasons.{Reasons}
+use Rattle.board.specs.Blocks.{row, written}
 use Rattle.board.specs.Coding.{frontBytes}
 use Rattle.board.specs.EntryPoints.{answerLength, answerBytes}
-use Rattle.board.proofs.Spans.{and-then}
+use Rattle.board.specs.Reasons.{causeKind, waitedOn, ownByte, untilOf, stepBytes, stepsAt, reasonsLength, reasonsBytes}
+use Rattle.board.proofs.Spans.{and-then, length-row}
 
 pub wrote-front : (o : List ℕ) {p q r : List ℕ} (at own : ℕ) (s : State) (k : ℕ) (m : Millis) (n : ℕ) → k ≡ stateKind s → m ≡ timeOf s → n ≡ maskOf s
     → p ≡ written o at (own ∷ k ∷ []) → q ≡ written p (at + 2) (bytesIn 8 (m .0)) → r ≡ written q (at + 10) (bytesIn 4 n) → at + 14 ≤ length o
@@ -35,3 +39,21 @@ wrote-answer o a z v c ez ev ec e f g h i l =
     let n = and-then o 0 (x ++ y) w m g (omega arith) in
     let k = and-then o 0 ((x ++ y) ++ w) b n h (omega arith) in
     and-then o 0 (((x ++ y) ++ w) ++ b) (bytesIn 8 (a .skipped)) k i (omega arith) ∙ rw (ez, ev, ec)
+
+pub wrote-step : (o : List ℕ) {p q r : List ℕ} (at : ℕ) (s : Step) (k : ℕ) (j : TaskNo) (b u : ℕ)
+    → k ≡ causeKind (s .cause) → j ≡ waitedOn (s .cause) → b ≡ ownByte (s .cause) → u ≡ untilOf (s .cause)
+    → p ≡ written o at (s .task .0 ∷ k ∷ []) → q ≡ written p (at + 2) (j .0 ∷ b ∷ []) → r ≡ written q (at + 4) (bytesIn 8 u)
+    → at + 12 ≤ length o → r ≡ written o at (stepBytes s)
+wrote-step o at s k j b u ek ej eb eu f g h l =
+    let x = s .task .0 ∷ k ∷ [] in
+    let y = j .0 ∷ b ∷ [] in
+    and-then o at (x ++ y) (bytesIn 8 u) (and-then o at x y f g (omega arith)) h (omega arith) ∙ rw (ek, ej, eb, eu)
+
+pub wrote-reasons : (o : List ℕ) {p q r : List ℕ} (a : Reasons) → length (a .steps) ≡ 16
+    → p ≡ written o 0 (a .number ∷ a .length ∷ []) → q ≡ written p 2 (a .ring ∷ 0 ∷ [])
+    → r ≡ written q stepsAt (row stepBytes (a .steps)) → reasonsLength ≤ length o → r ≡ written o 0 (reasonsBytes a)
+wrote-reasons o a e f g h l =
+    let x = a .number ∷ a .length ∷ [] in
+    let y = a .ring ∷ 0 ∷ [] in
+    let z : length (row stepBytes (a .steps)) ≡ 16 * 12 = length-row stepBytes 12 (λ s. refl) (a .steps) ∙ ap (λ n. n * 12) e in
+    and-then o 0 (x ++ y) (row stepBytes (a .steps)) (and-then o 0 x y f g (omega arith)) h (omega (arith, z))

@@ -1,6 +1,8 @@
--- The definitions: rows of equal blocks, the image of a table, and what the entry points answer and leave.
+-- The definitions: rows of equal blocks, the image of a table, what the entry points answer and leave, and why a task
+-- is not running, as bytes.
 pub mod Blocks
 pub mod Image
 pub mod Coding
 pub mod EntryPoints
+pub mod Reasons
 pub mod Promises

@@ -2,13 +2,17 @@
 use executive::Lamp;
 use executive::configuration;
 use executive::levels;
+use records::TaskNo;
+ghost use Rattle.records.specs.declared.TaskNo.{TaskNo};
 ghost use Rattle.board.specs.EntryPoints.{MakesImage, CheckedImage, StepsImage, ReadsLamp};
+ghost use Rattle.board.specs.Reasons.{ExplainsImage};
 
 mod answers;
 mod checking;
 pub mod loading;
 mod numbers;
 pub mod promises;
+mod reasons;
 pub mod storing;
 
 // The board's own number: a buffer that is to be written to has not the length it needs. It is judged before any
@@ -98,4 +102,18 @@ pub extern "C" fn quermanic_lamp(image: &[u8]) -> u8
         Lamp::Dark => LAMP_DARK,
         Lamp::Level(p) => p,
     }
+}
+
+// Tells why a task is not running: the answer's number, and the answer at the start of its buffer. Where that is
+// shorter than 196 bytes: 30, and none of its bytes is changed. The image is only read.
+#[no_mangle]
+pub extern "C" fn quermanic_why(image: &[u8], task: u8, out: &mut [u8]) -> u8
+    ensures { λ r. ⌜ ExplainsImage (now (image .entry)) (record { 0 = task }) (now (out .entry)) (now (out .exit)) r ⌝ }
+{
+    if out.len() < 196 {
+        return NO_ROOM;
+    }
+    let told = reasons::reasons_of(image, TaskNo(task));
+    reasons::put_reasons(out, told);
+    told.number
 }

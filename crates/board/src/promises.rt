@@ -5,6 +5,7 @@ use crate::storing;
 use executive::Table;
 ghost use Rattle.board.specs.Image.{ComesBack};
 ghost use Rattle.board.specs.Promises.{Promises};
+ghost use Rattle.board.specs.Reasons.{WhyPromises};
 
 // Stores a table and loads its image: the same table.
 pub fn write_then_read(table: Table) -> Table
@@ -16,5 +17,5 @@ pub fn write_then_read(table: Table) -> Table
 }
 
 fn promised()
-    ensures { λ r. ⌜ Promises ⌝ }
+    ensures { λ r. ⌜ Promises × WhyPromises ⌝ }
 {}

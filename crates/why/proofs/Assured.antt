@@ -170,4 +170,5 @@ promises = record {
   ring-else = λ t k o j. ring-else t (o .formed) (k .0) (o .some, o .within) (explained t k) (whole t k o) j;
   numbers = numbers;
   determined = λ t k x y p q. p ∙ sym q;
+  no-table-determined = λ x y p q. p ∙ sym q;
 }

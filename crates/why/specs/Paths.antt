@@ -84,6 +84,10 @@ explained t k =
 abbrev pub Explains : Table → TaskNo → Reasons → Type 0
 Explains t k r = r ≡ explained t k
 
+-- the contract of the answer about what is no table
+abbrev pub IsNoTable : Reasons → Type 0
+IsNoTable r = r ≡ refusal 1 false
+
 -- ---- what an answer tells: the path, first to last, and its last steps that are the ring
 abbrev pub pathIn : Reasons → List Step
 pathIn r = take (r .length) (r .steps)

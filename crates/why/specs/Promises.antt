@@ -15,7 +15,7 @@ use Rattle.why.specs.declared.Cause.{Cause}
 use Rattle.why.specs.declared.Step.{Step}
 use Rattle.why.specs.declared.Reasons.{Reasons}
 use Rattle.why.specs.Causes.{causeOf, Holds, WaitsOn}
-use Rattle.why.specs.Paths.{noStep, explained, Explains, pathIn, ringIn}
+use Rattle.why.specs.Paths.{noStep, explained, Explains, IsNoTable, pathIn, ringIn}
 
 -- k is a task of the well-formed table t
 pub record TaskOf (t : Table) (k : ℕ) : Type 0 where
@@ -79,3 +79,4 @@ pub record Promises : Type 0 where
   pub numbers : (t : Table) (k : TaskNo) → Numbers t k (explained t k)
   -- any two answers that the contract allows are equal
   pub determined : (t : Table) (k : TaskNo) (x y : Reasons) → Explains t k x → Explains t k y → x ≡ y
+  pub no-table-determined : (x y : Reasons) → IsNoTable x → IsNoTable y → x ≡ y

@@ -10,7 +10,7 @@ ghost use mathlib.Core.Path.{_≡_};
 ghost use Prim.Native.Nat.{_≤_, _<_};
 ghost use lib.ListN.{length};
 ghost use Rattle.why.specs.Causes.{Sized};
-ghost use Rattle.why.specs.Paths.{metAt, longer, closed, unmet, taskPath, linkPath, refusal, Explains};
+ghost use Rattle.why.specs.Paths.{metAt, longer, closed, unmet, taskPath, linkPath, refusal, Explains, IsNoTable};
 
 // A blank step.
 const NO_STEP: Step = Step {
@@ -29,6 +29,13 @@ fn none(number: u8, v: bool) -> Reasons
         length: 0,
         ring: 0,
     }
+}
+
+// The answer about what is no table: 1.
+pub fn no_table() -> Reasons
+    ensures { λ r. ⌜ IsNoTable r ⌝ }
+{
+    none(1, false)
 }
 
 // The place of a task on a path; the path's length where it has not been met.
