@@ -1,8 +1,8 @@
 /* The board library's functions as a program, for a trial that cannot link them: it reads calls and answers them.
- * A call is a letter (f fresh, c check, l lamp, s step), the lengths of three buffers, four bytes each, the highest first,
- * and their bytes: the image; the configuration or the record; the answer. What it gives: the number that was
- * returned, as four bytes, so that what a machine leaves above the returned byte is seen; the instructions that it
- * took, four bytes, 0 where nothing counts them; and the bytes of image and answer after it. */
+ * A call is a letter (f fresh, c check, l lamp, s step, w why), the lengths of three buffers, four bytes each, the
+ * highest first, and their bytes: the image; the configuration, the record or the task; the answer. What it gives: the
+ * number that was returned, as four bytes, so that what a machine leaves above the returned byte is seen; the
+ * instructions that it took, four bytes, 0 where nothing counts them; and the bytes of image and answer after it. */
 #include "pipe.h"
 #include "quermanic.h"
 
@@ -68,6 +68,9 @@ static uint32_t call(uint8_t kind, struct guarded *image, struct guarded *given,
         return quermanic_check(inside(image), image->length);
     case 'l':
         return quermanic_lamp(inside(image), image->length);
+    case 'w':
+        need(given->length == 1, "calls: a task is one byte\n");
+        return quermanic_why(inside(image), image->length, inside(given)[0], inside(answer), answer->length);
     default:
         need(kind == 's', "calls: no such call\n");
         return quermanic_step(inside(image), image->length, inside(given), given->length, inside(answer),

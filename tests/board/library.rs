@@ -40,6 +40,18 @@ impl Library {
         }
     }
 
+    /// The number of a question why a task is not running, and the bytes of its answer after it.
+    pub fn why(&mut self, image: &[u8], task: u8, out: &[u8]) -> (u32, Vec<u8>) {
+        let mut kept = Guarded::new(image);
+        let mut out = Guarded::new(out);
+        let number = match &mut self.0 {
+            Some(program) => program.why(kept.inside(), task, out.inside()),
+            None => linked::why(kept.inside(), task, out.inside()),
+        };
+        assert!(kept.open() == image, "the question wrote to the image");
+        (number, out.open())
+    }
+
     /// A step's number, and the bytes of image and answer after it.
     pub fn step(&mut self, image: &[u8], record: &[u8], answer: &[u8]) -> (u32, Vec<u8>, Vec<u8>) {
         let mut image = Guarded::new(image);

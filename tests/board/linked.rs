@@ -13,6 +13,7 @@ extern "C" {
         answer: *mut u8,
         answer_length: u64,
     ) -> u8;
+    fn quermanic_why(image: *const u8, image_length: u64, task: u8, out: *mut u8, out_length: u64) -> u8;
 }
 
 pub fn fresh(config: &[u8], image: &mut [u8]) -> u32 {
@@ -40,5 +41,10 @@ pub fn step(image: &mut [u8], record: &[u8], answer: &mut [u8]) -> u32 {
             answer.len() as u64,
         )
     };
+    number.into()
+}
+
+pub fn why(image: &[u8], task: u8, out: &mut [u8]) -> u32 {
+    let number = unsafe { quermanic_why(image.as_ptr(), image.len() as u64, task, out.as_mut_ptr(), out.len() as u64) };
     number.into()
 }

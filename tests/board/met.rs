@@ -1,7 +1,8 @@
-//! What a trial met: numbers, kinds, checks and days that ended.
+//! What a trial met: numbers, kinds, checks, days that ended, and why tasks did not run.
 
 use crate::book::Book;
 use model::table::{State, Table, FLAGS, TASKS};
+use model::why::{Reason, Why};
 use std::collections::BTreeMap;
 
 /// The numbers that must be met: by steps, and by the making of fresh tables.
@@ -9,6 +10,20 @@ const OF_STEPS: [u8; 11] = [0, 1, 3, 4, 5, 6, 7, 8, 9, 10, 30];
 const OF_FRESH: [u8; 3] = [0, 2, 30];
 /// The most ready tasks that a step can pass over: 1 to 15, by sixteen that enter an empty queue.
 const FARTHEST: u8 = 120;
+/// Those by questions why a task is not running, and the reasons.
+const OF_WHYS: [u8; 4] = [0, 1, 6, 30];
+const REASONS: [&str; 10] = [
+    "dormant",
+    "active",
+    "ready",
+    "paused",
+    "due",
+    "any flag",
+    "all flags",
+    "start of a request",
+    "end of a request's run",
+    "end of a run",
+];
 /// What waits for a time.
 const TIMED: [&str; 3] = ["paused task", "due task", "alarm"];
 /// The longest interval that is no day's: 255 hours.
@@ -30,6 +45,12 @@ pub struct Met {
     starts: [u64; 2],
     /// How often the lamp showed each level, and 16 for dark.
     lamps: [u64; 17],
+    whys: BTreeMap<u8, u64>,
+    reasons: [u64; REASONS.len()],
+    /// Paths that end in a ring of so many tasks; those with tasks that lead to it; paths of sixteen.
+    rings: BTreeMap<u8, u64>,
+    led: u64,
+    longest: u64,
 }
 
 /// Since when each task has been in its state and each alarm has had its time.
@@ -100,6 +121,19 @@ impl Met {
         self.lamps[shown as usize] += 1;
     }
 
+    /// Why a task is not running.
+    pub fn told(&mut self, why: &Why) {
+        *self.whys.entry(why.number).or_default() += 1;
+        for (_, reason) in &why.path {
+            self.reasons[place_of(*reason)] += 1;
+        }
+        if why.ring > 0 {
+            *self.rings.entry(why.ring as u8).or_default() += 1;
+            self.led += u64::from(why.ring < why.path.len());
+        }
+        self.longest += u64::from(why.path.len() == TASKS);
+    }
+
     /// A damaged image: whether it is one of a well-formed table all the same.
     pub fn checked(&mut self, sound: bool) {
         *self.checks.entry(sound).or_default() += 1;
@@ -123,6 +157,12 @@ impl Met {
         for (what, count) in TIMED.iter().zip(self.days) {
             println!("  {what} after more than 255 hours: {count}");
         }
+        print_counts("question why, number", &self.whys, |number| number.to_string());
+        let words: Vec<String> =
+            REASONS.iter().zip(self.reasons).map(|(what, count)| format!("{what}: {count}")).collect();
+        println!("  reason {}", words.join(", "));
+        print_counts("ring of", &self.rings, |many| many.to_string());
+        println!("  rings with a lead: {}, paths of {TASKS}: {}", self.led, self.longest);
         println!("  damaged images: {} not well formed, {} well formed all the same", of(false), of(true));
         let complete = OF_STEPS.iter().all(|n| self.steps.contains_key(n))
             && OF_FRESH.iter().all(|n| self.fresh.contains_key(n))
@@ -132,12 +172,33 @@ impl Met {
             && self.starts.iter().all(|count| *count > 0)
             && self.lamps.iter().all(|count| *count > 0)
             && self.days.iter().all(|count| *count > 0)
+            && OF_WHYS.iter().all(|n| self.whys.contains_key(n))
+            && self.reasons.iter().all(|count| *count > 0)
+            && (2..=TASKS as u8).all(|many| self.rings.contains_key(&many))
+            && self.led > 0
+            && self.longest > 0
             && of(false) > 0
             && of(true) > 0;
         if !complete {
             println!("something was never met");
         }
         complete
+    }
+}
+
+/// The place of a reason among those that must be met.
+fn place_of(reason: Reason) -> usize {
+    match reason {
+        Reason::Dormant => 0,
+        Reason::Active => 1,
+        Reason::Ready(_) => 2,
+        Reason::Paused(_) => 3,
+        Reason::Due(_) => 4,
+        Reason::AnyOf(_) => 5,
+        Reason::AllOf(_) => 6,
+        Reason::Start(..) => 7,
+        Reason::EndOfRequest(..) => 8,
+        Reason::EndOfRun(_) => 9,
     }
 }
 

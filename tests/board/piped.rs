@@ -72,4 +72,7 @@ impl Program {
     pub fn step(&mut self, image: &mut [u8], record: &[u8], answer: &mut [u8]) -> u32 {
         self.call(b's', image, record, answer)
     }
+    pub fn why(&mut self, image: &mut [u8], task: u8, out: &mut [u8]) -> u32 {
+        self.call(b'w', image, &[task], out)
+    }
 }

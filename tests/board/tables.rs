@@ -2,7 +2,7 @@
 
 use model::check::well_formed;
 use model::runs::Rng;
-use model::table::{Request, State, Table, FLAGS, LAST_CLOCK, LONGEST, PLACES, TASKS};
+use model::table::{Request, State, Table, Task, FLAGS, LAST_CLOCK, LONGEST, PLACES, TASKS};
 
 type Edit = fn(&mut Table, &mut Rng);
 
@@ -30,6 +30,68 @@ pub fn broken(table: &Table, rng: &mut Rng) -> Table {
     let mut next = *table;
     rng.pick(&BREAKS)(&mut next, rng);
     next
+}
+
+/// The table with some of its tasks waiting on one another, in a row: the last on one of those before it, so that they
+/// end in a ring, or on nobody. Waits of before are gone.
+pub fn chained(table: &Table, rng: &mut Rng) -> Table {
+    let mut next = *table;
+    next.pool = Default::default();
+    next.asked = 0;
+    for task in &mut next.tasks {
+        task.end_waiter = 0;
+        if let State::WaitStart | State::WaitEnd = task.state {
+            *task = Task { own: task.own, ..Task::default() };
+        }
+    }
+    let mut row: Vec<u8> = (1..=table.count).collect();
+    for at in 1..row.len() {
+        row.swap(at, rng.below(at + 1));
+    }
+    if rng.one_in(2) {
+        row.truncate(1 + rng.below(table.count as usize));
+    }
+    row.iter().for_each(|number| make_busy(&mut next, *number, rng));
+    if let [before @ .., _] = row.as_slice() {
+        if !before.is_empty() && !rng.one_in(3) {
+            row.push(rng.pick(before));
+        }
+    }
+    for pair in row.windows(2) {
+        make_wait(&mut next, pair[0], pair[1], rng);
+    }
+    if rng.one_in(2) {
+        fill_pool(&mut next, rng);
+    }
+    next
+}
+
+/// A dormant task gets a run, paused.
+fn make_busy(table: &mut Table, number: u8, rng: &mut Rng) {
+    let state = State::Paused(ahead(table, rng));
+    let task = &mut table.tasks[number as usize - 1];
+    if task.state == State::Dormant {
+        *task = Task { state, priority: rng.below(16) as u8, ..*task };
+    }
+}
+
+/// A task leaves whatever it does, and waits on another: for the start or the end of a request's run, or of its own.
+fn make_wait(table: &mut Table, waiter: u8, on: u8, rng: &mut Rng) {
+    if let Some(place) = table.queue.iter().position(|ready| *ready == waiter) {
+        table.queue.copy_within(place + 1.., place);
+        table.queue[TASKS - 1] = 0;
+        table.queued -= 1;
+    }
+    let start = rng.one_in(3);
+    table.task_mut(waiter).state = if start { State::WaitStart } else { State::WaitEnd };
+    if !start && rng.one_in(2) && table.task(on).end_waiter == 0 {
+        table.task_mut(on).end_waiter = waiter;
+        return;
+    }
+    let request = Request { task: on, priority: rng.below(16) as u8, ..Request::default() };
+    table.pool[table.asked as usize] =
+        if start { Request { start_waiter: waiter, ..request } } else { Request { end_waiter: waiter, ..request } };
+    table.asked += 1;
 }
 
 /// One to several bytes of the image are changed: by one, by one bit, or to any.

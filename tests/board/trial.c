@@ -180,11 +180,62 @@ static void try_walking(void) {
     tell("a refused step: nobody passed over", goes_on(4, 1, unknown, sizeof unknown) && *walked == 0);
 }
 
+/* A question into a buffer of so many bytes: its number, and the first of these. */
+static uint8_t told[QUERMANIC_WHY_BYTES];
+
+static uint8_t why(size_t image_length, uint8_t task, size_t room) {
+    memset(told, 0xA5, sizeof told);
+    return quermanic_why(image, image_length, task, told, room);
+}
+
+/* Whether all bytes from a place on are the same. */
+static int all_are(uint8_t byte, size_t from) {
+    while (from < sizeof told && told[from] == byte) {
+        from++;
+    }
+    return from == sizeof told;
+}
+
+/* Whether the path has this step. */
+static int is_step(size_t i, uint8_t task, uint8_t cause, uint8_t on, uint8_t own, uint64_t until) {
+    const uint8_t *step = told + QUERMANIC_WHY_STEPS + QUERMANIC_WHY_STEP_BYTES * i;
+
+    return step[QUERMANIC_WHY_TASK] == task && step[QUERMANIC_WHY_CAUSE] == cause && step[QUERMANIC_WHY_ON] == on &&
+           step[QUERMANIC_WHY_OWN] == own && eight_bytes(step + QUERMANIC_WHY_UNTIL) == until;
+}
+
+/* Why a task is not running: 3 waits for the start of a request for 2, 2 for the end of 1's run, and 1 for two flags, of
+ * which one is set; and what is refused. */
+static void try_why(void) {
+    static const uint8_t three[] = {0x40, 1, 0x41, 1, 0, 0x41, 9, 1, 0x41, 8, 1, 0x41, 0, 1, 0x42};
+    const size_t whole = QUERMANIC_IMAGE_LENGTH, room = QUERMANIC_WHY_BYTES;
+
+    quermanic_fresh(three, sizeof three, image, whole);
+    goes_on(0, 0, (const uint8_t[]){0x05, 0xC0, 1, 0, 0}, 5);
+    goes_on(0, 0, (const uint8_t[]){0x05, 0xA0, 2, 0, 0}, 5);
+    goes_on(0, 0, (const uint8_t[]){0x0A, 1, 0, 0, 0, 0x88}, 6);
+    goes_on(0, 0, (const uint8_t[]){0x09, 1, 3}, 3);
+    tell("why of 3: a path of three, and no ring",
+         why(whole, 3, room) == 0 && told[QUERMANIC_WHY_LENGTH] == 3 && told[QUERMANIC_WHY_RING] == 0);
+    tell("it waits for a request, on 2", is_step(0, 3, QUERMANIC_CAUSE_START, 2, 1, 0));
+    tell("2 waits for the end of 1's run", is_step(1, 2, QUERMANIC_CAUSE_END_OF_RUN, 1, 0, 0));
+    tell("1 waits for all its flags, and 7 is missing", is_step(2, 1, QUERMANIC_CAUSE_FLAGS, 0, QUERMANIC_ALL, 0x80));
+    tell("behind the path all is 0", all_are(0, QUERMANIC_WHY_STEPS + 3 * QUERMANIC_WHY_STEP_BYTES));
+    tell("why of 4: active", why(whole, 4, room) == 0 && is_step(0, 4, QUERMANIC_CAUSE_ACTIVE, 0, 0, 0));
+    tell("why of no task: 6", why(whole, 5, room) == 6 && told[0] == 6 && all_are(0, 1));
+    tell("why of 0: 6", why(whole, 0, room) == 6 && told[0] == 6 && all_are(0, 1));
+    tell("why of an image of a wrong length: 1", why(whole - 1, 3, room) == 1 && told[0] == 1 && all_are(0, 1));
+    tell("why into a short buffer: 30", why(whole, 3, room - 1) == 30 && all_are(0xA5, 0));
+    image[1] ^= 0x80; /* task 1's state: no state's number */
+    tell("why of a damaged image: 1", why(whole, 3, room) == 1 && told[0] == 1 && all_are(0, 1));
+}
+
 int main(void) {
     take_listing();
     try_refusals();
     try_days();
     try_skipping();
     try_walking();
+    try_why();
     return failed;
 }

@@ -10,6 +10,7 @@ mod linked;
 mod listing;
 mod met;
 mod piped;
+mod reasons;
 mod short;
 mod speed;
 mod tables;

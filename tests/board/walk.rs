@@ -5,6 +5,7 @@ use crate::book::Book;
 use crate::counts::Counts;
 use crate::library::Library;
 use crate::met::{Met, Since};
+use crate::reasons;
 use crate::tables;
 use crate::wrong::Wrong;
 use model::check::well_formed;
@@ -96,6 +97,8 @@ impl Trial<'_> {
     /// Walks through one generated run, with edits, damage and bad records on the way.
     fn walk(&mut self, index: u64) -> Told {
         let rng = &mut Rng::new(!self.seed, index);
+        // of their own, so that the walk is the same with questions or without
+        let whys = &mut Rng::new(self.seed ^ 1 << 32, index);
         let bytes = run(self.seed, index);
         let used = fresh_from_start(&bytes).map_or(bytes.len(), |(_, used)| used);
         self.fresh(&bytes[..used], rng)?;
@@ -117,6 +120,9 @@ impl Trial<'_> {
                 book = Book::open(&image);
             }
             self.beside(&image, record, rng)?;
+            if whys.one_in(64) {
+                self.reasons(&image, whys)?;
+            }
             let (_, next, answer) = self.taken(&image, record, &UNWRITTEN)?;
             book.enter(&image, record, &answer, &next)?;
             let (before, after) = (table_of(&image), table_of(&next));
@@ -152,6 +158,25 @@ impl Trial<'_> {
             other.resize(rng.pick(&[0, 1, LENGTH - 1, LENGTH + 1, 2 * LENGTH]), 0);
             self.step(&other, record, &UNWRITTEN[..short])?;
             self.image(&other, record)?;
+        }
+        Ok(())
+    }
+
+    /// Why no task of a table runs, or which does: as it is, with tasks that wait on one another, broken and damaged; of
+    /// an image of another length; and into a buffer that is too short.
+    fn reasons(&mut self, image: &[u8], rng: &mut Rng) -> Told {
+        let table = table_of(image);
+        let chained = tables::chained(&table, rng);
+        if !well_formed(&chained) {
+            return Err(format!("the chain of tasks is not well formed\nimage {}", hex(&encode(&chained))));
+        }
+        let mut damaged = encode(&chained);
+        tables::damage(&mut damaged, rng);
+        let broken = encode(&tables::broken(&chained, rng));
+        for image in [image, &encode(&chained), &broken, &damaged, &image[..rng.below(LENGTH)]] {
+            reasons::asked_for_all(self.library, &mut self.met, self.wrong, image)?;
+            let short = &reasons::UNASKED[..rng.below(reasons::REASONS)];
+            reasons::asked(self.library, &mut self.met, self.wrong, image, rng.below(18) as u8, short)?;
         }
         Ok(())
     }

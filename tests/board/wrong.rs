@@ -1,6 +1,7 @@
 //! What is made wrong in the model, to show that the trial finds it.
 
 use model::faults::{Fault, FAULTS};
+use model::why;
 
 #[derive(Clone, Copy, PartialEq, Eq)]
 pub enum Wrong {
@@ -13,6 +14,7 @@ pub enum Wrong {
     Check,
     Fresh,
     Lowest,
+    Why(why::Fault),
 }
 
 /// Those that are no rule of the model, by name.
@@ -29,5 +31,6 @@ const WRONGS: [(&str, Wrong); 7] = [
 /// What is made wrong, by its name.
 pub fn wrong_of(name: &str) -> Option<Wrong> {
     let rules = FAULTS.iter().map(|(known, fault)| (*known, Wrong::Rule(*fault)));
-    rules.chain(WRONGS).find(|(known, _)| *known == name).map(|(_, wrong)| wrong)
+    let whys = why::FAULTS.iter().map(|(known, fault)| (*known, Wrong::Why(*fault)));
+    rules.chain(WRONGS).chain(whys).find(|(known, _)| *known == name).map(|(_, wrong)| wrong)
 }
