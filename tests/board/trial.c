@@ -230,6 +230,30 @@ static void try_why(void) {
     tell("why of a damaged image: 1", why(whole, 3, room) == 1 && told[0] == 1 && all_are(0, 1));
 }
 
+/* The lamp and its word: after a fresh table, when idle, of other lengths, and with each bit of the word turned. */
+static void try_lamp(void) {
+    static const uint8_t no_table[QUERMANIC_ANSWER_LENGTH] = {1, 0, 0, 0, 0};
+    const size_t whole = QUERMANIC_IMAGE_LENGTH;
+    const size_t word = QUERMANIC_IMAGE_LEVELS;
+    int bit, right = 1;
+
+    tell("the lamp of one ready task of priority 7: 7", fresh_alone() && quermanic_lamp(image, whole) == 7);
+    tell("its word: bit 7 alone", image[word] == 0 && image[word + 1] == 0x80);
+    tell("the lamp of a short, a long and an empty buffer: dark",
+         quermanic_lamp(image, whole - 1) == QUERMANIC_LAMP_DARK && quermanic_lamp(image, whole + 1) == QUERMANIC_LAMP_DARK &&
+             quermanic_lamp(image, 0) == QUERMANIC_LAMP_DARK);
+    for (bit = 0; bit < 16; bit++) {
+        image[word + (bit < 8)] ^= (uint8_t)(1 << bit % 8);
+        right = right && quermanic_check(image, whole) == 1 && refused(1, whole, tick, sizeof tick, no_table, sizeof no_table) &&
+                refused(1, whole, tick, 0, no_table, sizeof no_table);
+        image[word + (bit < 8)] ^= (uint8_t)(1 << bit % 8);
+    }
+    tell("each bit of the word turned: 1, and nothing changes", right && quermanic_check(image, whole) == 0);
+    tell("the lamp when idle: dark, and its word 0",
+         steps(0, 0, (const uint8_t[]){0x02, 0, 1}, 3) && quermanic_lamp(image, whole) == QUERMANIC_LAMP_DARK &&
+             image[word] == 0 && image[word + 1] == 0);
+}
+
 int main(void) {
     take_listing();
     try_refusals();
@@ -237,5 +261,6 @@ int main(void) {
     try_skipping();
     try_walking();
     try_why();
+    try_lamp();
     return failed;
 }
