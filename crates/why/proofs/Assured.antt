@@ -3,21 +3,25 @@ use Prim.Native.Nat.{ℕ, zero, suc, _+_, _-_, _≤_, _<_}
 use mathlib.Core.Path.{_≡_, refl, sym, ap, _∙_}
 use mathlib.Core.Logic.{_↔_, _≢_, _⊎_, inl, inr, ⊎-elim}
 use mathlib.Core.Bool.{true, false}
+use mathlib.Core.List.{List}
 use native.Mathlib.Omega.{arith}
 use borrow.Author.Tests.{eqb-true, eqb-false, leb-true, leb-false}
 use lib.Dec.{eqb, leb}
 use lib.ListN.{length, getD}
 use lib.Seq.{getD-take}
 use Rattle.records.specs.declared.TaskNo.{TaskNo}
+use Rattle.executive.specs.declared.Millis.{Millis}
 use Rattle.executive.specs.declared.Table.{Table}
 use Rattle.executive.specs.Check.{isWellFormed}
 use Rattle.executive.specs.WellFormed.{WellFormed}
 use Rattle.executive.specs.Promises.InWords.{NoTask}
 use Rattle.executive.proofs.Assured.{decided}
+use Rattle.text.proofs.Assured as text
 use Rattle.why.specs.declared.Step.{Step}
 use Rattle.why.specs.declared.Reasons.{Reasons}
 use Rattle.why.specs.Causes.{causeOf, Holds, WaitsOn}
 use Rattle.why.specs.Paths.{noStep, refusal, taskPath, explained}
+use Rattle.why.specs.Texts.{textOf, Tells}
 use Rattle.why.specs.Promises.{TaskOf, pathFrom, stepAt, taskOn, Ends, Numbers, Promises}
 use Rattle.why.proofs.Searching.{decide, never}
 use Rattle.why.proofs.Answering.{answer-one, answer-nobody, answer-over, answer-path}
@@ -158,6 +162,14 @@ module _ (t : Table) (k : TaskNo) where
         path-keeps (λ (p : Reasons). p .v) t false (λ p i. refl) (λ p j c. refl) 16 k (refusal 0 false) refl,
       )
 
+-- ---- the text is within its buffer
+told-within : (r : Reasons) (clock : Millis) (o b : List ℕ) (n : ℕ) → Tells r clock o b n → n ≤ length b
+told-within r clock o b n p =
+    let s = text.promises .size o 0 (textOf r clock) b n p in
+    decide (leb (0 + length (textOf r clock)) (length o))
+    (λ y. omega (arith, s, text.inside (omega arith) (text.promises .adds o 0 (textOf r clock) b n (leb-true (0 + length (textOf r clock)) (length o) y) p)))
+    (λ y. omega (arith, text.promises .keeps o 0 (textOf r clock) b n (leb-false (0 + length (textOf r clock)) (length o) y) p .1))
+
 pub promises : Promises
 promises = record {
   holds = holds;
@@ -171,4 +183,6 @@ promises = record {
   numbers = numbers;
   determined = λ t k x y p q. p ∙ sym q;
   no-table-determined = λ x y p q. p ∙ sym q;
+  told-within = told-within;
+  told-determined = λ r clock o b c m n p q. text.promises .determined o 0 (textOf r clock) b c m n p q;
 }

@@ -10,3 +10,4 @@ pub mod Rings
 pub mod Assured
 pub mod Onward
 pub mod Answering
+pub mod Told

@@ -1,4 +1,4 @@
--- The first of a list that passes a test: the turns of a loop that looks for it, what it is, and that it is the only one.
+-- The first of a list that passes a test: the turns of a loop that looks for it, and that it is the only one.
 use Prim.Native.Nat.{ℕ, zero, suc, _+_, _-_, _≤_, _<_}
 use mathlib.Core.Path.{_≡_, refl, sym, ap, _∙_}
 use mathlib.Core.Bool.{Bool, true, false}
@@ -41,7 +41,7 @@ module _ {A : Type 0} (t : A → Bool) (d : A) where
     unfolding nextOf
     look-over i m e h v = let z : nextOf t (i + b) (drop i l) ≡ i + b = rw (drop-of-length-le l {i = i} h) refl in e ∙ sym z ∙ v .1
 
-  -- ---- how many pass: with some, the first is one of them; with at most one, there is no other; with none, no place passes
+  -- ---- how many pass: with some, the first is one of them; with at most one, there is no other
   abbrev pub passing : List A → ℕ
   passing l = sumOf (λ (x : A). one (t x)) l
 

@@ -1,4 +1,4 @@
--- The path is the steps of waiting from the task asked for, as long as no task comes twice; its ring is where they come back.
+-- The path is the steps of waiting from the task asked for, while no task comes twice; its ring is where they come back.
 use Prim.Native.Nat.{ℕ, zero, suc, _+_, _-_, _≤_, _<_}
 use mathlib.Core.Path.{_≡_, refl, sym, ap, _∙_}
 use mathlib.Core.Logic.{_≢_, _⊎_, ⊎-elim}

@@ -119,7 +119,7 @@ module _ (t : Table) (w : WellFormed t) where
           (λ h. absurd (omega (arith, sym e ∙ ap (λ (x : Task). x .«end_waiter» .0) (w .numbers .beyond j (leb-false j (t .rest .count) h))))),
     )
 
-    -- the cause c, which holds, names nobody and ends the path, or it names a task of the table and the path goes on there
+    -- the cause c, which holds, names nobody and ends the path, or names a task of the table, and the path goes on there
     pub leads : (c : Cause) → Holds t k c
         → ((named c ≡ 0) × ((go : On → Reasons) (p : Reasons) → byCause go c p ≡ p))
         ⊎ (Within (named c) × ((go : TaskNo → Reasons) (p : Reasons) → byCause (byLink go t) c p ≡ go (record { 0 = named c })))

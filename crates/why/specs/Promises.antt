@@ -7,6 +7,7 @@ use mathlib.Core.List.{List}
 use lib.Dec.{eqb}
 use lib.ListN.{length, getD}
 use Rattle.records.specs.declared.TaskNo.{TaskNo}
+use Rattle.executive.specs.declared.Millis.{Millis}
 use Rattle.executive.specs.declared.Table.{Table}
 use Rattle.executive.specs.Lists.{one, sumOf}
 use Rattle.executive.specs.WellFormed.{WellFormed}
@@ -16,6 +17,7 @@ use Rattle.why.specs.declared.Step.{Step}
 use Rattle.why.specs.declared.Reasons.{Reasons}
 use Rattle.why.specs.Causes.{causeOf, Holds, WaitsOn}
 use Rattle.why.specs.Paths.{noStep, explained, Explains, IsNoTable, pathIn, ringIn}
+use Rattle.why.specs.Texts.{Tells}
 
 -- k is a task of the well-formed table t
 pub record TaskOf (t : Table) (k : ℕ) : Type 0 where
@@ -80,3 +82,6 @@ pub record Promises : Type 0 where
   -- any two answers that the contract allows are equal
   pub determined : (t : Table) (k : TaskNo) (x y : Reasons) → Explains t k x → Explains t k y → x ≡ y
   pub no-table-determined : (x y : Reasons) → IsNoTable x → IsNoTable y → x ≡ y
+  -- the text: what is answered is within the buffer, and no two outcomes are allowed
+  pub told-within : (r : Reasons) (clock : Millis) (o b : List ℕ) (n : ℕ) → Tells r clock o b n → n ≤ length b
+  pub told-determined : (r : Reasons) (clock : Millis) (o b c : List ℕ) (m n : ℕ) → Tells r clock o b m → Tells r clock o c n → (b ≡ c) × (m ≡ n)

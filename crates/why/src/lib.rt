@@ -6,6 +6,7 @@ use records::TaskNo;
 mod causes;
 pub mod following;
 mod promises;
+pub mod telling;
 
 // Why a task is not running, or that it is: Ready behind how many; Paused and Due until when; Flags with those that are
 // missing; Start and EndOfRequest with the request's place among the queued ones, from 1, and its task; EndOfRun with
