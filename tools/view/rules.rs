@@ -3,7 +3,7 @@
 use crate::image::{Request, State, Table, Task};
 use crate::places::*;
 
-/// The rules, in document 01's order, then 02's; before them what makes bytes an image at all.
+/// The rules, in the order of docs/TABLE.md, then 02's; before them what makes bytes an image at all.
 pub const RULES: [&str; 11] = [
     "an image has no byte that no stored table has there",
     "every number is in range",

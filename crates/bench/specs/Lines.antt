@@ -1,4 +1,4 @@
--- The four lines that a listing is made of (01, "The bench program").
+-- The four lines that a listing is made of (docs/CALLS.md, 2 and 6).
 use Prim.Native.Nat.{ℕ}
 use mathlib.Core.List.{List, [], _∷_, _++_}
 use Rattle.records.specs.declared.TaskNo.{TaskNo}
@@ -46,7 +46,7 @@ unfoldable pub lineOf : ℕ → ℕ → Answer → List ℕ
 lineOf n kind a =
     row (decimalOf n ∷ hexOf kind ∷ decimalOf (a .number) ∷ (bitOf (a .z) ∷ bitOf (a .v) ∷ bitOf (a .c) ∷ []) ∷ decimalOf (a .active .0) ∷ [])
 
--- stop and a number of 01's
+-- stop and a number (docs/CALLS.md, 6)
 abbrev pub stopOf : ℕ → List ℕ
 stopOf n = row (stopWord ∷ decimalOf n ∷ [])
 

@@ -1,4 +1,4 @@
--- The listing of an input, whole: what the bench prints for these bytes (01, "The bench program").
+-- The listing of an input, whole: what the bench prints for these bytes (docs/CALLS.md, 2 and 6).
 use Prim.Native.Nat.{ℕ, zero, suc}
 use mathlib.Core.Bool.{cond}
 use mathlib.Core.List.{List, _++_}

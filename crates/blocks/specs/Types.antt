@@ -1,4 +1,4 @@
--- The table of blocks (guide, Appendix B), and what is read from it: a block's bytes, its length, and its numbers as
+-- The table of blocks (docs/BLOCKS.md), and what is read from it: a block's bytes, its length, and its numbers as
 -- those of a call, and back.
 use Prim.Native.Nat.{ℕ, _+_, _/_, _%_}
 use mathlib.Core.Bool.{Bool, false, cond, _||_}

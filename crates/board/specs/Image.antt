@@ -130,7 +130,7 @@ imageOf t =
     ++ (row requestBytes (t .rest .pool)
     ++ levelsBytes t))))
 
--- the board's own number, judged before any of 01's: a buffer that is to be written to has not the length it needs
+-- the board's own number, judged before any other: a buffer that is to be written to has not the length it needs
 abbrev pub noRoom : ℕ
 noRoom = 30
 

@@ -168,7 +168,7 @@ isFree r =
 unfoldable pub poolRight : Rest → Bool
 poolRight r = allOf isFree (drop (r .queued) (r .pool))
 
--- ---- the check: every rule but the queue's, in 01's order, which the entries and the rest keep or break whatever the
+-- ---- the check: every rule but the queue's, in their order, which the entries and the rest keep or break whatever the
 -- queue is; and the queue's own
 unfoldable pub allButQueue : List Task → Rest → Bool
 allButQueue ts r =

@@ -1,4 +1,4 @@
--- Intervals, the time that a restart aims at (01, "Intervals" and kind 01), the alarms and the clock.
+-- Intervals, the time that a restart aims at (docs/CALLS.md, 2 and 4.2), the alarms and the clock.
 use Prim.Native.Nat.{ℕ, _+_, _-_, _*_, _/_, _%_}
 use mathlib.Core.Bool.{Bool, false, cond}
 use mathlib.Core.List.{List, [], _∷_}

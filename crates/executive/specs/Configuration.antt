@@ -1,4 +1,4 @@
--- The fresh table of a configuration (01, "Records"): one 40, then 1 to 16 of 41, then 42, and nothing more.
+-- The fresh table of a configuration (docs/CALLS.md, 3): one 40, then 1 to 16 of 41, then 42, and nothing more.
 use Prim.Native.Nat.{ℕ, zero, suc, _+_, _-_, _*_}
 use mathlib.Core.Path.{_≡_}
 use mathlib.Core.Bool.{Bool, false, cond}

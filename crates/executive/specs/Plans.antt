@@ -1,4 +1,4 @@
--- The rules of the calls (01, "Rules of the calls"), a plan for each kind: who departs, who enters in which order,
+-- The rules of the calls (docs/CALLS.md, 4 and 5), a plan for each kind: who departs, who enters in which order,
 -- what the rest of the table is afterwards.
 -- Rulings that 01 marks H are marked H here.
 use Prim.Native.Nat.{ℕ, suc, _+_, _/_, _%_}

@@ -1,5 +1,5 @@
--- The numbers an answer can carry (01): one list, in 01's order, of each number and when it is given, read off the
--- sheet. The first whose condition holds is the answer's.
+-- The numbers an answer can carry (docs/CALLS.md, 6): one list, in its order, of each number and when it is given, read
+-- off the sheet. The first whose condition holds is the answer's.
 use Prim.Native.Nat.{ℕ}
 use mathlib.Core.Path.{_≡_}
 use mathlib.Core.Bool.{Bool, not}
@@ -65,7 +65,7 @@ poolFull t c = ruleOf t c .full
 unfoldable pub endsTime : Table → Call → Bool
 endsTime t c = ruleOf t c .late
 
--- ---- the list, in 01's order
+-- ---- the list, in its order
 -- what can be refused of a call that was read
 abbrev pub callRefusals : Table → Call → List Refusal
 callRefusals t c =

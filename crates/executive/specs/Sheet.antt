@@ -1,5 +1,5 @@
--- The sheet of each kind of call: all that 01 says of it in one clause. What refuses it beyond the common numbers, its
--- marks, its plan.
+-- The sheet of each kind of call: all that docs/CALLS.md says of it in one clause. What refuses it beyond the common
+-- numbers, its marks, its plan.
 use Prim.Native.Nat.{ℕ, _+_, _/_, _%_}
 use mathlib.Core.Bool.{Bool, true, false, not, cond, _||_}
 use mathlib.Core.List.{List}

@@ -1,5 +1,5 @@
--- A well-formed table (01, "A table is well formed when"): a field for each of its rules, in 01's order, and 02's
--- behind them. Rules on links and names are counts.
+-- A well-formed table (docs/TABLE.md): a field for each of its rules, in their order. Rules on links and names are
+-- counts.
 use mathlib.Core.Path.{_≡_}
 use mathlib.Core.Bool.{true, false, not, cond}
 use mathlib.Core.Logic.{_↔_}
@@ -130,7 +130,7 @@ pub record Levels (t : Table) : Type 0 where
   pub word : t .levels < 2 ^ 16
   pub bits : (p : ℕ) → (isSet (t .levels) p ≡ true) ↔ Lit t p
 
--- ---- the rules, in 01's order
+-- ---- the rules, in their order
 pub record WellFormed (t : Table) : Type 0 where
   -- every number is in range
   pub numbers : InRange t

@@ -1,4 +1,4 @@
-// The check of a table (01, "A table is well formed when"): every rule but the queue's, from the entries and the rest,
+// The check of a table (docs/TABLE.md): every rule but the queue's, from the entries and the rest,
 // each in one pass; with the queue's own, number 0 exactly for a well-formed table, else 1.
 use crate::Request;
 use crate::Rest;

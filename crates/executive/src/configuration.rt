@@ -1,4 +1,4 @@
-// The table that a configuration makes: one 40, then 1 to 16 of 41, then 42, and nothing more (01, "Records").
+// The table that a configuration makes: one 40, then 1 to 16 of 41, then 42, and nothing more (docs/CALLS.md, 3).
 use crate::Fresh;
 use crate::Millis;
 use crate::Rest;

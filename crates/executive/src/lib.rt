@@ -102,7 +102,7 @@ enum AwaitedMoment {
     ForEnd,
 }
 
-// What an accepted call says of itself: Z, V and C (01), and how many grid times it passed over (02).
+// What an accepted call says of itself: Z, V and C, and how many grid times it passed over (docs/CALLS.md, 2).
 pub struct Marks {
     pub z: bool,
     pub v: bool,

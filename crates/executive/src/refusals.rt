@@ -1,4 +1,4 @@
-// The tests of a call's body, and of what only some kinds are refused for (01, "Numbers an answer can carry").
+// The tests of a call's body, and of what only some kinds are refused for (docs/CALLS.md, 4 and 6).
 use crate::Millis;
 use crate::clock;
 use records::FlagNo;

@@ -23,7 +23,7 @@ row k b ws = record { name = k; byte = b; body = ws; call = true }
 abbrev pub setting : Kind → ℕ → List ℕ → Row
 setting k b ws = record { name = k; byte = b; body = ws; call = false }
 
--- the table, in document 01's order
+-- the table, in the order of docs/CALLS.md, 2
 abbrev pub table : List Row
 table =
     row kind.Terminate 0x00 []

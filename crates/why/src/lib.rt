@@ -29,8 +29,8 @@ pub struct Step {
     pub cause: Cause,
 }
 
-// What is asked of a table is answered by a number of 01's, V with 6, and the path: its first `length` steps. The last
-// `ring` of them wait for each other in a ring; 0: no ring.
+// What is asked of a table is answered by a number (docs/CALLS.md, 6), V with 6, and the path: its first `length`
+// steps. The last `ring` of them wait for each other in a ring; 0: no ring.
 pub struct Reasons {
     pub number: u8,
     pub v: bool,

@@ -1,5 +1,5 @@
--- The check in fewer passes is the check in 01's order; where nobody waits and nobody is named there is nothing to
--- count.
+-- The check in fewer passes is the check in the order of the rules; where nobody waits and nobody is named there is
+-- nothing to count.
 use Prim.Native.Nat.{ℕ, zero, suc, _+_, _-_, _≤_, _<_}
 use mathlib.Core.Path.{_≡_, refl, ap, sym, _∙_}
 use mathlib.Core.Bool.{Bool, true, false, not}

@@ -1,4 +1,4 @@
--- Each rule of a well-formed table against its test, both ways, in 01's order.
+-- Each rule of a well-formed table against its test, both ways, in their order.
 use Prim.Native.Nat.{ℕ, zero, suc, _+_, _-_, _≤_, _<_}
 use mathlib.Core.Path.{_≡_, refl, ap, sym, _∙_}
 use mathlib.Core.Bool.{Bool, true, false, not, cond}

@@ -1,4 +1,4 @@
--- Each test of the refusals says what 01's words say, and so the first that passes is the first that holds.
+-- Each test of the refusals says what the words say, and so the first that passes is the first that holds.
 use Prim.Native.Nat.{ℕ, _+_, _/_, _%_, _≤_, _<_}
 use mathlib.Core.Path.{_≡_, refl, sym, ap, _∙_}
 use mathlib.Core.Logic.{_↔_, _≢_, _⊎_, inl, inr, ⊎-elim}

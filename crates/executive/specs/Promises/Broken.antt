@@ -142,7 +142,7 @@ unfoldable pub lightOut : Table
 lightOut = withQueue entries (no 2 ∷ no 1 ∷ []) (2 ^ 5)
 
 -- ---- what the check finds of each
--- the ten tests, in 01's order and then 02's; refused, and by the test at place i alone
+-- the ten tests, in the order of the rules; refused, and by the test at place i alone
 abbrev pub tests : Table → List Bool
 tests t =
     numbersRight (t .tasks) (t .rest)

@@ -1,6 +1,7 @@
 -- The founder's demands, said of `stepOf`, the definition that the code is proved to take: for any well-formed
 -- table and any records, refused ones included.
--- That each call gives the answer and the table that 01's rules define is the code's own contract, `r ≡ stepOf t s`.
+-- That each call gives the answer and the table that the rules of docs/CALLS.md define is the code's own contract,
+-- `r ≡ stepOf t s`.
 use mathlib.Core.Path.{_≡_}
 use mathlib.Core.Logic.{_↔_, _≢_}
 use mathlib.Core.Bool.{true, false, cond}
@@ -109,9 +110,9 @@ pub record RestartsBy (s : List ℕ) (t : Table) : Type 0 where
 
 -- ---- all of it: t is any table, s any record, ss any records
 pub record Demands : Type 0 where
-  -- 1: a refusal changes nothing, and its number is the first of the list whose condition holds, in 01's words too
-  -- (`Given`), number 1 exactly for a table that is not well formed; the list is in 01's order; every step keeps the
-  -- table well formed
+  -- 1: a refusal changes nothing, and its number is the first of the list whose condition holds, in words too
+  -- (`Given`), number 1 exactly for a table that is not well formed; the list is in the order of docs/CALLS.md, 6; every
+  -- step keeps the table well formed
   pub refusal-keeps : (t : Table) (s : List ℕ) → stepOf t s .answer .number ≢ 0 → stepOf t s .table ≡ t
   pub decided : (t : Table) (s : List ℕ) → Decides (refusals t s) (stepOf t s .answer .number)
   pub given : (t : Table) (s : List ℕ) (n : ℕ) → (stepOf t s .answer .number ≡ n) ↔ Given t s n

@@ -21,7 +21,7 @@ use Rattle.executive.specs.Configuration.{tasksIn, configurationIn, isCo
 use Rattle.executive.specs.Configuration.{starters, freshTable, madeBy, freshOf}
 use Rattle.executive.specs.Promises.Demands.{Dispatched}
 
--- ---- a configuration in 01's words: one 40, then 1 to 16 of 41, then 42, and nothing more
+-- ---- a configuration in words (docs/CALLS.md, 3): one 40, then 1 to 16 of 41, then 42, and nothing more
 -- what the record of a task gives: own priority 0 to 15; mark 1 or 0
 pub record Entry : Type 0 where
   pub own : ℕ
@@ -44,7 +44,7 @@ pub record Configuration (s : List ℕ) : Type 0 where
   pub time : 1 ≤ granule
   pub right : AllRight tasks
 
--- ---- the fresh table in 01's words: the marked tasks start in ascending number at their own priority, with argument 0
+-- ---- the fresh table in words: the marked tasks start in ascending number at their own priority, with argument 0
 -- and scheduled start 0
 abbrev pub startedAt : ℕ → Task
 startedAt p = record { own = p; state = Ready; priority = p; argument = 0; start = never; «end_waiter» = nobody }

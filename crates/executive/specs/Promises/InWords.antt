@@ -1,5 +1,5 @@
--- The numbers an answer can carry, a second time, in 01's words: propositions where `refusals` has tests, bits as bits.
--- A step's answer has the number of the first of these cases that holds.
+-- The numbers an answer can carry, a second time, in words (docs/CALLS.md, 6): propositions where `refusals` has tests,
+-- bits as bits. A step's answer has the number of the first of these cases that holds.
 use Prim.Native.Nat.{ℕ, _+_, _/_, _%_, _^_, _≤_, _<_}
 use mathlib.Core.Path.{_≡_}
 use mathlib.Core.Logic.{_≢_, _⊎_}
@@ -75,7 +75,7 @@ AlarmRunning t = IsAlarm (λ f. getD (t .rest .alarms) (f .0) never .0 ≢ 0)
 abbrev pub PoolFull : Table → Call → Type 0
 PoolFull t = IsQueue (λ o k. (stateAt t k ≢ Dormant) × (mostQueued ≤ t .rest .queued))
 
--- ---- the cases, in 01's order: a number, and when it is given
+-- ---- the cases, in their order: a number, and when it is given
 pub record Case : Type 1 where
   pub number : ℕ
   pub holds : Type 0
