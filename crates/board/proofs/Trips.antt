@@ -6,7 +6,7 @@ use mathlib.Core.List.{List, [], _∷_, _++_, append-nil, append-assoc}
 use native.Mathlib.Omega.{arith}
 use native.Mathlib.Nat.{add-zero}
 use lib.Dec.{eqb}
-use lib.ListN.{length, getD, length-append}
+use lib.ListN.{length, getD, drop, length-append}
 use borrow.Author.Tests.{eq-eqb, ne-eqb, eqb-true}
 use Rattle.records.specs.Numbers.{Bytes, numberFrom, numberOf, part, cut, Fits}
 use Rattle.executive.specs.declared.Millis.{Millis}
@@ -20,7 +20,7 @@ use Rattle.board.specs.Blocks.{row, blocks, Each, written, same}
 use Rattle.board.specs.Image.{taskWidths, placeWidths, headWidths, alarmWidths, requestWidths, levelsWidths, taskNumbers, placeNumbers, headNumbers, alarmNumbers, requestNumbers, levelsNumbers, taskOf, placeOf, alarmOf, requestOf, taskBytes, placeBytes, headBytes, alarmBytes, requestBytes, levelsBytes, taskFrom, placeFrom, alarmFrom, requestFrom, tableOf, queueAt, headAt, alarmsAt, poolAt, levelsAt, imageLength, imageOf, loadOf, isImageOf, isImage, FitsTable}
 use Rattle.board.proofs.Digits.{digit-fits}
 use Rattle.board.proofs.Spans.{length-row, length-blocks}
-use Rattle.board.proofs.Alike.{decide, never, same-self, same-true}
+use Rattle.board.proofs.Alike.{decide, never, same-self, same-true, same-turn, same-differ}
 use Rattle.board.proofs.Images.{put-all, cut-lay, blocks-back}
 
 -- ---- a block's value is that of its numbers
@@ -115,9 +115,28 @@ module _ (s : List ℕ) (t : Table) where
   unfolding isImageOf
   not-long h = rw (ne-eqb (length s) imageLength h)
 
-  pub compared : {u : List ℕ} {r : Bool} → length s ≡ imageLength → u ≡ imageOf t → r ≡ same u s → r ≡ isImageOf s t
+  compared : {u : List ℕ} {r : Bool} → length s ≡ imageLength → u ≡ imageOf t → r ≡ same u s → r ≡ isImageOf s t
   unfolding isImageOf
   compared n e f = rw (eq-eqb (length s) imageLength n) (f ∙ ap (λ w. same w s) e)
+
+-- the first two bytes are compared apart from the rest
+module _ (s : List ℕ) (t : Table) (f : FitsTable t) (n : length s ≡ imageLength) {u : List ℕ} (e : u ≡ imageOf t) where
+  pub long : length u ≡ imageLength
+  long = ap length e ∙ image-length t (f .sizes)
+
+  pub first-differs : (getD u 0 0 ≡ getD s 0 0 → ⊥) → false ≡ isImageOf s t
+  first-differs d = let l = long in compared s t n e (sym (same-differ u s 0 (omega arith) (omega arith) d))
+
+  module _ (z : getD u 0 0 ≡ getD s 0 0) where
+    pub second-differs : (getD u 1 0 ≡ getD s 1 0 → ⊥) → false ≡ isImageOf s t
+    second-differs d =
+        let l = long in
+        compared s t n e (sym (same-turn u s 0 (omega arith) (omega arith) z ∙ same-differ u s 1 (omega arith) (omega arith) d))
+
+    pub rest-compared : {r : Bool} → getD u 1 0 ≡ getD s 1 0 → r ≡ same (drop 2 u) (drop 2 s) → r ≡ isImageOf s t
+    rest-compared y g =
+        let l = long in
+        compared s t n e (g ∙ sym (same-turn u s 0 (omega arith) (omega arith) z ∙ same-turn u s 1 (omega arith) (omega arith) y))
 
 module _ (s : List ℕ) (e : isImage s ≡ true) where
   pub image-parts : (length s ≡ imageLength) × (imageOf (loadOf s) ≡ s)

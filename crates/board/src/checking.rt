@@ -3,18 +3,18 @@ use crate::IMAGE;
 use crate::storing;
 use executive::Table;
 ghost use mathlib.Core.Path.{_≡_};
+ghost use Prim.Native.Nat.{_≤_};
+ghost use lib.ListN.{length, drop};
 ghost use Rattle.board.specs.Blocks.{same};
 ghost use Rattle.board.specs.Image.{isImageOf};
 
-// Whether the bytes are the same. It looks at all of them, so that the compiler can take many at a time.
-fn same_bytes(a: &[u8], b: &[u8]) -> bool
-    ensures { λ r. ⌜ r ≡ same (now (a .entry)) (now (b .entry)) ⌝ }
+// Whether the bytes from a place on are the same. It looks at all of them, so that the compiler can take many at a time.
+fn same_from(a: &[u8], b: &[u8], from: usize) -> bool
+    requires { ⌜ (from ≤ length (now a)) × (length (now a) ≡ length (now b)) ⌝ }
+    ensures { λ r. ⌜ r ≡ same (drop from (now (a .entry))) (drop from (now (b .entry))) ⌝ }
 {
-    if a.len() != b.len() {
-        return false;
-    }
     let mut right = true;
-    let mut i: usize = 0;
+    let mut i = from;
     while i < a.len() {
         if a[i] != b[i] {
             right = false;
@@ -24,7 +24,8 @@ fn same_bytes(a: &[u8], b: &[u8]) -> bool
     right
 }
 
-// Whether the bytes are the image of this table.
+// Whether the bytes are the image of this table. The first two are compared apart: as many as are left the compiler can
+// take sixteen at a time.
 pub(crate) fn is_image_of(bytes: &[u8], table: Table) -> bool
     ensures { λ r. ⌜ r ≡ isImageOf (now (bytes .entry)) table ⌝ }
 {
@@ -33,5 +34,11 @@ pub(crate) fn is_image_of(bytes: &[u8], table: Table) -> bool
     }
     let mut image = [0u8; IMAGE];
     storing::put_table(&mut image, table);
-    same_bytes(&image, bytes)
+    if image[0] != bytes[0] {
+        return false;
+    }
+    if image[1] != bytes[1] {
+        return false;
+    }
+    same_from(&image, bytes, 2)
 }

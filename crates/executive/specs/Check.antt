@@ -20,7 +20,7 @@ use Rattle.executive.specs.Numbers.{mostTasks, mostQueued, flagCount, hi
 use Rattle.executive.specs.Lists.{one, sumOf, _and_, upTo, allOf}
 use Rattle.executive.specs.Pool.{requests}
 use Rattle.executive.specs.Places.{taskAt}
-use Rattle.executive.specs.Table.{view, levelsOf}
+use Rattle.executive.specs.Table.{items, view, levelsOf}
 use Rattle.executive.specs.States.{ready, awaitStart, awaitEnd, timeOf, maskOf, isOf, is, isDormant, hasTime, hasMask, waitMode}
 use Rattle.executive.specs.Flags.{met}
 use Rattle.executive.specs.WellFormed.{WellFormed, startsOf, endsOf, runsOf}
@@ -89,6 +89,15 @@ orderRight t = eqb (length (t .queue)) mostTasks and lineRight (t .tasks) (t .re
 -- the word of the ready levels is the queue's
 abbrev pub levelsRight : Table → Bool
 levelsRight t = eqb (t .levels) (levelsOf (view t))
+
+-- the same as the code takes it, with the word w of the ready levels: it is met in the pass over the queue
+abbrev pub lineLit : List Task → ℕ → ℕ → List TaskNo → ℕ → Bool
+lineLit ts n r q w =
+    leb n mostTasks
+    and leb r mostTasks
+    and (falls ts n highest (take r q) and eqb w (levelsOf (items ts (take r q))))
+    and upTo (exactAt ts (take r q)) n
+    and allOf isNobody (drop r q)
 
 unfoldable pub queueRight : Table → Bool
 queueRight t = orderRight t and levelsRight t

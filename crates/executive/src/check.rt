@@ -4,7 +4,6 @@ use crate::Request;
 use crate::Rest;
 use crate::Table;
 use crate::Task;
-use crate::levels;
 use crate::passes;
 use crate::queue_check;
 use crate::rules;
@@ -56,10 +55,7 @@ impl Table {
     {
         let tasks = self.tasks;
         let queue = self.queue;
-        if !queue_check::line_right(tasks, queue, self.ready, self.rest.count) {
-            return false;
-        }
-        self.levels == levels::levels_of(tasks, queue, self.ready as usize)
+        queue_check::line_right(tasks, queue, self.ready, self.rest.count, self.levels)
     }
 
     // The table keeps every rule.

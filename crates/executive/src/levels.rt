@@ -12,7 +12,7 @@ ghost use Rattle.executive.specs.Table.{levelBit, items, levelsOf, litIn
 ghost use Rattle.executive.specs.Lamp.{lampOf};
 
 // The bit of a priority; one over 15 has none.
-fn level_bit(p: u8) -> u16
+pub(crate) fn level_bit(p: u8) -> u16
     ensures { λ r. ⌜ r ≡ levelBit p ⌝ }
 {
     if 15 < p {
@@ -22,7 +22,7 @@ fn level_bit(p: u8) -> u16
 }
 
 // The word of those ready. A number that names no task counts as one of priority 0.
-pub(crate) fn levels_of(tasks: [Task; 16], queue: [TaskNo; 16], ready: usize) -> u16
+fn levels_of(tasks: [Task; 16], queue: [TaskNo; 16], ready: usize) -> u16
     requires { ⌜ ready ≤ 16 ⌝ }
     ensures { λ r. ⌜ r ≡ levelsOf (items tasks (take ready queue)) ⌝ }
 {

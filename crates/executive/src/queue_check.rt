@@ -1,6 +1,7 @@
 // The check of the ready queue: exactly the ready tasks, once each, in descending priority.
 use crate::State;
 use crate::Task;
+use crate::levels;
 use crate::places;
 use crate::states;
 use records::TaskNo;
@@ -8,9 +9,10 @@ ghost use mathlib.Core.Path.{_≡_};
 ghost use Prim.Native.Nat.{_≤_, _<_, _+_};
 ghost use lib.Dec.{eqb};
 ghost use lib.ListN.{drop, take};
-ghost use Rattle.executive.specs.Lists.{one, upTo, allOf};
+ghost use Rattle.executive.specs.Lists.{one, upTo, allOf, _and_};
 ghost use Rattle.executive.specs.States.{ready, is};
-ghost use Rattle.executive.specs.Check.{isNobody, falls, exactAt, lineRight, Tallies};
+ghost use Rattle.executive.specs.Table.{items, levelsOf};
+ghost use Rattle.executive.specs.Check.{isNobody, falls, exactAt, lineLit, Tallies};
 
 // The queue's free places are zero.
 fn blank_from(queue: [TaskNo; 16], ready: usize) -> bool
@@ -27,12 +29,13 @@ fn blank_from(queue: [TaskNo; 16], ready: usize) -> bool
     true
 }
 
-// Those ready are tasks, in descending priority.
-fn descends(tasks: [Task; 16], queue: [TaskNo; 16], ready: usize, count: u8) -> bool
+// Those ready are tasks, in descending priority, and the word of their levels is this one.
+fn descends(tasks: [Task; 16], queue: [TaskNo; 16], ready: usize, count: u8, levels: u16) -> bool
     requires { ⌜ (ready ≤ 16) × (count ≤ 16) ⌝ }
-    ensures { λ r. ⌜ r ≡ falls tasks count 15 (take ready queue) ⌝ }
+    ensures { λ r. ⌜ r ≡ (falls tasks count 15 (take ready queue) and eqb levels (levelsOf (items tasks (take ready queue)))) ⌝ }
 {
     let mut p: u8 = 15;
+    let mut word: u16 = 0;
     let mut i: usize = 0;
     while i < ready {
         let k = places::entry_place(queue[i]);
@@ -44,9 +47,10 @@ fn descends(tasks: [Task; 16], queue: [TaskNo; 16], ready: usize, count: u8) -> 
             return false;
         }
         p = e.priority;
+        word = word | levels::level_bit(p);
         i += 1;
     }
-    true
+    levels == word
 }
 
 pub(crate) fn plus_if(c: u8, k: u8, x: u8) -> u8
@@ -108,9 +112,16 @@ fn all_exact(tasks: [Task; 16], queue: [TaskNo; 16], ready: usize, count: u8) ->
     true
 }
 
-// The ready queue holds exactly the ready tasks, once each, in descending priority; its free places are zero.
-pub(crate) fn line_right(tasks: [Task; 16], queue: [TaskNo; 16], ready: u8, count: u8) -> bool
-    ensures { λ r. ⌜ r ≡ lineRight tasks count ready queue ⌝ }
+// The ready queue holds exactly the ready tasks, once each, in descending priority; its free places are zero; the word
+// of the ready levels is theirs.
+pub(crate) fn line_right(
+    tasks: [Task; 16],
+    queue: [TaskNo; 16],
+    ready: u8,
+    count: u8,
+    levels: u16,
+) -> bool
+    ensures { λ r. ⌜ r ≡ lineLit tasks count ready queue levels ⌝ }
 {
     if 16 < count {
         return false;
@@ -119,7 +130,7 @@ pub(crate) fn line_right(tasks: [Task; 16], queue: [TaskNo; 16], ready: u8, coun
         return false;
     }
     let n = ready as usize;
-    if !descends(tasks, queue, n, count) {
+    if !descends(tasks, queue, n, count, levels) {
         return false;
     }
     all_exact(tasks, queue, n, count) && blank_from(queue, n)

@@ -8,6 +8,7 @@ use native.Mathlib.Omega.{arith}
 use native.Mathlib.Numerals.{add-one}
 use borrow.Author.Tests.{lt-ltb, le-ltb, le-leb, lt-leb, leb-true, ltb-false, eq-eqb}
 use lib.Dec.{leb, ltb, eqb}
+use lib.Bits.{bitOr, or-zero-r}
 use lib.ListN.{length, take, drop, getD, drop-of-length-le}
 use lib.Seq.{length-take-le, getD-take, drop-cons}
 use Rattle.records.specs.declared.TaskNo.{TaskNo}
@@ -15,10 +16,11 @@ use Rattle.executive.specs.declared.Task.{Task}
 use Rattle.executive.specs.Queue.{Item, count, AllLe, Desc}
 use Rattle.executive.specs.Lists.{one, _and_, allOf}
 use Rattle.executive.specs.Places.{nobody, noTask, taskAt, entryPlace}
-use Rattle.executive.specs.Table.{items}
+use Rattle.executive.specs.Table.{items, levelBit, levelsOf}
 use Rattle.executive.specs.Check.{isTask, falls}
 use Rattle.executive.proofs.places.TaskAt.{at-place}
 use Rattle.executive.proofs.Lists.Loops.{both}
+use Rattle.executive.proofs.flags.Bits.{or-assoc}
 
 -- a number names one of n tasks where its place is one of theirs
 task-place : (n : ℕ) (k : TaskNo) → n ≤ 16 → isTask n k ≡ ltb (entryPlace (k .0)) n
@@ -60,11 +62,37 @@ module _ (ts : List Task) (n : ℕ) (q : List TaskNo) (r : ℕ) (hr : r ≤ leng
     unfolding falls
     falls-turn l o = rw (opened h, within true (lt-ltb k n l), ← entry, le-leb (getD ts k noTask .priority) p o) refl
 
+    -- the word so far, and that of those who are left
+    pub word-on : (w x : ℕ) → x ≡ getD ts k noTask .priority → levelsOf (items ts (take r q)) ≡ bitOr w (levelsOf (items ts (drop i (take r q))))
+        → levelsOf (items ts (take r q)) ≡ bitOr (bitOr w (levelBit x)) (levelsOf (items ts (drop (i + 1) (take r q))))
+    unfolding levelsOf items
+    word-on w x f g =
+        g
+        ∙ ap (λ (xs : List TaskNo). bitOr w (levelsOf (items ts xs))) (opened h)
+        ∙ sym (or-assoc w (levelBit (taskAt ts (getD q i nobody .0) .priority)) (levelsOf (items ts (drop (i + 1) (take r q)))))
+        ∙ ap (λ (y : ℕ). bitOr (bitOr w (levelBit y)) (levelsOf (items ts (drop (i + 1) (take r q))))) (sym (f ∙ ap (λ (e : Task). e .priority) entry))
+
+  pub word-end : (w : ℕ) → r ≤ i → levelsOf (items ts (take r q)) ≡ bitOr w (levelsOf (items ts (drop i (take r q)))) → w ≡ levelsOf (items ts (take r q))
+  unfolding levelsOf items
+  word-end w h g =
+      let m : length (take r q) ≡ r = length-take-le r q hr in
+      sym (g ∙ ap (λ (xs : List TaskNo). bitOr w (levelsOf (items ts xs))) (drop-of-length-le (take r q) {i = i} (omega arith)) ∙ or-zero-r w)
+
   pub falls-end : r ≤ i → falls ts n p (drop i (take r q)) ≡ true
   unfolding falls
   falls-end h =
       let m : length (take r q) ≡ r = length-take-le r q hr in
       rw (drop-of-length-le (take r q) {i = i} (omega arith)) refl
+
+-- the tests in the code's order are the same test
+pub lit-order : (z a f x e : Bool) → (z and (a and ((f and e) and x))) ≡ ((z and (a and (f and x))) and e)
+lit-order false a f x e = refl
+lit-order true false f x e = refl
+lit-order true true false x e = refl
+lit-order true true true true true = refl
+lit-order true true true true false = refl
+lit-order true true true false true = refl
+lit-order true true true false false = refl
 
 -- a lower bound on priorities is one too
 allLe-mono : (m n : ℕ) (q : List Item) → m ≤ n → AllLe m q → AllLe n q

@@ -6,8 +6,8 @@ use Prim.Native.Nat.{ℕ, zero, suc, _+_, _*_, _/_, _%_, _^_, _≤_, _<_, min, m
 use native.Mathlib.Omega.{arith}
 use borrow.Author.Tests.{eqb-true, eqb-false, eq-eqb, ne-eqb}
 use lib.Dec.{eqb}
-use lib.Arith.{digits-div, digits-mod}
-use lib.Bits.{bitAnd, bitOr, and-step, and-zero-l, or-step, and-mask}
+use lib.Arith.{bin-ind, digits-div, digits-mod}
+use lib.Bits.{bitAnd, bitOr, and-step, and-zero-l, or-step, or-zero-l, and-mask}
 use Rattle.executive.specs.Flags.{isSet}
 use Rattle.executive.proofs.Lists.Tests.{false-not-true}
 
@@ -64,6 +64,20 @@ set-or (suc p) a b =
     ∙ ap (λ (x : ℕ). isSet x p) (or-half a b)
     ∙ set-or p (a / 2) (b / 2)
     ∙ sym (ap₂ (λ (x y : Bool). x || y) (set-half a p) (set-half b p))
+
+max-assoc : (x y z : ℕ) → max (max x y) z ≡ max x (max y z)
+max-assoc x y z = omega arith
+
+pub or-assoc : (a b c : ℕ) → bitOr (bitOr a b) c ≡ bitOr a (bitOr b c)
+or-assoc a =
+    bin-ind (λ (n : ℕ). (b c : ℕ) → bitOr (bitOr n b) c ≡ bitOr n (bitOr b c))
+    (λ b c. ap (λ (x : ℕ). bitOr x c) (or-zero-l b) ∙ sym (or-zero-l (bitOr b c)))
+    (λ n ih b c.
+    or-step (bitOr n b) c
+    ∙ ap₂ (λ (x y : ℕ). bitOr x (c / 2) * 2 + max y (c % 2)) (or-half n b) (or-low n b)
+    ∙ ap₂ (λ (x y : ℕ). x * 2 + y) (ih (b / 2) (c / 2)) (max-assoc (n % 2) (b % 2) (c % 2))
+    ∙ sym (or-step n (bitOr b c) ∙ ap₂ (λ (x y : ℕ). bitOr (n / 2) x * 2 + max (n % 2) y) (or-half b c) (or-low b c)))
+    a
 
 -- ---- the bits of a single bit
 pub set-same : (p : ℕ) → isSet (2 ^ p) p ≡ true

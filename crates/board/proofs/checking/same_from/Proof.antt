@@ -1,5 +1,5 @@
--- `checking::same_bytes` meets its contract. The invariant: the whole is the same exactly where nothing differed so far
--- and what is left is the same.
+-- `checking::same_from` meets its contract. The invariant: all from the place on is the same exactly where nothing
+-- differed so far and what is left is the same.
 use Prim.Native.Nat.{_-_, _≤_}
 use mathlib.Core.Path.{_≡_, refl, sym, ap, _∙_}
 use mathlib.Core.Bool.{Bool, true, false, cond}
@@ -9,15 +9,16 @@ use lib.ListN.{length, drop}
 use denote.Ref.{now}
 use borrow.Author.Needs.{needs}
 use Rattle.board.specs.Blocks.{same}
-use Rattle.board.proofs.Alike.{same-lengths, same-turn, same-differ, same-end}
-use Rattle.board.proofs.checking.same_bytes.Statement.{statement}
-use Rattle.board.proofs.checking.same_bytes.Tie as tie
+use Rattle.board.proofs.Alike.{same-turn, same-differ, same-end}
+use Rattle.board.proofs.checking.same_from.Statement.{statement}
+use Rattle.board.proofs.checking.same_from.Tie as tie
 
 abbrev Inv-loop : tie.InvT-loop
-Inv-loop a b right₀ i₀ right i = (i ≤ length a) × (length a ≡ length b) × (cond right (same (drop i a) (drop i b)) false ≡ same a b)
+Inv-loop a b from right₀ i₀ right i =
+    (i ≤ length a) × (length a ≡ length b) × (cond right (same (drop i a) (drop i b)) false ≡ same (drop from a) (drop from b))
 
 abbrev μ-loop : tie.MeasureT-loop
-μ-loop a b right₀ i₀ right i = length a - i
+μ-loop a b from right₀ i₀ right i = length a - i
 
 neither : (r : Bool) → cond r false false ≡ false
 neither true = refl
@@ -27,38 +28,37 @@ itself : (r : Bool) → r ≡ cond r true false
 itself true = refl
 itself false = refl
 
-returns : tie.Need-returns Inv-loop μ-loop
-returns c = let a = c .before .args in sym (same-lengths (now (a .a)) (now (a .b)) (c .if1 .taken))
+loop-holds : tie.Need-loop-holds Inv-loop μ-loop
+loop-holds c = (c .pre .0, c .pre .1, refl)
 
 loop-again : tie.Need-loop-again Inv-loop μ-loop
 loop-again c =
-    let a = c .before .before .before .before .before .before .args in
+    let a = c .before .before .before .before .before .args in
     let v = c .before .before .before .before .loop in (
       omega arith,
       v .inv .1,
       ⊎-elim
           (λ t. rw (t .1) (sym (neither (v .right)) ∙ ap (λ (r : Bool). cond (v .right) r false) (sym (same-differ (now (a .a)) (now (a .b)) (v .i) (omega arith) (omega arith) (t .0 .taken))) ∙ v .inv .2))
           (λ u. rw (u .1) (ap (λ (r : Bool). cond (v .right) r false) (sym (same-turn (now (a .a)) (now (a .b)) (v .i) (omega arith) (omega arith) (u .0 .left))) ∙ v .inv .2))
-          (c .if2 .came),
+          (c .if1 .came),
     )
 
-returns-2 : tie.Need-returns-2 Inv-loop μ-loop
-returns-2 c =
-    let a = c .before .before .before .args in
+returns : tie.Need-returns Inv-loop μ-loop
+returns c =
+    let a = c .before .before .args in
     let v = c .before .loop in
     itself (v .right) ∙ ap (λ (r : Bool). cond (v .right) r false) (sym (same-end (now (a .a)) (now (a .b)) (v .i) (omega arith) (omega arith))) ∙ v .inv .2
 
-pub same-bytes-spec : {M : Type 1} → statement M
-same-bytes-spec =
+pub same-from-spec : {M : Type 1} → statement M
+same-from-spec =
     tie.close
     (tie.spec
     Inv-loop
     μ-loop
-    returns
-    (λ c. (omega arith, omega arith, refl))
+    loop-holds
     (λ c. search needs)
     (λ c. search needs)
     (λ c. search needs)
     (λ c. search needs)
     loop-again
-    returns-2)
+    returns)
