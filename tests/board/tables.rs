@@ -63,6 +63,7 @@ pub fn chained(table: &Table, rng: &mut Rng) -> Table {
     if rng.one_in(2) {
         fill_pool(&mut next, rng);
     }
+    next.levels = next.ready_levels();
     next
 }
 

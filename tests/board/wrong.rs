@@ -1,6 +1,6 @@
 //! What is made wrong in the model, to show that the trial finds it.
 
-use model::faults::{Fault, FAULTS};
+use model::faults::{Fault, FAULTS, OF_IMAGES};
 use model::why;
 
 #[derive(Clone, Copy, PartialEq, Eq)]
@@ -30,7 +30,7 @@ const WRONGS: [(&str, Wrong); 7] = [
 
 /// What is made wrong, by its name.
 pub fn wrong_of(name: &str) -> Option<Wrong> {
-    let rules = FAULTS.iter().map(|(known, fault)| (*known, Wrong::Rule(*fault)));
+    let rules = FAULTS.iter().chain(&OF_IMAGES).map(|(known, fault)| (*known, Wrong::Rule(*fault)));
     let whys = why::FAULTS.iter().map(|(known, fault)| (*known, Wrong::Why(*fault)));
     rules.chain(WRONGS).chain(whys).find(|(known, _)| *known == name).map(|(_, wrong)| wrong)
 }

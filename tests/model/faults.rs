@@ -17,8 +17,8 @@ pub enum Fault {
     LampLags,
 }
 
-/// The faults, by name.
-pub const FAULTS: [(&str, Fault); 9] = [
+/// The faults that a listing shows, by name.
+pub const FAULTS: [(&str, Fault); 8] = [
     ("equal-in-front", Fault::EqualInFront),
     ("drifting-catch-up", Fault::DriftingCatchUp),
     ("cancel-wakes-due", Fault::CancelWakesDue),
@@ -27,8 +27,10 @@ pub const FAULTS: [(&str, Fault); 9] = [
     ("start-twice", Fault::StartTwice),
     ("wake-by-number", Fault::WakeByNumber),
     ("flags-first", Fault::FlagsFirst),
-    ("lamp-lags", Fault::LampLags),
 ];
+
+/// Those that only a table's image shows.
+pub const OF_IMAGES: [(&str, Fault); 1] = [("lamp-lags", Fault::LampLags)];
 
 impl Fault {
     /// A step as the last board took it. The table is not checked: the fault may have left one that is not well formed.
