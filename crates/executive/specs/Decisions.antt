@@ -33,13 +33,13 @@ use Rattle.executive.specs.Numbers.{mostTasks, mostQueued, flagCount, en
 use Rattle.executive.specs.Lists.{pad, nextOf}
 use Rattle.executive.specs.Places.{nobody, never, noRequest, taskAt}
 use Rattle.executive.specs.Pool.{requests, withRequests, placeOf, removed}
-use Rattle.executive.specs.Table.{ArraysInOrder, Out, stays, leaves, Join, Plan, depart}
+use Rattle.executive.specs.Table.{ArraysInOrder, line, view, levelsOf, Out, stays, leaves, Join, Plan, depart, FindsRoom}
 use Rattle.executive.specs.Entries.{withState, asDormant, begun, dueAt, risen}
 use Rattle.executive.specs.Clock.{interval, aimAt, withAlarm, isDue, advanced}
 use Rattle.executive.specs.Flags.{withFlags, flagSet, flagReset, met, modeOf}
-use Rattle.executive.specs.WellFormed.{Unmet}
+use Rattle.executive.specs.WellFormed.{Line, Unmet}
 use Rattle.executive.specs.Plans.{priorityOf, waitOf, argumentOf, atOnce, asks, holds, passing, storedTime, timed}
-use Rattle.executive.specs.States.{isDormant, isPaused}
+use Rattle.executive.specs.States.{ready, isDormant, isPaused}
 
 -- ---- who enters, and how
 abbrev pub entrant : TaskNo → How → Entrant
@@ -147,7 +147,8 @@ firstDue r = nextOf (isDue (r .clock .0 + r .granule)) 0 (r .alarms)
 unfoldable pub rungIn : ℕ → List Millis → ℕ → ℕ → ℕ
 rungIn c alarms fs i = cond (isDue c (getD alarms i never)) (flagSet fs i) fs
 
--- what an executor asks of a change, and of a deed: also room for all who enter
+-- what an executor asks of a change, and of a deed: also room for all who enter, none of whom is ready yet, and a queue
+-- with its word
 abbrev pub Able : Change → Rest → Type 0
 Able change.Same r = Unit {0}
 Able (change.Flags fs) r = Unit {0}
@@ -160,6 +161,9 @@ pub record Doable (d : Deed) (t : Table) : Type 0 where
   pub fit : ArraysInOrder t
   pub room : depart (outFor (d .leave)) t .ready + d .entrants .count ≤ mostTasks
   pub able : Able (d .change) (t .rest)
+  pub queue : Line ready (t .tasks) (line t)
+  pub lit : t .levels ≡ levelsOf (view t)
+  pub finds : FindsRoom (joinsFor (d .request) (t .rest .clock) (named (d .entrants))) (depart (outFor (d .leave)) t)
 
 -- ---- each kind's deed, from the parts of the table that it looks at
 -- 00: the tasks, the requests, the caller; the earliest request for it at place i

@@ -72,8 +72,8 @@ abbrev pub headOf : List TaskNo → TaskNo
 headOf [] = nobody
 headOf (k ∷ ks) = k
 
--- ---- the two moves: the caller leaves with entry e; task k enters with entry e. The word is set once a step, at its
--- end
+-- ---- the two moves: the caller leaves with entry e; task k enters with entry e. The word is said once a step, at its
+-- end; the code keeps it on the way
 abbrev pub withLine : List Task → List TaskNo → Table → Table
 withLine ts xs t = record { tasks = ts; queue = pad mostTasks nobody xs; ready = length xs; levels = t .levels; rest = t .rest }
 
@@ -130,12 +130,13 @@ passedBy k e t = aheadOf (putAt (t .tasks) (k .0) e) (taskAt (putAt (t .tasks) (
 unfoldable pub enterInFlight : TaskNo → Task → Work → Work
 enterInFlight k e w = record { table = entered k e (w .table); walked = w .walked + passedBy k e (w .table) }
 
--- what every method in flight asks: the arrays in order, room for the n who are still to enter, and a count that no
--- more than those who are ready can have made
+-- what every method in flight asks: the arrays in order, room for the n who are still to enter, a count that no more
+-- than those who are ready can have made, and the word of those who are ready
 pub record InFlight (n : ℕ) (w : Work) : Type 0 where
   pub fit : ArraysInOrder (w .table)
   pub room : w .table .ready + n ≤ mostTasks
   pub walked : w .walked ≤ sumBelow (w .table .ready)
+  pub lit : w .table .levels ≡ levelsOf (view (w .table))
 
 unfoldable pub enterAllInFlight : List Join → Work → Work
 enterAllInFlight [] w = w

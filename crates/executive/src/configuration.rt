@@ -13,7 +13,8 @@ use records::TaskNo;
 use records::reading::byte_at;
 ghost use mathlib.Core.Path.{_≡_};
 ghost use Prim.Native.Nat.{_<_, _≤_};
-ghost use Rattle.executive.specs.Table.{InFlight, enterAllInFlight};
+ghost use Rattle.executive.specs.Queue.{count};
+ghost use Rattle.executive.specs.Table.{InFlight, view, enterAllInFlight, litInFlight};
 ghost use Rattle.executive.specs.Lists.{pad, upTo};
 ghost use Rattle.executive.specs.Places.{noTask};
 ghost use Rattle.executive.specs.Configuration.{placeIn, ownIn, markIn, tasksIn, taskRight, isConfiguration, blankRest, withTasks, dormantAt, sleepers};
@@ -166,10 +167,10 @@ fn table_of(tasks: [Task; 16], rest: Rest) -> Table
     }
 }
 
-// Task k starts if it is marked: at its own priority, with argument 0 and scheduled start 0.
+// Task k, which is not ready yet, starts if it is marked: at its own priority, with argument 0 and scheduled start 0.
 fn start_at(w: Work, s: &[u8], k: TaskNo) -> Work
-    requires { ⌜ InFlight 1 w × (0 < k .0) ⌝ }
-    ensures { λ r. ⌜ r ≡ enterAllInFlight (markedStart (now (s .entry)) (k .0)) w ⌝ }
+    requires { ⌜ InFlight 1 w × (0 < k .0) × (count (k .0) (view (w .table)) ≡ 0) ⌝ }
+    ensures { λ r. ⌜ r ≡ litInFlight (enterAllInFlight (markedStart (now (s .entry)) (k .0)) w) ⌝ }
 {
     if mark_in(s, k) != 1 {
         return w;
@@ -181,10 +182,10 @@ fn start_at(w: Work, s: &[u8], k: TaskNo) -> Work
     w.enter(k, How::Begun, q, Millis(0))
 }
 
-// The marked tasks of 1 to n start, in ascending number.
+// The marked tasks of 1 to n start, in ascending number, where nobody is ready.
 fn start_marked(w: Work, s: &[u8], n: u8) -> Work
-    requires { ⌜ InFlight n w ⌝ }
-    ensures { λ r. ⌜ r ≡ enterAllInFlight (starters (now (s .entry)) n 1) w ⌝ }
+    requires { ⌜ InFlight n w × (w .table .ready ≡ 0) ⌝ }
+    ensures { λ r. ⌜ r ≡ litInFlight (enterAllInFlight (starters (now (s .entry)) n 1) w) ⌝ }
 {
     let mut v = w;
     let mut k: u8 = 0;
@@ -219,6 +220,5 @@ pub fn fresh(bytes: &[u8]) -> Fresh
     let blank = table_of(tasks, rest);
     let w = blank.begin();
     let v = start_marked(w, bytes, n);
-    let u = v.lit();
-    made(0, u.table)
+    made(0, v.table)
 }

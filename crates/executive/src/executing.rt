@@ -1,4 +1,4 @@
-// Executing a deed: the caller leaves, tasks enter one after the other, the rest changes. It decides nothing.
+// Executing a deed: the caller leaves, the rest changes, tasks enter one after the other. It decides nothing.
 use crate::Millis;
 use crate::Request;
 use crate::Rest;
@@ -9,7 +9,10 @@ use crate::decisions::Deed;
 use crate::decisions::Entrants;
 use crate::decisions::Leave;
 ghost use mathlib.Core.Path.{_≡_};
-ghost use Rattle.executive.specs.Table.{ArraysInOrder, InFlight, left?, depart, enterAllInFlight, restInFlight, applyInFlight};
+ghost use Rattle.executive.specs.Table.{ArraysInOrder, FindsRoom, InFlight, line, view, levelsOf, relit, left?, depart};
+ghost use Rattle.executive.specs.Table.{withRest, enterAllInFlight, litInFlight, applyInFlight};
+ghost use Rattle.executive.specs.States.{ready};
+ghost use Rattle.executive.specs.WellFormed.{Line};
 ghost use Rattle.executive.specs.Pool.{PoolInOrder};
 ghost use Rattle.executive.specs.Decisions.{named, outFor, joinsFor, alters, changed, meant, Able, Doable};
 
@@ -59,9 +62,12 @@ impl Rest {
 impl Work {
     // Those who are listed enter, in order.
     fn enter_all(mut self, list: Entrants, q: Request, now: Millis) -> Work
-        requires { ⌜ InFlight (list .count) self ⌝ }
-        ensures { λ r. ⌜ r ≡ enterAllInFlight (joinsFor q now (named list)) self ⌝ }
+        requires { ⌜ InFlight (list .count) self × FindsRoom (joinsFor q now (named list)) (self .table) ⌝ }
+        ensures { λ r. ⌜ r ≡ litInFlight (enterAllInFlight (joinsFor q now (named list)) self) ⌝ }
     {
+        if list.count == 0 {
+            return self;
+        }
         let entrants = list.places;
         let n = list.count as usize;
         let mut i: usize = 0;
@@ -74,29 +80,27 @@ impl Work {
         }
         self
     }
+}
 
+impl Table {
     // The rest of the table changes, if it is to.
-    fn changed(mut self, change: Change, q: Request) -> Work
-        requires { ⌜ PoolInOrder (self .table .rest) × Able change (self .table .rest) ⌝ }
-        ensures { λ r. ⌜ r ≡ restInFlight (changed change q (self .table .rest)) self ⌝ }
+    fn changed(mut self, change: Change, q: Request) -> Table
+        requires { ⌜ PoolInOrder (self .rest) × Able change (self .rest) ⌝ }
+        ensures { λ r. ⌜ r ≡ withRest (changed change q (self .rest)) self ⌝ }
     {
         if alters(change) {
-            let mut t = self.table;
-            let old = t.rest;
+            let old = self.rest;
             let rest = old.changed(change, q);
-            t.rest = rest;
-            self.table = t;
+            self.rest = rest;
             return self;
         }
         self
     }
-}
 
-impl Table {
     // The caller leaves, if it is to.
     fn left(mut self, how: Leave) -> Table
-        requires { ⌜ ArraysInOrder self ⌝ }
-        ensures { λ r. ⌜ r ≡ depart (outFor how) self ⌝ }
+        requires { ⌜ ArraysInOrder self × Line ready (self .tasks) (line self) × (self .levels ≡ levelsOf (view self)) ⌝ }
+        ensures { λ r. ⌜ r ≡ relit (depart (outFor how) self) ⌝ }
     {
         if leaves(how) {
             return self.depart(how);
@@ -104,7 +108,8 @@ impl Table {
         self
     }
 
-    // What is to be done is done.
+    // What is to be done is done. The rest changes before anybody enters, while no count is carried beside the table:
+    // who enters looks at no rest.
     pub(crate) fn execute(mut self, d: Deed) -> Work
         requires { ⌜ Doable d self ⌝ }
         ensures { λ r. ⌜ r ≡ applyInFlight (meant d self) self ⌝ }
@@ -113,11 +118,10 @@ impl Table {
         let now = self.rest.clock;
         let q = d.request;
         let t = self.left(leave);
-        let w = t.begin();
-        let list = d.entrants;
-        let w1 = w.enter_all(list, q, now);
         let change = d.change;
-        let w2 = w1.changed(change, q);
-        w2.lit()
+        let t1 = t.changed(change, q);
+        let w = t1.begin();
+        let list = d.entrants;
+        w.enter_all(list, q, now)
     }
 }

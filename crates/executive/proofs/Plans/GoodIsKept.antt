@@ -109,7 +109,7 @@ out-kept (leaves g) t f q h = (departed-fit t f (g (taskAt (t .tasks) (headOf (l
     go [] q h = nobody-put (t .tasks) (g (taskAt (t .tasks) 0)) q
     go (c ∷ r) q h = line-out ready (t .tasks) c (g (taskAt (t .tasks) (c .0))) r (omega arith) q h
 
-once : (ts : List Task) (r : List TaskNo) → Line ready ts r → count (headOf r .0) (items ts (tail r)) ≡ 0
+pub once : (ts : List Task) (r : List TaskNo) → Line ready ts r → count (headOf r .0) (items ts (tail r)) ≡ 0
 unfolding items count
 once ts [] q = refl
 once ts (c ∷ r) q = head-is ready ts c r (omega arith) q .alone
@@ -120,13 +120,19 @@ pub record GoodOutcome (p : Plan) (t : Table) : Type 0 where
   pub room : FindsRoom (p .ins) (depart (p .out) t)
   pub size : depart (p .out) t .ready + length (p .ins) ≤ 16
 
+-- for what the moves come to, what is stored does not matter
+pub moves-kept : (o : Out) (js : List Join) (t : Table) → WellFormedByPart t → outReady o (taskAt (t .tasks) (headOf (line t) .0)) ≡ 0 → JoinsAll js (outTasks o (t .tasks) (headOf (line t) .0))
+    → JoinsKeep js (depart o t)
+moves-kept o js t w z g =
+    let q : ArraysInOrder (depart o t) × Line ready (depart o t .tasks) (line (depart o t)) = out-kept o t (w .fit) (w .queue) z in
+    joins-kept js (depart o t) (q .0) (q .1) (rw (out-tasks o t) g)
+
 pub apply-kept : (p : Plan) (t : Table) → WellFormedByPart t → Good p t → GoodOutcome p t
 unfolding apply
 apply-kept p t w g =
     let d : Table = depart (p .out) t in
     let e : d .tasks ≡ outTasks (p .out) (t .tasks) (headOf (line t) .0) = out-tasks (p .out) t in
-    let q : ArraysInOrder d × Line ready (d .tasks) (line d) = out-kept (p .out) t (w .fit) (w .queue) (g .leaving) in
-    let k : JoinsKeep (p .ins) d = joins-kept (p .ins) d (q .0) (q .1) (rw e (g .joining)) in
+    let k : JoinsKeep (p .ins) d = moves-kept (p .out) (p .ins) t w (g .leaving) (g .joining) in
     let f : joins (p .ins) d .tasks ≡ after-tasks p t = joins-tasks (p .ins) d ∙ ap (puts (p .ins)) e in
     record {
       formed = record {

@@ -6,7 +6,6 @@ use Prim.Native.Nat.{ℕ, _+_, _≤_, _<_}
 use native.Mathlib.Omega.{arith}
 use borrow.Author.Tests.{leb-true, leb-false, eqb-true}
 use lib.Dec.{leb, eqb}
-use lib.ListN.{length, length-append}
 use Rattle.records.specs.declared.TaskNo.{TaskNo}
 use Rattle.executive.specs.Numbers.{longest}
 use Rattle.executive.specs.declared.Millis.{Millis}
@@ -17,7 +16,7 @@ use Rattle.executive.specs.Entries.{risen, dueAt}
 use Rattle.executive.specs.Plans.{endWaiter, waking, raising, restartBy, restartPlan}
 use Rattle.executive.specs.Pool.{requests}
 use Rattle.executive.specs.Places.{Names, taskAt, putAt}
-use Rattle.executive.specs.Table.{line, headOf, leaves, departed, depart}
+use Rattle.executive.specs.Table.{line, headOf, leaves, depart}
 use Rattle.executive.specs.States.{ready}
 use Rattle.executive.specs.Clock.{aimAt}
 use Rattle.executive.proofs.Plans.WorkingForm.{EntriesOk, WellFormedByPart, busy-own}
@@ -26,7 +25,7 @@ use Rattle.executive.proofs.clock.Interval.{aim-most}
 use Rattle.executive.proofs.places.TaskAt.{at-same, put-length}
 use Rattle.executive.proofs.Plans.LinksKept.{put-all, links-up, up-links}
 use Rattle.executive.proofs.Plans.Links.{alike, release}
-use Rattle.executive.proofs.Plans.GoodIsKept.{puts, Good, apply-kept}
+use Rattle.executive.proofs.Plans.GoodIsKept.{puts, Good, JoinsAll, JoinsKeep, moves-kept}
 use Rattle.executive.proofs.Plans.Shared.{EntryOkIn, ready-own, runs, Woken, ender-in, joins-append, puts-append, wake-other, wake-length, inside}
 
 module _ (t : Table) (w : WellFormedByPart t) (h : 0 < t .ready) where
@@ -77,13 +76,19 @@ module _ (t : Table) (w : WellFormedByPart t) (h : 0 < t .ready) where
         go true y = rw (eqb-true k (c .0) y, still) o
         go false y = freed .own k y
 
+    later-joining : JoinsAll (waking (endWaiter t c) ++ []) ts₄
+    later-joining = joins-append (waking (endWaiter t c)) [] ts₄ (freed .joining) tt
+
+    now-joining : JoinsAll (waking (endWaiter t c) ++ (raising c ∷ [])) ts₄
+    now-joining = joins-append (waking (endWaiter t c)) (raising c ∷ []) ts₄ (freed .joining) (record { names = there; before = rw still refl; after = refl }, tt)
+
     later-good : aim .0 ≤ now + longest → now < aim .0 → Good (record { out = leaves (dueAt aim); ins = waking (endWaiter t c) ++ []; rest = t .rest }) t
     unfolding puts
     later-good far z =
         let u = puts-append (waking (endWaiter t c)) [] ts₄ in
         record {
           leaving = refl;
-          joining = joins-append (waking (endWaiter t c)) [] ts₄ (freed .joining) tt;
+          joining = later-joining;
           linked = rw u (up-links (freed .linked));
           own = rw u (and-caller (busy-own (λ _. (z, far), false-not-true) (w .own (c .0) .started) (w .own (c .0) .level) (w .own (c .0) .home) refl (inside t w h)));
           rested = w .rested;
@@ -98,7 +103,7 @@ module _ (t : Table) (w : WellFormedByPart t) (h : 0 < t .ready) where
         let o : EntryOkIn (t .rest) (c .0) (risen e₁) = busy-own (false-not-true, false-not-true) z (w .own (c .0) .level) (w .own (c .0) .home) refl (inside t w h) in
         record {
           leaving = refl;
-          joining = joins-append (waking (endWaiter t c)) (raising c ∷ []) ts₄ (freed .joining) (record { names = there; before = rw still refl; after = refl }, tt);
+          joining = now-joining;
           linked = rw u (up-links (alike ts₅ rs (c .0) v 0 0 0 there refl (rw still refl) (rw still refl) refl (rw still refl) (freed .linked)));
           own = rw u (λ k. put-all (EntryOkIn (t .rest)) ts₅ (c .0) v there (rw still o) k (λ y. freed .own k y));
           rested = w .rested;
@@ -115,13 +120,14 @@ module _ (t : Table) (w : WellFormedByPart t) (h : 0 < t .ready) where
           by true z = now-good aim (leb-true (aim .0) now z)
           by false z = later-good aim far (leb-false (aim .0) now z)
 
-  -- there is room, whatever the time aimed at: for the one that enters at once there is, and no other lets more enter
-  pub restart-room : (p n : ℕ) → depart (restartPlan t p n .out) t .ready + length (restartPlan t p n .ins) ≤ 16
-  unfolding restartPlan depart departed
-  restart-room p n =
-      let a : Millis = aimAt (e .start) (t .rest .clock) p n in
-      omega (arith, apply-kept _ t w (now-good (t .rest .clock) (omega arith)) .size, no-more (leb (a .0) now))
+  -- there is room, whatever the time aimed at
+  pub restart-room : (p n : ℕ) → JoinsKeep (restartPlan t p n .ins) (depart (restartPlan t p n .out) t)
+  unfolding restartPlan
+  restart-room p n = go (aimAt (e .start) (t .rest .clock) p n)
     where
-      no-more : (b : Bool) → length (waking (endWaiter t c) ++ cond b (raising c ∷ []) []) ≤ length (waking (endWaiter t c) ++ (raising c ∷ []))
-      no-more true = omega arith
-      no-more false = omega (arith, length-append (waking (endWaiter t c)) [], length-append (waking (endWaiter t c)) (raising c ∷ []))
+      go : (aim : Millis) → JoinsKeep (restartBy t c aim .ins) (depart (restartBy t c aim .out) t)
+      go aim = moves-kept (leaves (dueAt aim)) (restartBy t c aim .ins) t w refl (by (leb (aim .0) now))
+        where
+          by : (b : Bool) → JoinsAll (waking (endWaiter t c) ++ cond b (raising c ∷ []) []) (ts₄ aim)
+          by true = now-joining aim
+          by false = later-joining aim

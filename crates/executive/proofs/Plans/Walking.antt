@@ -1,6 +1,6 @@
 -- How far a plan's entries walk: what is counted in flight is what the queue's theory counts over its moves; no entry
 -- passes more than fifteen, and no plan more than 120.
-use mathlib.Core.Path.{_≡_, sym, ap, ap₂, subst, subst₂, _∙_}
+use mathlib.Core.Path.{_≡_, refl, sym, ap, ap₂, subst, subst₂, _∙_}
 use mathlib.Core.List.{List, [], _∷_}
 use Prim.Native.Nat.{_+_, _≤_}
 use native.Mathlib.Omega.{arith}
@@ -10,10 +10,10 @@ use Rattle.executive.specs.declared.Table.{Table}
 use Rattle.executive.specs.declared.Work.{Work}
 use Rattle.executive.specs.Queue.{Item, insert, atLeast, walk, left, Desc, EachWalks}
 use Rattle.executive.specs.Places.{taskAt}
-use Rattle.executive.specs.Table.{ArraysInOrder, line, items, view, headOf, Join, Plan, entered, depart, join, FindsRoom, begin, passedBy, enterInFlight, enterAllInFlight, applyInFlight, left?, change-at, enters-as, outTasks, entries, movesOf}
+use Rattle.executive.specs.Table.{ArraysInOrder, line, items, view, relit, headOf, Join, Plan, entered, depart, join, FindsRoom, begin, passedBy, InFlight, enterInFlight, enterAllInFlight, litInFlight, applyInFlight, left?, change-at, enters-as, outTasks, entries, movesOf}
 use Rattle.executive.proofs.places.TaskAt.{at-same}
 use Rattle.executive.proofs.queue.ArraysAreLists.{take-le}
-use Rattle.executive.proofs.queue.InFlight.{begin-flying, enters-flying, depart-fit}
+use Rattle.executive.proofs.queue.InFlight.{relit-fit, begin-flying, lit-on-the-way, enters-flying, depart-fit}
 use Rattle.executive.proofs.queue.Law.{insert-desc, insert-at}
 use Rattle.executive.proofs.queue.Walk.{ahead-atLeast, atLeast-le, items-length, left-desc, sum-most}
 use Rattle.executive.proofs.Plans.Moves.{Enters, Entering, MovesAreLegal, items-put, join-view, depart-view, out-tasks}
@@ -68,7 +68,8 @@ module _ (p : Plan) (t : Table) where
   pub plan-most : ArraysInOrder t → flown .ready + length (p .ins) ≤ 16 → applyInFlight p t .walked ≤ 120
   unfolding applyInFlight
   plan-most f h =
-      let g = enters-flying (p .ins) 0 (begin flown) (begin-flying (length (p .ins) + 0) flown (depart-fit (p .out) t f) (omega (arith, h))) in
+      let b = begin-flying (length (p .ins) + 0) (relit flown) (relit-fit flown (depart-fit (p .out) t f)) (omega (arith, h)) refl in
+      let g : InFlight 0 (litInFlight (enterAllInFlight (p .ins) (begin flown))) = subst (InFlight 0) (lit-on-the-way (p .ins) (begin flown)) (enters-flying (p .ins) 0 (begin (relit flown)) b) in
       omega (arith, g .walked, sum-most _ (g .fit .few))
 
   module _ (d : Desc (view t)) (s : MovesAreLegal p t) where

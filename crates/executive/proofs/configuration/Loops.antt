@@ -8,14 +8,18 @@ use borrow.Author.Tests.{eq-eqb, ne-eqb}
 use lib.Dec.{eqb}
 use lib.ListN.{length, getD, set, length-append}
 use Rattle.executive.specs.declared.Task.{Task}
+use Rattle.executive.specs.declared.Table.{Table}
 use Rattle.executive.specs.declared.Work.{Work}
 use Rattle.executive.specs.declared.AwaitedMoment.the-variants.{ForNothing}
-use Rattle.executive.specs.Places.{nobody, never, noTask}
+use Rattle.executive.specs.Queue.{count}
+use Rattle.executive.specs.Places.{nobody, never, noTask, taskAt, putAt}
 use Rattle.executive.specs.Plans.{asks, begins}
 use Rattle.executive.specs.Lists.{pad}
-use Rattle.executive.specs.Table.{ArraysInOrder, Join, enterAllInFlight}
+use Rattle.executive.specs.Table.{ArraysInOrder, line, items, itemOf, view, Join, enterAt, entered, enterInFlight, enterAllInFlight}
 use Rattle.executive.specs.Configuration.{placeIn, ownIn, markIn, tasksFrom, withTasks, blankRest, dormantAt, sleepers, markedStart, starters}
-use Rattle.executive.proofs.Lists.Pad.{pad-more, length-pad}
+use Rattle.executive.proofs.Lists.Pad.{pad-more, length-pad, line-pad}
+use Rattle.executive.proofs.queue.Law.{insert-count, items-enter}
+use Rattle.executive.proofs.Plans.Moves.{items-put}
 use Rattle.executive.proofs.queue.InFlight.{admits-append}
 
 -- ---- the 41 counted: n were met, and the next one stands at the place of task n + 1
@@ -95,6 +99,31 @@ module _ (s : List ℕ) where
       ap (λ (m : ℕ). enterAllInFlight (markedStart s m) (enterAllInFlight (starters s n 1) w)) y
       ∙ sym (admits-append (starters s n 1) (markedStart s (1 + n)) w)
       ∙ ap (λ (l : List Join). enterAllInFlight l w) (sym (starters-more n 1) ∙ ap (λ (m : ℕ). starters s m 1) (sym z))
+
+-- ---- who is not ready yet: nobody is at first, and a start lets in no other
+pub nobody-in : (t : Table) → t .ready ≡ 0 → (j : ℕ) → count j (view t) ≡ 0
+unfolding items count
+nobody-in t z j = rw z refl
+
+pub start-vacant : (s : List ℕ) (k : ℕ) (w : Work) (j : ℕ) → k < j → count j (view (w .table)) ≡ 0 → count k (view (w .table)) ≡ 0
+    → count j (view (enterAllInFlight (markedStart s k) w .table)) ≡ 0
+unfolding markedStart enterAllInFlight enterInFlight entered
+start-vacant s k w j h a b = go (eqb (markIn s k) 1)
+  where
+    q : Join
+    q = begins (record { 0 = k }) (asks nobody ForNothing (record { 0 = k }) (ownIn s k) 0) never
+
+    t : Table
+    t = w .table
+
+    ts : List Task
+    ts = putAt (t .tasks) k (q .change (taskAt (t .tasks) k))
+
+    go : (m : Bool) → count j (view (enterAllInFlight (cond m (q ∷ []) []) w .table)) ≡ 0
+    go true =
+        rw (line-pad nobody 16 (enterAt ts (q .who) (line t)), items-enter ts (q .who) (line t), insert-count (itemOf ts (q .who)) (items ts (line t)) j, ne-eqb j k (λ z. absurd (omega arith)), items-put (t .tasks) k (q .change (taskAt (t .tasks) k)) (line t) b)
+        (omega (arith, a))
+    go false = a
 
 -- ---- the table before the starts
 pub dormant-fit : (s : List ℕ) (n g : ℕ) → n ≤ 16 → ArraysInOrder (withTasks (pad 16 noTask (sleepers s n 1)) (blankRest n g))

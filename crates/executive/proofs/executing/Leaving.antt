@@ -1,20 +1,25 @@
 -- The caller leaves as it is told, or stays; the rest changes, or does not.
-use mathlib.Core.Path.{_≡_, refl, sym, _∙_}
+use mathlib.Core.Path.{_≡_, refl, sym}
 use mathlib.Core.Bool.{true, false}
+use mathlib.Core.List.{List}
 use Rattle.executive.specs.declared.Table.{Table}
 use Rattle.executive.specs.declared.decisions.Leave.{Leave}
 use Rattle.executive.specs.declared.decisions.Leave.the-variants as leave
 use Rattle.executive.specs.Places.{taskAt}
-use Rattle.executive.specs.Table.{departed, depart, left?, Out, stays, leaves, Join, begin, enterAllInFlight, restInFlight}
+use Rattle.executive.specs.Table.{view, levelsOf, relit, departed, depart, left?, Out, stays, leaves, Join, withRest}
+use Rattle.executive.specs.Table.{begin, enterAllInFlight, litInFlight, applyInFlight}
 use Rattle.executive.specs.Plans.{caller}
-use Rattle.executive.specs.Decisions.{outFor, goneAs, alters, changed}
+use Rattle.executive.specs.Clock.{advanced}
+use Rattle.executive.specs.Pool.{PoolInOrder}
+use Rattle.executive.specs.Decisions.{outFor, goneAs, alters, changed, Able}
+use Rattle.executive.proofs.queue.ArraysAreLists.{queued-neat, removed-neat}
+use Rattle.executive.proofs.queue.InFlight.{enters-beside}
+use Rattle.executive.proofs.Plans.Tick.{advanced-alone}
 use Rattle.executive.proofs.Lists.Tests.{false-not-true}
-use mathlib.Core.List.{List}
 use Rattle.executive.specs.declared.Request.{Request}
-use Rattle.executive.specs.declared.Work.{Work}
+use Rattle.executive.specs.declared.Rest.{Rest}
 use Rattle.executive.specs.declared.decisions.Change.{Change}
 use Rattle.executive.specs.declared.decisions.Change.the-variants as change
-use Rattle.executive.proofs.queue.InFlight.{admits-rest}
 
 pub left-gone : (how : Leave) (t : Table) → left? (outFor how) ≡ true → departed (goneAs how (taskAt (t .tasks) (caller t .0))) t ≡ depart (outFor how) t
 unfolding depart
@@ -35,14 +40,30 @@ unfolding depart departed
 depart-rest stays t = refl
 depart-rest (leaves f) t = refl
 
-pub flown-rest : (js : List Join) (o : Out) (t : Table) → enterAllInFlight js (begin (depart o t)) .table .rest ≡ t .rest
-flown-rest js o t = admits-rest js (begin (depart o t)) ∙ depart-rest o t
-
 -- a change that alters nothing
-pub unaltered : (ch : Change) (q : Request) (w : Work) → alters ch ≡ false → w ≡ restInFlight (changed ch q (w .table .rest)) w
-unaltered change.Same q w e = refl
-unaltered (change.Flags fs) q w e = false-not-true (sym e)
-unaltered (change.Alarm f at) q w e = false-not-true (sym e)
-unaltered change.Put q w e = false-not-true (sym e)
-unaltered (change.Taken i) q w e = false-not-true (sym e)
-unaltered (change.Clock i) q w e = false-not-true (sym e)
+pub unaltered : (ch : Change) (q : Request) (t : Table) → alters ch ≡ false → t ≡ withRest (changed ch q (t .rest)) t
+unaltered change.Same q t e = refl
+unaltered (change.Flags fs) q t e = false-not-true (sym e)
+unaltered (change.Alarm f at) q t e = false-not-true (sym e)
+unaltered change.Put q t e = false-not-true (sym e)
+unaltered (change.Taken i) q t e = false-not-true (sym e)
+unaltered (change.Clock i) q t e = false-not-true (sym e)
+
+-- a change that can be made keeps the requests in order
+pub changed-neat : (ch : Change) (q : Request) (r : Rest) → PoolInOrder r → Able ch r → PoolInOrder (changed ch q r)
+changed-neat change.Same q r f a = f
+changed-neat (change.Flags fs) q r f a = record { room = f .room; clear = f .clear }
+changed-neat (change.Alarm x at) q r f a = record { room = f .room; clear = f .clear }
+changed-neat change.Put q r f a = queued-neat r f q a
+changed-neat (change.Taken i) q r f a = removed-neat r f i a
+changed-neat (change.Clock i) q r f a =
+    let n : advanced r .queued ≡ r .queued = advanced-alone (λ (r : Rest). r .queued) (λ r fs al. refl) r in
+    let p : advanced r .pool ≡ r .pool = advanced-alone (λ (r : Rest). r .pool) (λ r fs al. refl) r in
+    record { room = rw n (f .room); clear = rw (p, n) (f .clear) }
+
+-- the caller leaves, the rest changes, and all enter, each with the word on the way: that is the plan, which says the
+-- word at its end
+pub done-is : (o : Out) (js : List Join) (r : Rest) (t : Table)
+    → litInFlight (enterAllInFlight js (begin (withRest r (relit (depart o t))))) ≡ applyInFlight (record { out = o; ins = js; rest = r }) t
+unfolding applyInFlight
+done-is o js r t = enters-beside js (levelsOf (view (depart o t))) r (begin (depart o t))

@@ -22,7 +22,8 @@ use Rattle.executive.specs.Numbers.{lastUnit}
 use Rattle.executive.specs.declared.Table.{Table}
 use Rattle.executive.specs.declared.Outcome.{Outcome}
 use Rattle.executive.specs.Lists.{_and_}
-use Rattle.executive.specs.Table.{Out, Join, Plan, depart, joins, apply}
+use Rattle.executive.specs.Places.{taskAt}
+use Rattle.executive.specs.Table.{line, headOf, Out, Plan, depart, joins, apply}
 use Rattle.executive.specs.States.{isDormant}
 use Rattle.executive.specs.Plans.{stateAt, nothing, pausePlan, alarmPlan}
 use Rattle.executive.specs.WellFormed.{WellFormed}
@@ -31,10 +32,9 @@ use Rattle.executive.specs.Refusals.{nobodyActive, badBody, namesCaller,
 use Rattle.executive.specs.Step.{noTable, answerOf, hasV, accepted, refused, outcomeOf, performed, stepOf}
 use Rattle.executive.specs.Promises.Demands.{planFor, planOfCall, planOfRecord}
 use Rattle.executive.proofs.Lists.Tests.{false-not-true}
-use Rattle.executive.proofs.queue.InFlight.{depart-fit}
 use Rattle.executive.proofs.refusals.NothingRefuses.{Clear, clear-of, first-none, or-none}
 use Rattle.executive.proofs.Plans.WorkingForm.{WellFormedByPart, formed, well-formed}
-use Rattle.executive.proofs.Plans.GoodIsKept.{Good, GoodOutcome, plan-in-flight, apply-kept}
+use Rattle.executive.proofs.Plans.GoodIsKept.{outReady, Good, GoodOutcome, JoinsKeep, plan-in-flight, moves-kept, apply-kept}
 use Rattle.executive.proofs.Plans.Shared.{nothing-good}
 use Rattle.executive.proofs.Plans.Pause.{pause-good}
 use Rattle.executive.proofs.Plans.Terminate.{terminate-good}
@@ -64,21 +64,21 @@ some-ready t e = omega (arith, eqb-false (t .ready) 0 e)
 -- numbers do not matter; what is stored is in range where the count of an interval is that of a byte
 module _ (t : Table) (w : WellFormedByPart t) where
   abbrev Roomy : Plan → Type 0
-  Roomy p = depart (p .out) t .ready + length (p .ins) ≤ 16
+  Roomy p = JoinsKeep (p .ins) (depart (p .out) t)
 
   record Sound (c : Call) : Type 0 where
     pub room : Roomy (planOf t c)
     pub good : InRange c → Good (planOf t c) t
 
   sized : (p : Plan) → Good p t → Roomy p
-  sized p g = apply-kept p t w g .size
+  sized p g = moves-kept (p .out) (p .ins) t w (g .leaving) (g .joining)
 
   sound : (c : Call) → Good (planOf t c) t → Sound c
   sound c g = record { room = sized (planOf t c) g; good = λ r. g }
 
   -- where nobody enters; whichever plan is picked
-  alone : (o : Out) → depart o t .ready + length {A = Join} [] ≤ 16
-  alone o = omega (arith, depart-fit o t (w .fit) .few)
+  alone : (o : Out) → outReady o (taskAt (t .tasks) (headOf (line t) .0)) ≡ 0 → JoinsKeep [] (depart o t)
+  alone o z = moves-kept o [] t w z tt
 
   either : (b : Bool) (p q : Plan) → Roomy p → Roomy q → Roomy (cond b p q)
   either true p q x y = x
@@ -86,11 +86,11 @@ module _ (t : Table) (w : WellFormedByPart t) where
 
   pause-room : (u n : ℕ) → Roomy (pausePlan t u n)
   unfolding pausePlan
-  pause-room u n = either (eqb n 0) _ _ (alone _) (alone _)
+  pause-room u n = either (eqb n 0) _ _ (alone _ refl) (alone _ refl)
 
   alarm-room : (u n : ℕ) (f : FlagNo) → Roomy (alarmPlan t u n f)
   unfolding alarmPlan
-  alarm-room u n f = either (eqb n 0) _ _ (sized _ (set-good t w f)) (alone _)
+  alarm-room u n f = either (eqb n 0) _ _ (sized _ (set-good t w f)) (alone _ refl)
 
   call-sound : (c : Call) → Clear t c → Sound c
   unfolding planOf nobodyActive badBody namesCaller poolFull endsTime
@@ -125,7 +125,7 @@ module _ (t : Table) (w : WellFormedByPart t) where
 pub call-good : (t : Table) (c : Call) → WellFormedByPart t → InRange c → Clear t c → Good (planOf t c) t
 call-good t c w r a = call-sound t w c a .good r
 
-pub call-room : (t : Table) (c : Call) → WellFormed t → firstOf (callRefusals t c) ≡ 0 → depart (planOf t c .out) t .ready + length (planOf t c .ins) ≤ 16
+pub call-room : (t : Table) (c : Call) → WellFormed t → firstOf (callRefusals t c) ≡ 0 → JoinsKeep (planOf t c .ins) (depart (planOf t c .out) t)
 call-room t c w e = call-sound t (formed w) c (clear-of t c e) .room
 
 -- ---- an outcome is its plan

@@ -1,44 +1,57 @@
-use mathlib.Core.Path.{refl}
-use Rattle.executive.specs.Table.{applyInFlight}
-use Rattle.executive.specs.Decisions.{meant}
-use Rattle.executive.proofs.queue.InFlight.{begin-flying, depart-fit, flown-few}
-use Rattle.executive.proofs.executing.Leaving.{flown-rest}
-use Rattle.executive.proofs.decisions.CanBeDone.{joins-few}
+use mathlib.Core.Path.{_≡_, refl, ap, _∙_}
+use mathlib.Core.List.{List}
+use Rattle.executive.specs.declared.Rest.{Rest}
+use Rattle.executive.specs.declared.Table.{Table}
+use Rattle.executive.specs.declared.Work.{Work}
+use Rattle.executive.specs.Table.{view, levelsOf, relit, Out, Join, depart, withRest, begin, enterAllInFlight, litInFlight}
+use Rattle.executive.specs.Decisions.{named, outFor, joinsFor, changed, meant}
+use Rattle.executive.proofs.queue.InFlight.{begin-flying, depart-fit, finds-beside}
+use Rattle.executive.proofs.executing.Leaving.{depart-rest, changed-neat, done-is}
 use borrow.Author.Needs.{needs}
 use Rattle.executive.proofs.Table.execute.Statement.{statement}
 use Rattle.executive.proofs.Table.execute.Tie as tie
 
 left-requires : tie.Need-left-requires
-left-requires c κs = c .before .before .pre .fit
+left-requires c κs = let s = c .before .before in (s .pre .fit, s .pre .queue, s .pre .lit)
+
+changed-requires : tie.Need-changed-requires
+changed-requires c κs =
+    let s = c .before .before .before in
+    rw (c .left .ensures, depart-rest _ (s .args .self)) (s .pre .fit .neat, s .pre .able)
 
 enter-all-requires : tie.Need-enter-all-requires
 enter-all-requires c κs =
-    let s = c .before .before .before .before .before in
-    rw (c .before .begin .ensures, c .before .before .left .ensures) (begin-flying _ _ (depart-fit _ (s .args .self) (s .pre .fit)) (s .pre .room))
-
-changed-requires : tie.Need-changed-requires
-changed-requires c κs = rw (c .enter-all .ensures, c .before .before .begin .ensures, c .before .before .before .left .ensures, flown-rest _ _ (c .before .before .before .before .before .before .args .self)) (c .before .before .before .before .before .before .pre .fit .neat, c .before .before .before .before .before .before .pre .able)
-
-lit-requires : tie.Need-lit-requires
-lit-requires c κs =
     let m = c .before .before .before in
-    let s = m .before .before .before .before in
-    rw (c .changed .ensures, c .before .enter-all .ensures, m .begin .ensures, m .before .left .ensures)
-    (flown-few _ _ _ (joins-few _ _ (s .args .d .entrants)) (begin-flying _ _ (depart-fit _ (s .args .self) (s .pre .fit)) (s .pre .room)))
+    let s = m .before .before .before in
+    let n = changed-neat (s .args .d .change) (s .args .d .request) (s .args .self .rest) (s .pre .fit .neat) (s .pre .able) in
+    let f = depart-fit (outFor (s .args .d .leave)) (s .args .self) (s .pre .fit) in
+    rw (c .before .begin .ensures, c .before .before .changed .ensures, m .left .ensures, depart-rest _ (s .args .self)) (
+      begin-flying _ _ (record { all = f .all; few = f .few; tidy = f .tidy; neat = n }) (s .pre .room) refl,
+      finds-beside (joinsFor (s .args .d .request) (s .args .self .rest .clock) (named (s .args .d .entrants)))
+          (levelsOf (view (depart (outFor (s .args .d .leave)) (s .args .self)))) (changed (s .args .d .change) (s .args .d .request) (s .args .self .rest))
+          (depart (outFor (s .args .d .leave)) (s .args .self)) (s .pre .finds),
+    )
 
 returns : tie.Need-returns
-unfolding applyInFlight meant
+unfolding meant
 returns c =
     let m = c .before .before .before .before in
-    rw (c .lit .ensures, c .before .changed .ensures, c .before .before .enter-all .ensures, m .begin .ensures, m .before .left .ensures, flown-rest _ _ (m .before .before .before .before .args .self)) refl
+    let s = m .before .before .before in
+    let o : Out = outFor (s .args .d .leave) in
+    let js : List Join = joinsFor (s .args .d .request) (s .args .self .rest .clock) (named (s .args .d .entrants)) in
+    let r : Rest → Rest = λ (x : Rest). changed (s .args .d .change) (s .args .d .request) x in
+    c .enter-all .ensures
+    ∙ ap (λ (w : Work). litInFlight (enterAllInFlight js w))
+    (c .before .before .begin .ensures ∙ ap begin (c .before .before .before .changed .ensures ∙ ap (λ (u : Table). withRest (r (u .rest)) u) (m .left .ensures)))
+    ∙ ap (λ (x : Rest). litInFlight (enterAllInFlight js (begin (withRest (r x) (relit (depart o (s .args .self))))))) (depart-rest o (s .args .self))
+    ∙ done-is o js (r (s .args .self .rest)) (s .args .self)
 
 pub execute-spec : {M : Type 1} → statement M
 execute-spec =
     tie.close
     (tie.spec
     left-requires
+    changed-requires
     (λ c κs. search needs)
     enter-all-requires
-    changed-requires
-    lit-requires
     returns)

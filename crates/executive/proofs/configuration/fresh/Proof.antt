@@ -2,9 +2,10 @@
 use mathlib.Core.Path.{refl}
 use native.Mathlib.Omega.{arith}
 use borrow.Author.Tests.{not-true, not-false}
+use Rattle.executive.specs.Table.{items, levelsOf}
 use Rattle.executive.specs.Configuration.{dormantTable, freshTable, freshOf, sleepers}
-use Rattle.executive.proofs.queue.InFlight.{begin-flying, flown-few}
-use Rattle.executive.proofs.configuration.Loops.{dormant-fit, starters-few}
+use Rattle.executive.proofs.queue.InFlight.{begin-flying}
+use Rattle.executive.proofs.configuration.Loops.{dormant-fit}
 use borrow.Author.Needs.{needs}
 use Rattle.executive.proofs.configuration.fresh.Statement.{statement}
 use Rattle.executive.proofs.configuration.fresh.Tie as tie
@@ -23,6 +24,7 @@ returns c =
     ) refl
 
 start-marked-requires : tie.Need-start-marked-requires
+unfolding items levelsOf
 start-marked-requires c κs =
     let c4 = c .before .before .before .before in
     let m = c4 .before in
@@ -32,32 +34,19 @@ start-marked-requires c κs =
       c .before .before .blank-rest2 .ensures,
       c4 .all-dormant2 .ensures,
     )
-    (begin-flying _ _ (dormant-fit _ _ _ (m .tasks-in .ensures .1)) (omega (arith, m .tasks-in .ensures .1)))
-
-lit-requires : tie.Need-lit-requires
-lit-requires c κs =
-    let m = c .before .before .before .before .before .before in
-    rw (
-      c .start-marked .ensures,
-      c .before .begin .ensures,
-      c .before .before .table-of2 .ensures,
-      c .before .before .before .blank-rest2 .ensures,
-      c .before .before .before .before .before .all-dormant2 .ensures,
-    )
-    (flown-few _ _ _ (starters-few _ (m .tasks-in .result) 1) (begin-flying _ _ (dormant-fit _ _ _ (m .tasks-in .ensures .1)) (omega (arith, m .tasks-in .ensures .1))))
+    (begin-flying _ _ (dormant-fit _ _ _ (m .tasks-in .ensures .1)) (omega (arith, m .tasks-in .ensures .1)) refl, refl)
 
 returns-2 : tie.Need-returns-2
 unfolding freshOf freshTable dormantTable
 returns-2 c =
-    let m = c .before .before .before .before .before .before in
+    let m = c .before .before .before .before .before in
     let l = m .before .before .before .before in
     rw (
       c .made2 .ensures,
-      c .before .lit .ensures,
-      c .before .before .start-marked .ensures,
-      c .before .before .before .begin .ensures,
-      c .before .before .before .before .table-of2 .ensures,
-      c .before .before .before .before .before .blank-rest2 .ensures,
+      c .before .start-marked .ensures,
+      c .before .before .begin .ensures,
+      c .before .before .before .table-of2 .ensures,
+      c .before .before .before .before .blank-rest2 .ensures,
       m .byte-at .ensures,
       m .before .all-dormant2 .ensures,
       m .before .before .tasks-in .ensures .0,
@@ -82,6 +71,5 @@ fresh-spec =
     (λ c κs. search needs)
     (λ c κs. search needs)
     start-marked-requires
-    lit-requires
     (λ c κs. search needs)
     returns-2)

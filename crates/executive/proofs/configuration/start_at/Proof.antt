@@ -2,13 +2,17 @@ use mathlib.Core.Path.{_≡_, refl, ap, sym, _∙_}
 use borrow.Author.Tests.{lt-ltb, le-ltb, le-leb, lt-leb, eq-eqb, ne-eqb}
 use Rattle.executive.specs.Table.{enterAllInFlight}
 use Rattle.executive.specs.Configuration.{markedStart}
+use Rattle.executive.proofs.queue.InFlight.{lit-flying}
 use borrow.Author.Needs.{needs}
 use Rattle.executive.proofs.configuration.start_at.Statement.{statement}
 use Rattle.executive.proofs.configuration.start_at.Tie as tie
 
 returns : tie.Need-returns
 unfolding markedStart enterAllInFlight
-returns c = rw (← c .before .mark-in .ensures, ne-eqb (c .before .mark-in .result) 1 (c .if1 .taken)) refl
+returns c = rw (← c .before .mark-in .ensures, ne-eqb (c .before .mark-in .result) 1 (c .if1 .taken)) (lit-flying 1 (c .before .before .before .args .w) (c .before .before .before .pre .0))
+
+enter-requires : tie.Need-enter-requires
+enter-requires c κs = let s = c .before .before .before .before in (s .pre .0, s .pre .2)
 
 returns-2 : tie.Need-returns-2
 unfolding markedStart enterAllInFlight
@@ -16,4 +20,4 @@ returns-2 c = rw (c .enter .ensures, c .before .own-in .ensures, ← c .before .
 
 pub start-at-spec : {M : Type 1} → statement M
 start-at-spec =
-    tie.close (tie.spec (λ c κs. search needs) returns (λ c κs. search needs) (λ c κs. search needs) returns-2)
+    tie.close (tie.spec (λ c κs. search needs) returns (λ c κs. search needs) enter-requires returns-2)

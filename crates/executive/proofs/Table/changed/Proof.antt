@@ -1,11 +1,11 @@
 use mathlib.Core.Path.{_≡_, refl, ap, sym, _∙_}
 use Rattle.executive.proofs.executing.Leaving.{unaltered}
 use borrow.Author.Needs.{needs}
-use Rattle.executive.proofs.Work.changed.Statement.{statement}
-use Rattle.executive.proofs.Work.changed.Tie as tie
+use Rattle.executive.proofs.Table.changed.Statement.{statement}
+use Rattle.executive.proofs.Table.changed.Tie as tie
 
 changed-requires : tie.Need-changed-requires
-changed-requires c κs = c .before .before .before .before .pre
+changed-requires c κs = c .before .before .before .pre
 
 returns : tie.Need-returns
 returns c = rw (c .changed .ensures) refl
