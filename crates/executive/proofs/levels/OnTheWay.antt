@@ -1,5 +1,5 @@
 -- The word on the way: who enters brings its bit, and the first in line takes its bit along unless the next has it too.
-use Prim.Native.Nat.{ℕ, suc, _+_, _-_, _*_, _^_, _≤_, _<_}
+use Prim.Native.Nat.{ℕ, _+_, _-_, _^_, _≤_, _<_}
 use mathlib.Core.Path.{_≡_, refl, sym, ap, _∙_}
 use mathlib.Core.Bool.{Bool, true, false, cond}
 use mathlib.Core.List.{List, [], _∷_, tail}
@@ -8,19 +8,18 @@ use native.Mathlib.Nat.{one-mul}
 use borrow.Author.Tests.{eqb-true, eqb-false, ne-eqb}
 use lib.Dec.{eqb, leb}
 use lib.Pow.{pow-lt, pow-pos}
-use lib.Bits.{bitAnd, bitOr, or-zero-l, or-zero-r, or-comm, or-self, or-lt, or-shifted, or-add-and, and-le-r}
-use lib.ListN.{length, getD, take}
+use lib.Bits.{bitOr, or-zero-l, or-zero-r, or-comm, or-self, or-lt, or-shifted, or-add-and, and-le-r}
+use lib.ListN.{length, getD}
 use lib.Seq.{getD-take}
 use Rattle.records.specs.declared.TaskNo.{TaskNo}
 use Rattle.executive.specs.declared.Task.{Task}
-use Rattle.executive.specs.declared.Rest.{Rest}
 use Rattle.executive.specs.declared.Table.{Table}
 use Rattle.executive.specs.Queue.{Item, AllLe, Desc, behind, insert, count}
 use Rattle.executive.specs.Places.{nobody, taskAt, putAt}
 use Rattle.executive.specs.States.{ready}
 use Rattle.executive.specs.WellFormed.{Line}
 use Rattle.executive.specs.Table.{ArraysInOrder, line, items, view, levelBit, levelsOf, relit, headOf, departed, enterAt, entered, aheadOf, slidOf}
-use Rattle.executive.specs.Lists.{pad, closedAt}
+use Rattle.executive.specs.Lists.{closedAt}
 use Rattle.executive.proofs.Lists.Pad.{line-pad}
 use Rattle.executive.proofs.flags.Bits.{or-assoc}
 use Rattle.executive.proofs.queue.Law.{items-enter}

@@ -1,20 +1,13 @@
 -- For the code: the lamp's search turn by turn.
 use Prim.Native.Nat.{ℕ, zero, suc, _-_, _^_, _≤_, _<_}
 use mathlib.Core.Path.{_≡_, refl, sym, ap, _∙_}
-use mathlib.Core.List.{List, _∷_}
 use native.Mathlib.Omega.{arith}
 use borrow.Author.Tests.{eq-eqb, ne-eqb, le-leb}
-use lib.Bits.{bitAnd, bitOr}
-use lib.ListN.{length, getD, take, drop, drop-of-length-le}
-use lib.Seq.{length-take-le, getD-take, drop-cons}
-use Rattle.records.specs.declared.TaskNo.{TaskNo}
-use Rattle.executive.specs.declared.Task.{Task}
+use lib.Bits.{bitAnd}
 use Rattle.executive.specs.declared.Lamp.the-variants.{Level}
-use Rattle.executive.specs.Places.{nobody, noTask, taskAt, entryPlace}
-use Rattle.executive.specs.Table.{levelBit, items, levelsOf}
+use Rattle.executive.specs.Table.{levelBit}
 use Rattle.executive.specs.Flags.{isSet}
 use Rattle.executive.specs.Lamp.{lampBelow}
-use Rattle.executive.proofs.places.TaskAt.{at-place, at-no-place}
 
 -- ---- the search, from the highest bit down
 module _ (w : ℕ) where
