@@ -33,6 +33,7 @@ use Rattle.executive.specs.Refusals.{nobodyActive, badBody, namesCaller,
 use Rattle.executive.specs.Step.{accepted, refused, outcomeOf, stepOf, noTable, answerOf, hasV}
 use Rattle.executive.specs.Promises.Demands.{planOfRecord, after}
 use Rattle.executive.specs.Promises.Skipping.{NextOnGrid, Skip, DueNext, Skips, Skipping}
+use Rattle.executive.proofs.step.InWords.{tells}
 use Rattle.executive.proofs.clock.Interval.{every-some, next-ahead}
 use Rattle.executive.proofs.check.Decides.{well-formed-iff}
 use Rattle.executive.proofs.Plans.WorkingForm.{formed}
@@ -201,27 +202,18 @@ skip-of start now p n = go (ltb lastUnit (p % 8)) refl (eqb (p / 64 % 4) 1) refl
     go false e true f true g z = record { bits = eqb-true (p / 64 % 4) 1 f; unit = ltb-false lastUnit (p % 8) e; some = ltb-true 0 n g }
 
 module _ (t : Table) (s : List ℕ) (a : stepOf t s .answer .number ≡ 0) where
-  marks-skip : (c : Call) → callIn s ≡ c → marksOf t c .skipped ≢ 0 → Skips t s
+  marks-skip : marksOf t (callIn s) .skipped ≢ 0 → Skips t s
   unfolding marksOf
-  marks-skip call.Terminate e z = absurd (z refl)
-  marks-skip (call.Restart p n) e z = record { accepted = a; parameter = p; count = n; restart = e; skip = skip-of (taskAt (t .tasks) (caller t .0) .start) (t .rest .clock) p n z }
-  marks-skip (call.Pause u n) e z = absurd (z refl)
-  marks-skip (call.CancelPause k) e z = absurd (z refl)
-  marks-skip (call.StartIfDormant o k) e z = absurd (z refl)
-  marks-skip (call.StartOrQueue o k x) e z = absurd (z refl)
-  marks-skip (call.Flag o f) e z = absurd (z refl)
-  marks-skip (call.Wait m x) e z = absurd (z refl)
-  marks-skip (call.Alarm u n f) e z = absurd (z refl)
-  marks-skip call.Tick e z = absurd (z refl)
-  marks-skip (call.Granule g) e z = absurd (z refl)
-  marks-skip (call.Task q m) e z = absurd (z refl)
-  marks-skip call.End e z = absurd (z refl)
+  marks-skip z =
+      let r = tells t (callIn s) .skips z in
+      let y : marksOf t (call.Restart (r .parameter) (r .count)) .skipped ≢ 0 = λ e. z (ap (λ (c : Call). marksOf t c .skipped) (r .call) ∙ e) in
+      record { accepted = a; parameter = r .parameter; count = r .count; restart = r .call; skip = skip-of (taskAt (t .tasks) (caller t .0) .start) (t .rest .clock) (r .parameter) (r .count) y }
 
 elsewhere : (t : Table) (s : List ℕ) → stepOf t s .answer .skipped ≢ 0 → Skips t s
 unfolding stepOf
 elsewhere t s z =
     let o = outcome-skipped t (firstOf (refusals t s)) (callIn s) z in
-    marks-skip t s (number-is t (firstOf (refusals t s)) (callIn s) ∙ o .0) (callIn s) refl (o .1)
+    marks-skip t s (number-is t (firstOf (refusals t s)) (callIn s) ∙ o .0) (o .1)
 
 pub skipping : Skipping
 unfolding tasksFrom tasksIn configurationIn kindOf readAs readOf behind pad taskAt putAt enterAt departed entered depart enterInFlight enterAllInFlight applyInFlight interval aimAt placeOf isSet each rung advanced waking terminatePlan restartPlan pausePlan cancelPausePlan priorityOf waitOf argumentOf startNowPlan queueRequestPlan startIfDormantPlan requestOf startOrQueuePlan setPlan resetPlan flagPlan waitPlan alarmPlan tickPlan upTo allOf sumOf numbersRight falls exactAt queueRight timesRight startedRight masksRight busyRight waitersAt waitersRight dormantRight poolRight allButQueue isWellFormed planOf nobodyActive badBody namesCaller alarmRunning poolFull endsTime refusals firstOf marksOf accepted refused stepOf taskRight isConfiguration sleepers dormantTable markedStart starters freshTable freshOf after missed nextOnGrid skippedOf passing raisings putByTime byTime timed items levelsOf

@@ -26,7 +26,7 @@ use Rattle.executive.specs.Places.{never}
 use Rattle.executive.specs.Plans.{caller, stateAt}
 use Rattle.executive.specs.States.{isDormant}
 use Rattle.executive.specs.Check.{isWellFormed}
-use Rattle.executive.specs.Sheet.{noSuchTask}
+use Rattle.executive.specs.Sheet.{noSuchTask, marksOf}
 use Rattle.executive.specs.Refusals.{kindOfRecord, callIn, isTick, nobodyActive, badBody, namesCaller, alarmRunning, poolFull, endsTime, refusals}
 use Rattle.executive.specs.Step.{stepOf}
 use Rattle.executive.specs.Promises.InWords.{Bit, NoCall, NoTask, BadBody, NamesCaller, AlarmRunning, PoolFull, Case, cases, First, Given}
@@ -178,40 +178,48 @@ module _ (t : Table) where
   late-said = says-lt endOfTime (t .rest .clock .0 + t .rest .granule)
 
   -- what the sheet says of some kinds only tells the kind
+  pub record Restarts (c : Call) : Type 0 where
+    pub parameter : ℕ
+    pub count : ℕ
+    pub call : c ≡ call.Restart parameter count
+
   pub record Tells (c : Call) : Type 0 where
     pub tick : isTick t c ≡ true → c ≡ call.Tick
     pub caller : namesCaller t c ≡ true → NamesCaller t c
     pub running : alarmRunning t c ≡ true → AlarmRunning t c
     pub full : poolFull t c ≡ true → PoolFull t c
     pub late : endsTime t c ≡ true → (c ≡ call.Tick) × (endOfTime < t .rest .clock .0 + t .rest .granule)
+    pub skips : marksOf t c .skipped ≢ 0 → Restarts c
 
   pub tells : (c : Call) → Tells c
-  unfolding namesCaller alarmRunning poolFull endsTime
-  tells call.Terminate = record { tick = λ e. false-not-true e; caller = λ e. false-not-true e; running = λ e. false-not-true e; full = λ e. false-not-true e; late = λ e. false-not-true e }
-  tells (call.Restart p n) = record { tick = λ e. false-not-true e; caller = λ e. false-not-true e; running = λ e. false-not-true e; full = λ e. false-not-true e; late = λ e. false-not-true e }
-  tells (call.Pause u n) = record { tick = λ e. false-not-true e; caller = λ e. false-not-true e; running = λ e. false-not-true e; full = λ e. false-not-true e; late = λ e. false-not-true e }
-  tells (call.CancelPause k) = record { tick = λ e. false-not-true e; caller = λ e. false-not-true e; running = λ e. false-not-true e; full = λ e. false-not-true e; late = λ e. false-not-true e }
-  tells (call.StartIfDormant o k) = record { tick = λ e. false-not-true e; caller = λ e. false-not-true e; running = λ e. false-not-true e; full = λ e. false-not-true e; late = λ e. false-not-true e }
+  unfolding namesCaller alarmRunning poolFull endsTime marksOf
+  tells call.Terminate = record { tick = λ e. false-not-true e; caller = λ e. false-not-true e; running = λ e. false-not-true e; full = λ e. false-not-true e; late = λ e. false-not-true e; skips = λ z. absurd (z refl) }
+  tells (call.Restart p n) = record { tick = λ e. false-not-true e; caller = λ e. false-not-true e; running = λ e. false-not-true e; full = λ e. false-not-true e; late = λ e. false-not-true e; skips = λ z. record { parameter = p; count = n; call = refl } }
+  tells (call.Pause u n) = record { tick = λ e. false-not-true e; caller = λ e. false-not-true e; running = λ e. false-not-true e; full = λ e. false-not-true e; late = λ e. false-not-true e; skips = λ z. absurd (z refl) }
+  tells (call.CancelPause k) = record { tick = λ e. false-not-true e; caller = λ e. false-not-true e; running = λ e. false-not-true e; full = λ e. false-not-true e; late = λ e. false-not-true e; skips = λ z. absurd (z refl) }
+  tells (call.StartIfDormant o k) = record { tick = λ e. false-not-true e; caller = λ e. false-not-true e; running = λ e. false-not-true e; full = λ e. false-not-true e; late = λ e. false-not-true e; skips = λ z. absurd (z refl) }
   tells (call.StartOrQueue o k a) = record {
     tick = λ e. false-not-true e;
     caller = λ e. record { option = o; target = k; argument = a; call = refl; said = caller-said o k .0 e };
     running = λ e. false-not-true e;
     full = λ e. record { option = o; target = k; argument = a; call = refl; said = full-said k .0 e };
     late = λ e. false-not-true e;
+    skips = λ z. absurd (z refl);
   }
-  tells (call.Flag o f) = record { tick = λ e. false-not-true e; caller = λ e. false-not-true e; running = λ e. false-not-true e; full = λ e. false-not-true e; late = λ e. false-not-true e }
-  tells (call.Wait m mask) = record { tick = λ e. false-not-true e; caller = λ e. false-not-true e; running = λ e. false-not-true e; full = λ e. false-not-true e; late = λ e. false-not-true e }
+  tells (call.Flag o f) = record { tick = λ e. false-not-true e; caller = λ e. false-not-true e; running = λ e. false-not-true e; full = λ e. false-not-true e; late = λ e. false-not-true e; skips = λ z. absurd (z refl) }
+  tells (call.Wait m mask) = record { tick = λ e. false-not-true e; caller = λ e. false-not-true e; running = λ e. false-not-true e; full = λ e. false-not-true e; late = λ e. false-not-true e; skips = λ z. absurd (z refl) }
   tells (call.Alarm u n f) = record {
     tick = λ e. false-not-true e;
     caller = λ e. false-not-true e;
     running = λ e. record { unit = u; count = n; flag = f; call = refl; said = running-said f .0 e };
     full = λ e. false-not-true e;
     late = λ e. false-not-true e;
+    skips = λ z. absurd (z refl);
   }
-  tells call.Tick = record { tick = λ e. refl; caller = λ e. false-not-true e; running = λ e. false-not-true e; full = λ e. false-not-true e; late = λ e. (refl, late-said .0 e) }
-  tells (call.Granule g) = record { tick = λ e. false-not-true e; caller = λ e. false-not-true e; running = λ e. false-not-true e; full = λ e. false-not-true e; late = λ e. false-not-true e }
-  tells (call.Task p m) = record { tick = λ e. false-not-true e; caller = λ e. false-not-true e; running = λ e. false-not-true e; full = λ e. false-not-true e; late = λ e. false-not-true e }
-  tells call.End = record { tick = λ e. false-not-true e; caller = λ e. false-not-true e; running = λ e. false-not-true e; full = λ e. false-not-true e; late = λ e. false-not-true e }
+  tells call.Tick = record { tick = λ e. refl; caller = λ e. false-not-true e; running = λ e. false-not-true e; full = λ e. false-not-true e; late = λ e. (refl, late-said .0 e); skips = λ z. absurd (z refl) }
+  tells (call.Granule g) = record { tick = λ e. false-not-true e; caller = λ e. false-not-true e; running = λ e. false-not-true e; full = λ e. false-not-true e; late = λ e. false-not-true e; skips = λ z. absurd (z refl) }
+  tells (call.Task p m) = record { tick = λ e. false-not-true e; caller = λ e. false-not-true e; running = λ e. false-not-true e; full = λ e. false-not-true e; late = λ e. false-not-true e; skips = λ z. absurd (z refl) }
+  tells call.End = record { tick = λ e. false-not-true e; caller = λ e. false-not-true e; running = λ e. false-not-true e; full = λ e. false-not-true e; late = λ e. false-not-true e; skips = λ z. absurd (z refl) }
 
   module _ (c : Call) where
     says-tick : Says (isTick t c) (c ≡ call.Tick)
