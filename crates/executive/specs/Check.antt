@@ -21,7 +21,7 @@ use Rattle.executive.specs.Lists.{one, sumOf, _and_, upTo, allOf}
 use Rattle.executive.specs.Pool.{requests}
 use Rattle.executive.specs.Places.{taskAt}
 use Rattle.executive.specs.Table.{items, view, levelsOf}
-use Rattle.executive.specs.States.{ready, awaitStart, awaitEnd, timeOf, maskOf, isOf, is, isDormant, hasTime, hasMask, waitMode}
+use Rattle.executive.specs.States.{ready, awaitStart, awaitEnd, timeOf, maskOf, isOf, is, isDormant, hasTime, hasMask, waitMode, isReady}
 use Rattle.executive.specs.Flags.{met}
 use Rattle.executive.specs.WellFormed.{WellFormed, startsOf, endsOf, runsOf}
 
@@ -67,24 +67,25 @@ unfoldable pub falls : List Task → ℕ → ℕ → List TaskNo → Bool
 falls ts n p [] = true
 falls ts n p (k ∷ ks) = cond (isTask n k) (cond (leb (taskAt ts (k .0) .priority) p) (falls ts n (taskAt ts (k .0) .priority) ks) false) false
 
--- how often the number k stands in a line: once if it is ready, else never
+-- how often the number k stands in a line: once if its state passes the line's test, else never
 abbrev pub standsIn : ℕ → List TaskNo → ℕ
 standsIn k xs = sumOf (λ (x : TaskNo). one (eqb k (x .0))) xs
 
-unfoldable pub exactAt : List Task → List TaskNo → ℕ → Bool
-exactAt ts xs k = eqb (standsIn k xs) (is ready (taskAt ts k .state))
+unfoldable pub exactAt : (State → Bool) → List Task → List TaskNo → ℕ → Bool
+exactAt f ts xs k = eqb (standsIn k xs) (one (f (taskAt ts k .state)))
 
--- the queue q, of which the first r places are taken, of n tasks: its own tests, which look at the entries besides
-abbrev pub lineRight : List Task → ℕ → ℕ → List TaskNo → Bool
-lineRight ts n r q =
+-- the line q, of which the first r places are taken, of those of n tasks whose state passes a test: its own tests,
+-- which look at the entries besides
+abbrev pub lineRight : (State → Bool) → List Task → ℕ → ℕ → List TaskNo → Bool
+lineRight f ts n r q =
     leb n mostTasks
     and leb r mostTasks
     and falls ts n highest (take r q)
-    and upTo (exactAt ts (take r q)) n
+    and upTo (exactAt f ts (take r q)) n
     and allOf isNobody (drop r q)
 
 abbrev pub orderRight : Table → Bool
-orderRight t = eqb (length (t .queue)) mostTasks and lineRight (t .tasks) (t .rest .count) (t .ready) (t .queue)
+orderRight t = eqb (length (t .queue)) mostTasks and lineRight isReady (t .tasks) (t .rest .count) (t .ready) (t .queue)
 
 -- the word of the ready levels is the queue's
 abbrev pub levelsRight : Table → Bool
@@ -96,7 +97,7 @@ lineLit ts n r q w =
     leb n mostTasks
     and leb r mostTasks
     and (falls ts n highest (take r q) and eqb w (levelsOf (items ts (take r q))))
-    and upTo (exactAt ts (take r q)) n
+    and upTo (exactAt isReady ts (take r q)) n
     and allOf isNobody (drop r q)
 
 unfoldable pub queueRight : Table → Bool

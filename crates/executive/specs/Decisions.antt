@@ -39,7 +39,7 @@ use Rattle.executive.specs.Clock.{interval, aimAt, withAlarm, isDue, adv
 use Rattle.executive.specs.Flags.{withFlags, flagSet, flagReset, met, modeOf}
 use Rattle.executive.specs.WellFormed.{Line, Unmet}
 use Rattle.executive.specs.Plans.{priorityOf, waitOf, argumentOf, atOnce, asks, holds, passing, storedTime, timed}
-use Rattle.executive.specs.States.{ready, isDormant, isPaused}
+use Rattle.executive.specs.States.{ready, isDormant, isPaused, isReady}
 
 -- ---- who enters, and how
 abbrev pub entrant : TaskNo → How → Entrant
@@ -161,7 +161,7 @@ pub record Doable (d : Deed) (t : Table) : Type 0 where
   pub fit : ArraysInOrder t
   pub room : depart (outFor (d .leave)) t .ready + d .entrants .count ≤ mostTasks
   pub able : Able (d .change) (t .rest)
-  pub queue : Line ready (t .tasks) (line t)
+  pub queue : Line isReady (t .tasks) (line t)
   pub lit : t .levels ≡ levelsOf (view t)
   pub finds : FindsRoom (joinsFor (d .request) (t .rest .clock) (named (d .entrants))) (depart (outFor (d .leave)) t)
 

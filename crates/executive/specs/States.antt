@@ -90,6 +90,9 @@ is n s = one (isOf n s)
 abbrev pub isDormant : State → Bool
 isDormant s = isOf dormant s
 
+abbrev pub isReady : State → Bool
+isReady s = isOf ready s
+
 -- one that is due to restart is not paused
 abbrev pub isPaused : State → Bool
 isPaused s = isOf paused s

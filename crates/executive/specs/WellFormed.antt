@@ -1,7 +1,7 @@
 -- A well-formed table (docs/TABLE.md): a field for each of its rules, in their order. Rules on links and names are
 -- counts.
 use mathlib.Core.Path.{_≡_}
-use mathlib.Core.Bool.{true, false, not, cond}
+use mathlib.Core.Bool.{Bool, true, false, not, cond}
 use mathlib.Core.Logic.{_↔_}
 use mathlib.Core.List.{List}
 use Prim.Native.Nat.{ℕ, _+_, _≤_, _<_, _^_}
@@ -19,7 +19,7 @@ use Rattle.executive.specs.Queue.{count, Desc}
 use Rattle.executive.specs.Places.{nobody, never, noTask, noRequest, taskAt}
 use Rattle.executive.specs.Table.{line, items}
 use Rattle.executive.specs.Pool.{requests}
-use Rattle.executive.specs.States.{dormant, ready, awaitStart, awaitEnd, timeOf, maskOf, is, hasTime, hasMask, waitMode}
+use Rattle.executive.specs.States.{dormant, ready, awaitStart, awaitEnd, timeOf, maskOf, is, hasTime, hasMask, waitMode, isReady}
 use Rattle.executive.specs.Flags.{isSet, met}
 
 -- how many requests name task k: as their target, as the waiter for their start, as the waiter for the end of the
@@ -75,14 +75,14 @@ pub record InRange (t : Table) : Type 0 where
   pub priorities : overPriority (requests (t .rest)) ≡ 0
   pub names : outOfRange (t .rest .count) (requests (t .rest)) ≡ 0
 
--- ---- the line r holds exactly the tasks of ts whose state is of kind n, once each, in descending priority
-pub record Line (n : ℕ) (ts : List Task) (r : List TaskNo) : Type 0 where
-  pub exact : (k : ℕ) → count k (items ts r) ≡ is n (taskAt ts k .state)
+-- ---- the line r holds exactly the tasks of ts whose state passes a test, once each, in descending priority
+pub record Line (f : State → Bool) (ts : List Task) (r : List TaskNo) : Type 0 where
+  pub exact : (k : ℕ) → count k (items ts r) ≡ one (f (taskAt ts k .state))
   pub sorted : Desc (items ts r)
 
 -- the ready queue holds exactly the ready tasks; its free places are zero
 pub record Queue (t : Table) : Type 0 where
-  pub exactly : Line ready (t .tasks) (line t)
+  pub exactly : Line isReady (t .tasks) (line t)
   pub tidy : t .queue ≡ pad mostTasks nobody (line t)
 
 -- ---- a stored time is after the clock c and at most the largest interval after it

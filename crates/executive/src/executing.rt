@@ -11,7 +11,7 @@ use crate::decisions::Leave;
 ghost use mathlib.Core.Path.{_≡_};
 ghost use Rattle.executive.specs.Table.{ArraysInOrder, FindsRoom, InFlight, line, view, levelsOf, relit, left?, depart};
 ghost use Rattle.executive.specs.Table.{withRest, enterAllInFlight, litInFlight, applyInFlight};
-ghost use Rattle.executive.specs.States.{ready};
+ghost use Rattle.executive.specs.States.{isReady};
 ghost use Rattle.executive.specs.WellFormed.{Line};
 ghost use Rattle.executive.specs.Pool.{PoolInOrder};
 ghost use Rattle.executive.specs.Decisions.{named, outFor, joinsFor, alters, changed, meant, Able, Doable};
@@ -99,7 +99,7 @@ impl Table {
 
     // The caller leaves, if it is to.
     fn left(mut self, how: Leave) -> Table
-        requires { ⌜ ArraysInOrder self × Line ready (self .tasks) (line self) × (self .levels ≡ levelsOf (view self)) ⌝ }
+        requires { ⌜ ArraysInOrder self × Line isReady (self .tasks) (line self) × (self .levels ≡ levelsOf (view self)) ⌝ }
         ensures { λ r. ⌜ r ≡ relit (depart (outFor how) self) ⌝ }
     {
         if leaves(how) {

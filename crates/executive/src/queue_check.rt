@@ -10,7 +10,7 @@ ghost use Prim.Native.Nat.{_≤_, _<_, _+_};
 ghost use lib.Dec.{eqb};
 ghost use lib.ListN.{drop, take};
 ghost use Rattle.executive.specs.Lists.{one, upTo, allOf, _and_};
-ghost use Rattle.executive.specs.States.{ready, is};
+ghost use Rattle.executive.specs.States.{ready, is, isReady};
 ghost use Rattle.executive.specs.Table.{items, levelsOf};
 ghost use Rattle.executive.specs.Check.{isNobody, falls, exactAt, lineLit, Tallies};
 
@@ -96,7 +96,7 @@ fn exact_at(s: State, n: u8) -> bool
 
 fn all_exact(tasks: [Task; 16], queue: [TaskNo; 16], ready: usize, count: u8) -> bool
     requires { ⌜ (ready ≤ 16) × (count ≤ 16) ⌝ }
-    ensures { λ r. ⌜ r ≡ upTo (exactAt tasks (take ready queue)) count ⌝ }
+    ensures { λ r. ⌜ r ≡ upTo (exactAt isReady tasks (take ready queue)) count ⌝ }
 {
     let c = tally(queue, ready);
     let mut k: u8 = 0;

@@ -12,7 +12,7 @@ use Rattle.executive.specs.Queue.{count}
 use Rattle.executive.specs.Table.{ArraysInOrder, line, items, relit, headOf, Out, stays, leaves, Join, Plan, FindsRoom, entered, depart, join, joins, withRest, apply, begin, enterInFlight, enterAllInFlight, applyInFlight, change-at, outTasks}
 use Rattle.executive.specs.Pool.{requests}
 use Rattle.executive.specs.Places.{taskAt, putAt}
-use Rattle.executive.specs.States.{ready, is}
+use Rattle.executive.specs.States.{ready, is, isReady}
 use Rattle.executive.specs.WellFormed.{Line}
 use Rattle.executive.proofs.Plans.WorkingForm.{EntriesOk, LinksOk, RestOk, WellFormedByPart}
 use Rattle.executive.proofs.queue.ArraysAreLists.{enter-length, line-length, departed-fit, entered-fit}
@@ -62,7 +62,7 @@ plan-in-flight p t = ap (λ (u : Table). relit (withRest (p .rest) u)) (joins-in
 
 -- what the entries come to, one after the other
 pub record JoinsKeep (js : List Join) (t : Table) : Type 0 where
-  pub queue : Line ready (joins js t .tasks) (line (joins js t))
+  pub queue : Line isReady (joins js t .tasks) (line (joins js t))
   pub entering : Entering js t
   pub fit : ArraysInOrder (joins js t)
   pub room : FindsRoom js t
@@ -80,7 +80,7 @@ joined-tasks : (j : Join) (t : Table) → join j t .tasks ≡ change-at (t .task
 unfolding join entered
 joined-tasks j t = refl
 
-pub joins-kept : (js : List Join) (t : Table) → ArraysInOrder t → Line ready (t .tasks) (line t) → JoinsAll js (t .tasks) → JoinsKeep js t
+pub joins-kept : (js : List Join) (t : Table) → ArraysInOrder t → Line isReady (t .tasks) (line t) → JoinsAll js (t .tasks) → JoinsKeep js t
 unfolding joins
 joins-kept [] t f q h = record { queue = q; entering = tt; fit = f; room = tt; size = omega (arith, f .few) }
 joins-kept (j ∷ js) t f q h =
@@ -96,23 +96,23 @@ joins-kept (j ∷ js) t f q h =
       size = omega (arith, r .size, joined-ready j t);
     }
 
-nobody-put : (ts : List Task) (e : Task) → Line ready ts [] → Line ready (putAt ts 0 e) []
+nobody-put : (ts : List Task) (e : Task) → Line isReady ts [] → Line isReady (putAt ts 0 e) []
 unfolding putAt
 nobody-put ts e q = q
 
-out-kept : (o : Out) (t : Table) → ArraysInOrder t → Line ready (t .tasks) (line t) → outReady o (taskAt (t .tasks) (headOf (line t) .0)) ≡ 0 → ArraysInOrder (depart o t) × Line ready (depart o t .tasks) (line (depart o t))
+out-kept : (o : Out) (t : Table) → ArraysInOrder t → Line isReady (t .tasks) (line t) → outReady o (taskAt (t .tasks) (headOf (line t) .0)) ≡ 0 → ArraysInOrder (depart o t) × Line isReady (depart o t .tasks) (line (depart o t))
 unfolding depart
 out-kept stays t f q h = (f, q)
 out-kept (leaves g) t f q h = (departed-fit t f (g (taskAt (t .tasks) (headOf (line t) .0))), rw (leave-line g t, out-tasks (leaves g) t) (go (line t) q h))
   where
-    go : (r : List TaskNo) → Line ready (t .tasks) r → is ready (g (taskAt (t .tasks) (headOf r .0)) .state) ≡ 0 → Line ready (change-at (t .tasks) (headOf r .0) g) (tail r)
+    go : (r : List TaskNo) → Line isReady (t .tasks) r → is ready (g (taskAt (t .tasks) (headOf r .0)) .state) ≡ 0 → Line isReady (change-at (t .tasks) (headOf r .0) g) (tail r)
     go [] q h = nobody-put (t .tasks) (g (taskAt (t .tasks) 0)) q
-    go (c ∷ r) q h = line-out ready (t .tasks) c (g (taskAt (t .tasks) (c .0))) r (omega arith) q h
+    go (c ∷ r) q h = line-out isReady (t .tasks) c (g (taskAt (t .tasks) (c .0))) r refl q h
 
-pub once : (ts : List Task) (r : List TaskNo) → Line ready ts r → count (headOf r .0) (items ts (tail r)) ≡ 0
+pub once : (ts : List Task) (r : List TaskNo) → Line isReady ts r → count (headOf r .0) (items ts (tail r)) ≡ 0
 unfolding items count
 once ts [] q = refl
-once ts (c ∷ r) q = head-is ready ts c r (omega arith) q .alone
+once ts (c ∷ r) q = head-is isReady ts c r refl q .alone
 
 pub record GoodOutcome (p : Plan) (t : Table) : Type 0 where
   pub formed : WellFormedByPart (apply p t)
@@ -124,7 +124,7 @@ pub record GoodOutcome (p : Plan) (t : Table) : Type 0 where
 pub moves-kept : (o : Out) (js : List Join) (t : Table) → WellFormedByPart t → outReady o (taskAt (t .tasks) (headOf (line t) .0)) ≡ 0 → JoinsAll js (outTasks o (t .tasks) (headOf (line t) .0))
     → JoinsKeep js (depart o t)
 moves-kept o js t w z g =
-    let q : ArraysInOrder (depart o t) × Line ready (depart o t .tasks) (line (depart o t)) = out-kept o t (w .fit) (w .queue) z in
+    let q : ArraysInOrder (depart o t) × Line isReady (depart o t .tasks) (line (depart o t)) = out-kept o t (w .fit) (w .queue) z in
     joins-kept js (depart o t) (q .0) (q .1) (rw (out-tasks o t) g)
 
 pub apply-kept : (p : Plan) (t : Table) → WellFormedByPart t → Good p t → GoodOutcome p t

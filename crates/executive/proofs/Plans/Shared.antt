@@ -19,7 +19,7 @@ use Rattle.executive.specs.Plans.{waking, nothing}
 use Rattle.executive.specs.Pool.{withRequests, PoolInOrder, requests}
 use Rattle.executive.specs.Places.{noRequest, Names, taskAt, putAt}
 use Rattle.executive.specs.Table.{line, headOf, leaves, Join, change-at}
-use Rattle.executive.specs.States.{dormant, ready, awaitStart, awaitEnd, is, stateKind}
+use Rattle.executive.specs.States.{dormant, ready, awaitStart, awaitEnd, is, stateKind, isReady}
 use Rattle.executive.specs.WellFormed.{overPriority, Line}
 use Rattle.executive.proofs.Plans.WorkingForm.{StateOk, EntryOk, EntriesOk, RestOk, WellFormedByPart, busy-within, busy-own}
 use Rattle.executive.proofs.Lists.Tests.{false-not-true}
@@ -58,9 +58,9 @@ pub record Runs (ts : List Task) (c : ℕ) : Type 0 where
   pub no-end : is awaitEnd (taskAt ts c .state) ≡ 0
   pub names : Names c ts
 
-caller-ready : (ts : List Task) (r : List TaskNo) → Line ready ts r → 0 < length r → is ready (taskAt ts (headOf r .0) .state) ≡ 1
+caller-ready : (ts : List Task) (r : List TaskNo) → Line isReady ts r → 0 < length r → is ready (taskAt ts (headOf r .0) .state) ≡ 1
 caller-ready ts [] q h = absurd (omega arith)
-caller-ready ts (c ∷ r) q h = head-is ready ts c r (omega arith) q .is-of
+caller-ready ts (c ∷ r) q h = head-is isReady ts c r refl q .is-of
 
 pub runs : (t : Table) → WellFormedByPart t → 0 < t .ready → Runs (t .tasks) (headOf (line t) .0)
 runs t w h =

@@ -17,7 +17,7 @@ use Rattle.executive.specs.Lists.{one, sumOf}
 use Rattle.executive.specs.Pool.{PoolInOrder, requests}
 use Rattle.executive.specs.Table.{ArraysInOrder, line, view, levelsOf}
 use Rattle.executive.specs.Places.{never, noTask, taskAt}
-use Rattle.executive.specs.States.{dormant, ready, awaitStart, awaitEnd, is, isDormant}
+use Rattle.executive.specs.States.{dormant, ready, awaitStart, awaitEnd, is, isDormant, isReady}
 use Rattle.executive.specs.WellFormed.{targetsOf, startsOf, endsOf, runsOf, overPriority, outOfRange, waitsForItself, twoWaiters, dormantTarget, Line, Stored, Timely, Unmet, Zeros, WellFormed}
 use Rattle.executive.proofs.states.Laws.{dormant-named, dormant-kind}
 use Rattle.executive.proofs.Lists.Tests.{So-of-true, eqb-self, not-zero, Lt, lt-yes, lt-no, ltb-is, false-not-true}
@@ -64,7 +64,7 @@ EntriesOk r ts = (k : ℕ) → EntryOk (r .clock .0) (r .flags) (r .count) k (ta
 
 pub record WellFormedByPart (t : Table) : Type 0 where
   pub fit : ArraysInOrder t
-  pub queue : Line ready (t .tasks) (line t)
+  pub queue : Line isReady (t .tasks) (line t)
   pub links : LinksOk (t .tasks) (requests (t .rest))
   pub own : EntriesOk (t .rest) (t .tasks)
   pub rested : RestOk (t .rest)

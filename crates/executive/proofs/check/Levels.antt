@@ -16,7 +16,7 @@ use Rattle.executive.specs.Lists.{one}
 use Rattle.executive.specs.Queue.{Item, count}
 use Rattle.executive.specs.Places.{taskAt}
 use Rattle.executive.specs.Table.{line, items, view, levelBit, levelsOf}
-use Rattle.executive.specs.States.{ready, isOf, is}
+use Rattle.executive.specs.States.{ready, isOf, is, isReady}
 use Rattle.executive.specs.Flags.{isSet}
 use Rattle.executive.specs.WellFormed.{Line, Lit, Levels}
 use Rattle.executive.proofs.Lists.Tests.{false-not-true, eqb-self}
@@ -93,7 +93,7 @@ ready-some s h = go (isOf ready s) h
     go false h = absurd (omega arith)
 
 -- ---- the two forms of the rule
-module _ (t : Table) (q : Line ready (t .tasks) (line t)) (low : (k : ℕ) → taskAt (t .tasks) k .priority ≤ 15) where
+module _ (t : Table) (q : Line isReady (t .tasks) (line t)) (low : (k : ℕ) → taskAt (t .tasks) k .priority ≤ 15) where
   lit-of : (p : ℕ) → isSet (levelsOf (view t)) p ≡ true → Lit t p
   lit-of p h =
       let s = set-stands (t .tasks) p (line t) h in

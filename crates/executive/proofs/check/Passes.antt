@@ -13,6 +13,7 @@ use Rattle.records.specs.declared.TaskNo.{TaskNo}
 use Rattle.executive.specs.declared.Task.{Task}
 use Rattle.executive.specs.declared.Request.{Request}
 use Rattle.executive.specs.declared.Rest.{Rest}
+use Rattle.executive.specs.declared.State.{State}
 use Rattle.executive.specs.Lists.{one, _and_, upTo, allOf}
 use Rattle.executive.specs.Places.{noTask, taskAt, entryPlace}
 use Rattle.executive.specs.Pool.{requests}
@@ -55,27 +56,27 @@ pub at-next : (ts : List Task) (k : ℕ) → taskAt ts (k + 1) ≡ getD ts k noT
 unfolding taskAt
 at-next ts k = rw add-one refl
 
--- that a task stands in the queue as often as its state says, by a tally of the line
-unfoldable pub talliedAt : List ℕ → List Task → ℕ → Bool
-talliedAt c ts k = eqb (getD c (k - 1) 0) (is ready (taskAt ts k .state))
+-- that a task stands in a line as often as its state says, by a tally of the line
+unfoldable pub talliedAt : (State → Bool) → List ℕ → List Task → ℕ → Bool
+talliedAt f c ts k = eqb (getD c (k - 1) 0) (one (f (taskAt ts k .state)))
 
-pub tallied-next : (c : List ℕ) (ts : List Task) (k : ℕ) → eqb (getD c k 0) (is ready (getD ts k noTask .state)) ≡ talliedAt c ts (k + 1)
+pub tallied-next : (f : State → Bool) (c : List ℕ) (ts : List Task) (k : ℕ) → eqb (getD c k 0) (one (f (getD ts k noTask .state))) ≡ talliedAt f c ts (k + 1)
 unfolding talliedAt
-tallied-next c ts k = let z : k + 1 - 1 ≡ k = omega arith in rw (z, at-next ts k) refl
+tallied-next f c ts k = let z : k + 1 - 1 ≡ k = omega arith in rw (z, at-next ts k) refl
 
 same-up : (f g : ℕ → Bool) (n : ℕ) → ((k : ℕ) → 0 < k → k ≤ n → f k ≡ g k) → upTo f n ≡ upTo g n
 unfolding upTo
 same-up f g zero h = refl
 same-up f g (suc n) h = rw (same-up f g n (λ k a b. h k a (omega arith)), h (suc n) (omega arith) (omega arith)) refl
 
-pub tallied-exact : (c : List ℕ) (ts : List Task) (xs : List TaskNo) (n : ℕ) → n ≤ 16 → Tallies c xs → upTo (talliedAt c ts) n ≡ upTo (exactAt ts xs) n
+pub tallied-exact : (f : State → Bool) (c : List ℕ) (ts : List Task) (xs : List TaskNo) (n : ℕ) → n ≤ 16 → Tallies c xs → upTo (talliedAt f c ts) n ≡ upTo (exactAt f ts xs) n
 unfolding talliedAt exactAt
-tallied-exact c ts xs n l t = same-up (talliedAt c ts) (exactAt ts xs) n at
+tallied-exact f c ts xs n l t = same-up (talliedAt f c ts) (exactAt f ts xs) n at
   where
-    at : (k : ℕ) → 0 < k → k ≤ n → talliedAt c ts k ≡ exactAt ts xs k
+    at : (k : ℕ) → 0 < k → k ≤ n → talliedAt f c ts k ≡ exactAt f ts xs k
     at k a b =
         let z : suc (k - 1) ≡ k = omega arith in
-        ap (λ (m : ℕ). eqb m (is ready (taskAt ts k .state))) (t .counts (k - 1) (omega arith) ∙ ap (λ (m : ℕ). standsIn m xs) z)
+        ap (λ (m : ℕ). eqb m (one (f (taskAt ts k .state)))) (t .counts (k - 1) (omega arith) ∙ ap (λ (m : ℕ). standsIn m xs) z)
 
 -- the rules on a request, with its target's entry read where it lies
 module _ (ts : List Task) (n : ℕ) (r : Request) where

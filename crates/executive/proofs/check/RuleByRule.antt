@@ -21,7 +21,7 @@ use Rattle.executive.specs.Queue.{count}
 use Rattle.executive.specs.Places.{nobody, never, noTask, noRequest, taskAt}
 use Rattle.executive.specs.Table.{line, items}
 use Rattle.executive.specs.Pool.{requests}
-use Rattle.executive.specs.States.{dormant, ready, awaitStart, awaitEnd, is, isDormant, timeOf, maskOf, hasTime, hasMask, waitMode}
+use Rattle.executive.specs.States.{dormant, ready, awaitStart, awaitEnd, is, isDormant, timeOf, maskOf, hasTime, hasMask, waitMode, isReady}
 use Rattle.executive.specs.Flags.{met}
 use Rattle.executive.specs.WellFormed.{InRange, Queue, Stored, Timely, Times, Unmet, Waiters, Zeros, startsOf, endsOf, runsOf, dormantTarget}
 use Rattle.executive.specs.Check.{entryInRange, requestInRange, isBlank, sizesRight, inBounds, numbersRight, isTask, isNobody, falls, standsIn, exactAt, orderRight, queueRight, isStored, isTimely, alarmRight, taskTimely, timesRight, isStarted, startedRight, isUnmet, taskUnmet, masksRight, targetBusy, busyRight, waitersAt, namesOthers, waitersRight, isZero, dormantEntryRight, dormantRight, isFree, poolRight}
@@ -215,12 +215,12 @@ module _ (t : Table) (w : InRange t) where
       (all-tasks (t .tasks) (t .rest .count) (line t) (λ x h. ready-no x (rw (q .exactly .exact (x .0)) at h)))
       (low (t .tasks) (t .rest .count) 15 (line t) (w .priority))
       (q .exactly .sorted))
-      (true-and (upTo (exactAt (t .tasks) (line t)) (t .rest .count)) _
-      (all-make (exactAt (t .tasks) (line t)) (t .rest .count) (λ k g h. eq-eqb _ _ (stands-count (t .tasks) k (line t) ∙ q .exactly .exact k)))
+      (true-and (upTo (exactAt isReady (t .tasks) (line t)) (t .rest .count)) _
+      (all-make (exactAt isReady (t .tasks) (line t)) (t .rest .count) (λ k g h. eq-eqb _ _ (stands-count (t .tasks) k (line t) ∙ q .exactly .exact k)))
       (pad-blank isNobody nobody refl 16 (t .ready) (t .queue) (w .sizes .queue) (q .tidy))))))
 
 module _ (t : Table) (w : InRange t) where
-  exact-get : allOf (isTask (t .rest .count)) (line t) ≡ true → upTo (exactAt (t .tasks) (line t)) (t .rest .count) ≡ true
+  exact-get : allOf (isTask (t .rest .count)) (line t) ≡ true → upTo (exactAt isReady (t .tasks) (line t)) (t .rest .count) ≡ true
       → (k : ℕ) → count k (items (t .tasks) (line t)) ≡ is ready (taskAt (t .tasks) k .state)
   unfolding exactAt
   exact-get a u k = sym (stands-count (t .tasks) k (line t)) ∙ go (place (t .rest .count) k)
@@ -230,7 +230,7 @@ module _ (t : Table) (w : InRange t) where
 
       go : Place (t .rest .count) k → standsIn k (line t) ≡ is ready (taskAt (t .tasks) k .state)
       go (nought e) = none (λ z. absurd (omega arith)) ∙ sym (rw (at-none (t .tasks) k e) refl)
-      go (among g h) = eqb-true _ _ (all-get (exactAt (t .tasks) (line t)) (t .rest .count) k u g h)
+      go (among g h) = eqb-true _ _ (all-get (exactAt isReady (t .tasks) (line t)) (t .rest .count) k u g h)
       go (past h) = none (λ z. h) ∙ sym (rw (w .beyond k h) refl)
 
   pub queue-get : orderRight t ≡ true → Queue t
@@ -239,7 +239,7 @@ module _ (t : Table) (w : InRange t) where
       let y = and-true (leb (t .rest .count) 16) _ (z .1) in
       let x = and-true (leb (t .ready) 16) _ (y .1) in
       let a = and-true (falls (t .tasks) (t .rest .count) 15 (line t)) _ (x .1) in
-      let b = and-true (upTo (exactAt (t .tasks) (line t)) (t .rest .count)) _ (a .1) in
+      let b = and-true (upTo (exactAt isReady (t .tasks) (line t)) (t .rest .count)) _ (a .1) in
       record {
         exactly = record {
           exact = exact-get (falls-tasks (t .tasks) (t .rest .count) 15 (line t) (a .0)) (b .0);

@@ -15,7 +15,7 @@ use Rattle.executive.specs.Lists.{one, pad, sumOf}
 use Rattle.executive.specs.Queue.{count}
 use Rattle.executive.specs.Places.{nobody, never, noTask, Names, taskAt, putAt}
 use Rattle.executive.specs.Table.{items, levelsOf, litInFlight, stays, Join, Plan, FindsRoom, depart, apply, begin, enterAllInFlight, applyInFlight}
-use Rattle.executive.specs.States.{dormant, ready, awaitStart, awaitEnd, is}
+use Rattle.executive.specs.States.{dormant, ready, awaitStart, awaitEnd, is, isReady}
 use Rattle.executive.specs.Plans.{asks, begins}
 use Rattle.executive.specs.WellFormed.{WellFormed, runsOf, Line}
 use Rattle.executive.specs.Configuration.{granuleIn, ownIn, markIn, tasksIn, isConfiguration, blankRest, dormantAt, sleepers, dormantTable, markedStart, starters, freshTable, freshOf, zeroTable, madeBy}
@@ -82,7 +82,7 @@ module _ (s : List ℕ) (n : ℕ) where
     quiet = λ k. any-asleep (λ e. is dormant (e .state) ≡ 1 → e .«end_waiter» .0 ≡ 0) (λ _ _. refl) k;
   }
 
-  asleep-line : Line ready asleep []
+  asleep-line : Line isReady asleep []
   unfolding items count
   asleep-line = record { exact = any-asleep (λ e. 0 ≡ is ready (e .state)) (λ _. refl); sorted = tt }
 

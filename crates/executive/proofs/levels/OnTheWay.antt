@@ -16,7 +16,7 @@ use Rattle.executive.specs.declared.Task.{Task}
 use Rattle.executive.specs.declared.Table.{Table}
 use Rattle.executive.specs.Queue.{Item, AllLe, Desc, behind, insert, count}
 use Rattle.executive.specs.Places.{nobody, taskAt, putAt}
-use Rattle.executive.specs.States.{ready}
+use Rattle.executive.specs.States.{ready, isReady}
 use Rattle.executive.specs.WellFormed.{Line}
 use Rattle.executive.specs.Table.{ArraysInOrder, line, items, view, levelBit, levelsOf, relit, headOf, departed, enterAt, entered, aheadOf, slidOf}
 use Rattle.executive.specs.Lists.{closedAt}
@@ -133,7 +133,7 @@ module _ (ts : List Task) (c : TaskNo) where
   unfolding levelsOf items
   bit-in r = or-most (levelBit p) (levelsOf (items ts r))
 
-module _ (t : Table) (f : ArraysInOrder t) (q : Line ready (t .tasks) (line t)) (e : t .levels ≡ levelsOf (view t)) (h : 0 < t .ready) where
+module _ (t : Table) (f : ArraysInOrder t) (q : Line isReady (t .tasks) (line t)) (e : t .levels ≡ levelsOf (view t)) (h : 0 < t .ready) where
   abbrev ts : List Task
   ts = t .tasks
 
@@ -165,7 +165,7 @@ module _ (t : Table) (f : ArraysInOrder t) (q : Line ready (t .tasks) (line t)) 
       rw (head-line t f d h, next-in, e) (go (line t) q (line-length t f))
       ∙ sym (ap (λ (r : List TaskNo). levelsOf (items (putAt ts (headOf (line t) .0) x) r)) (line-pad nobody 16 (tail (line t))) ∙ ap levelsOf z)
     where
-      go : (r : List TaskNo) → Line ready ts r → length r ≡ t .ready
+      go : (r : List TaskNo) → Line isReady ts r → length r ≡ t .ready
           → cleared ts (headOf r) (cond (eqb (length r) 1) 16 (level (getD r 1 nobody))) (levelsOf (items ts r)) ≡ levelsOf (items ts (tail r))
       go [] y z = absurd (omega arith)
       go (c ∷ r) y z = word-out ts c r (y .sorted)

@@ -18,7 +18,7 @@ use Rattle.executive.specs.Lists.{one}
 use Rattle.executive.specs.Queue.{count, ahead, prioIn, activeOf}
 use Rattle.executive.specs.Table.{line, itemOf, items, headOf}
 use Rattle.executive.specs.Places.{taskAt}
-use Rattle.executive.specs.States.{ready, isOf, is}
+use Rattle.executive.specs.States.{ready, isOf, is, isReady}
 use Rattle.executive.specs.Plans.{caller}
 use Rattle.executive.specs.WellFormed.{Line}
 use Rattle.executive.specs.Promises.Demands.{Dispatched}
@@ -49,7 +49,7 @@ module _ (ts : List Task) where
     pub idle : (k ≡ 0) ↔ ((j : ℕ) → is ready (taskAt ts j .state) ≡ 0)
     pub empty : (k ≡ 0) ↔ (length r ≡ 0)
 
-  pub picks : (r : List TaskNo) → Line ready ts r → Picks r (headOf r .0)
+  pub picks : (r : List TaskNo) → Line isReady ts r → Picks r (headOf r .0)
   unfolding items count activeOf
   picks [] q = record {
     head = refl;
@@ -60,7 +60,7 @@ module _ (ts : List Task) where
     empty = (λ e. refl, λ e. refl);
   }
   picks (c ∷ r) q =
-      let h : Head ready ts c r = head-is ready ts c r (omega arith) q in
+      let h : Head isReady ts c r = head-is isReady ts c r refl q in
       record {
         head = refl;
         is-ready = λ _. h .is-of;

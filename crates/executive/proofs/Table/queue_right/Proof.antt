@@ -3,6 +3,7 @@ use borrow.Author.Tests.{eq-eqb}
 use lib.Dec.{eqb, leb}
 use lib.ListN.{length, length-map, drop}
 use Rattle.executive.specs.Lists.{_and_, upTo, allOf}
+use Rattle.executive.specs.States.{isReady}
 use Rattle.executive.specs.Table.{line}
 use Rattle.executive.specs.Check.{isNobody, falls, exactAt, levelsRight, queueRight}
 use Rattle.executive.proofs.check.Descent.{lit-order}
@@ -19,7 +20,7 @@ returns c =
     let l : length (t .queue) ≡ 16 = sym (length-map (t .queue) _) ∙ s .good .0 .1 .1 .1 .0 .1 .0 .1 in
     rw (eq-eqb _ _ l)
     (c .line-right .ensures
-    ∙ lit-order (leb (t .rest .count) 16) (leb (t .ready) 16) (falls (t .tasks) (t .rest .count) 15 (line t)) (upTo (exactAt (t .tasks) (line t)) (t .rest .count) and allOf isNobody (drop (t .ready) (t .queue))) (levelsRight t))
+    ∙ lit-order (leb (t .rest .count) 16) (leb (t .ready) 16) (falls (t .tasks) (t .rest .count) 15 (line t)) (upTo (exactAt isReady (t .tasks) (line t)) (t .rest .count) and allOf isNobody (drop (t .ready) (t .queue))) (levelsRight t))
 
 pub queue-right-spec : {M : Type 1} → statement M
 queue-right-spec = tie.close (tie.spec (λ c κs. search needs) returns)
