@@ -40,6 +40,8 @@ write-read call.Tick = refl
 write-read (call.Granule g) = refl
 write-read (call.Task p m) = refl
 write-read call.End = refl
+write-read (call.Enter m) = refl
+write-read (call.Exit m) = refl
 
 -- each row's first byte is the one that its kind is looked up with
 abbrev agrees : List Row → Bool
@@ -87,6 +89,8 @@ whole kind.Tick s c b n h e = ap bytesOf (same e) ∙ laid kind.Tick s b n h
 whole kind.Granule s c b n h e = ap bytesOf (same e) ∙ laid kind.Granule s b n h
 whole kind.Task s c b n h e = ap bytesOf (same e) ∙ laid kind.Task s b n h
 whole kind.End s c b n h e = ap bytesOf (same e) ∙ laid kind.End s b n h
+whole kind.Enter s c b n h e = ap bytesOf (same e) ∙ laid kind.Enter s b n h
+whole kind.Exit s c b n h e = ap bytesOf (same e) ∙ laid kind.Exit s b n h
 
 -- reading a record and writing it gives the same bytes
 pub read-write : (s : List ℕ) (c : Call) → Bytes s → readOf s ≡ got.Call c → bytesOf c ≡ s

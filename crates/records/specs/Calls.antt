@@ -26,6 +26,8 @@ kindOfCall call.Tick = kind.Tick
 kindOfCall (call.Granule g) = kind.Granule
 kindOfCall (call.Task p m) = kind.Task
 kindOfCall call.End = kind.End
+kindOfCall (call.Enter m) = kind.Enter
+kindOfCall (call.Exit m) = kind.Exit
 
 -- the numbers of a call's body, in the order of its row
 abbrev pub fieldsOf : Call → List ℕ
@@ -42,6 +44,8 @@ fieldsOf call.Tick = []
 fieldsOf (call.Granule g) = g ∷ []
 fieldsOf (call.Task p m) = p ∷ m ∷ []
 fieldsOf call.End = []
+fieldsOf (call.Enter m) = m .0 ∷ []
+fieldsOf (call.Exit m) = m .0 ∷ []
 
 -- the call of a kind with these numbers; Unknown has none
 abbrev pub gotOf : Kind → List ℕ → Got
@@ -59,6 +63,8 @@ gotOf kind.Tick xs = got.Call call.Tick
 gotOf kind.Granule xs = got.Call (call.Granule (getD xs 0 0))
 gotOf kind.Task xs = got.Call (call.Task (getD xs 0 0) (getD xs 1 0))
 gotOf kind.End xs = got.Call call.End
+gotOf kind.Enter xs = got.Call (call.Enter (record { 0 = getD xs 0 0 }))
+gotOf kind.Exit xs = got.Call (call.Exit (record { 0 = getD xs 0 0 }))
 
 -- each number of a call is below the bound of its width
 abbrev pub InRange : Call → Type 0

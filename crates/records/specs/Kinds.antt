@@ -23,7 +23,7 @@ row k b ws = record { name = k; byte = b; body = ws; call = true }
 abbrev pub setting : Kind → ℕ → List ℕ → Row
 setting k b ws = record { name = k; byte = b; body = ws; call = false }
 
--- the table, in the order of docs/CALLS.md, 2
+-- the table, in the order of docs/CALLS.md, 2; kinds that came later stand last
 abbrev pub table : List Row
 table =
     row kind.Terminate 0x00 []
@@ -39,6 +39,8 @@ table =
     ∷ setting kind.Granule 0x40 (1 ∷ [])
     ∷ setting kind.Task 0x41 (1 ∷ 1 ∷ [])
     ∷ setting kind.End 0x42 []
+    ∷ row kind.Enter 0x06 (1 ∷ [])
+    ∷ row kind.Exit 0x07 (1 ∷ [])
     ∷ []
 
 -- what the first row that passes a test says, or else what is given for none
@@ -62,6 +64,8 @@ place kind.Tick = 10
 place kind.Granule = 11
 place kind.Task = 12
 place kind.End = 13
+place kind.Enter = 14
+place kind.Exit = 15
 
 abbrev pub isOf : Kind → Row → Bool
 isOf k r = eqb (place k) (place (r .name))

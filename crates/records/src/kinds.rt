@@ -20,6 +20,8 @@ pub fn kind_of(byte: u8) -> Kind
         0x40 => Kind::Granule,
         0x41 => Kind::Task,
         0x42 => Kind::End,
+        0x06 => Kind::Enter,
+        0x07 => Kind::Exit,
         _ => Kind::Unknown,
     }
 }
@@ -43,6 +45,8 @@ pub fn length_of(kind: Kind) -> usize
         Kind::Granule => 2,
         Kind::Task => 3,
         Kind::End => 1,
+        Kind::Enter => 2,
+        Kind::Exit => 2,
     }
 }
 
@@ -65,5 +69,7 @@ pub fn is_call(kind: Kind) -> bool
         Kind::Granule => false,
         Kind::Task => false,
         Kind::End => false,
+        Kind::Enter => true,
+        Kind::Exit => true,
     }
 }

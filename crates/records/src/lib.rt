@@ -11,6 +11,9 @@ pub struct TaskNo(pub u8);
 // A flag's number, as it came.
 pub struct FlagNo(pub u8);
 
+// A controlled subprogram's number, as it came.
+pub struct SubNo(pub u8);
+
 // The kinds of records, and Unknown for a first byte that is no carried kind.
 pub enum Kind {
     Unknown,
@@ -27,6 +30,8 @@ pub enum Kind {
     Granule,
     Task,
     End,
+    Enter,
+    Exit,
 }
 
 // A record's kind with the numbers of its body as they came, unused bits too.
@@ -74,6 +79,12 @@ pub enum Call {
         mark: u8,
     },
     End,
+    Enter {
+        subprogram: SubNo,
+    },
+    Exit {
+        subprogram: SubNo,
+    },
 }
 
 // What reading a record answers: the call, or the number of the refusal.

@@ -3,6 +3,7 @@ use crate::Call;
 use crate::FlagNo;
 use crate::Got;
 use crate::Kind;
+use crate::SubNo;
 use crate::TaskNo;
 use crate::kinds;
 ghost use mathlib.Core.Path.{_≡_};
@@ -11,6 +12,7 @@ ghost use Rattle.records.specs.Numbers.{numberOf, cut};
 ghost use Rattle.records.specs.Kinds.{bodyOf};
 ghost use Rattle.records.specs.Calls.{gotOf};
 ghost use Rattle.records.specs.Reading.{ByteIs, Reads};
+ghost use Rattle.records.specs.declared.Kind.the-variants as kind;
 
 // The byte at a place, and 0 past the end.
 pub fn byte_at(bytes: &[u8], i: usize) -> u8
@@ -36,15 +38,39 @@ fn word(a: u8, b: u8, c: u8, d: u8) -> u32
     (((a as u32) * 256 + (b as u32)) * 256 + (c as u32)) * 256 + (d as u32)
 }
 
+// The call of a record of 05, whose argument is two bytes.
+fn start_of(bytes: &[u8]) -> Got
+    ensures { λ r. ⌜ r ≡ gotOf kind.StartOrQueue (cut (bodyOf kind.StartOrQueue) 1 (now (bytes .entry))) ⌝ }
+{
+    let c = byte_at(bytes, 3);
+    Got::Call(Call::StartOrQueue {
+        option: byte_at(bytes, 1),
+        task: TaskNo(byte_at(bytes, 2)),
+        argument: pair(c, byte_at(bytes, 4)),
+    })
+}
+
+// The call of a record of 0A, whose mask is four bytes.
+fn wait_of(bytes: &[u8]) -> Got
+    ensures { λ r. ⌜ r ≡ gotOf kind.Wait (cut (bodyOf kind.Wait) 1 (now (bytes .entry))) ⌝ }
+{
+    let b = byte_at(bytes, 2);
+    let c = byte_at(bytes, 3);
+    Got::Call(Call::Wait {
+        mode: byte_at(bytes, 1),
+        mask: word(b, c, byte_at(bytes, 4), byte_at(bytes, 5)),
+    })
+}
+
 // The call of a record that has its kind's length.
 fn call_of(kind: Kind, bytes: &[u8]) -> Got
     ensures { λ r. ⌜ r ≡ gotOf kind (cut (bodyOf kind) 1 (now (bytes .entry))) ⌝ }
 {
     let a = byte_at(bytes, 1);
     let b = byte_at(bytes, 2);
-    let c = byte_at(bytes, 3);
     let task = TaskNo(b);
     let flag = FlagNo(b);
+    let subprogram = SubNo(a);
     match kind {
         Kind::Unknown => Got::Refused(4),
         Kind::Terminate => Got::Call(Call::Terminate),
@@ -55,25 +81,20 @@ fn call_of(kind: Kind, bytes: &[u8]) -> Got
         Kind::Pause => Got::Call(Call::Pause { unit: a, count: b }),
         Kind::CancelPause => Got::Call(Call::CancelPause { task: TaskNo(a) }),
         Kind::StartIfDormant => Got::Call(Call::StartIfDormant { option: a, task }),
-        Kind::StartOrQueue => Got::Call(Call::StartOrQueue {
-            option: a,
-            task,
-            argument: pair(c, byte_at(bytes, 4)),
-        }),
+        Kind::StartOrQueue => start_of(bytes),
         Kind::Flag => Got::Call(Call::Flag { operation: a, flag }),
-        Kind::Wait => Got::Call(Call::Wait {
-            mode: a,
-            mask: word(b, c, byte_at(bytes, 4), byte_at(bytes, 5)),
-        }),
+        Kind::Wait => wait_of(bytes),
         Kind::Alarm => Got::Call(Call::Alarm {
             unit: a,
             count: b,
-            flag: FlagNo(c),
+            flag: FlagNo(byte_at(bytes, 3)),
         }),
         Kind::Tick => Got::Call(Call::Tick),
         Kind::Granule => Got::Call(Call::Granule { granule: a }),
         Kind::Task => Got::Call(Call::Task { own: a, mark: b }),
         Kind::End => Got::Call(Call::End),
+        Kind::Enter => Got::Call(Call::Enter { subprogram }),
+        Kind::Exit => Got::Call(Call::Exit { subprogram }),
     }
 }
 

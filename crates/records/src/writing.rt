@@ -42,6 +42,8 @@ fn encode(call: Call) -> Encoded
         Call::Granule { granule } => Encoded([0x40, granule, 0, 0, 0, 0], 2),
         Call::Task { own, mark } => Encoded([0x41, own, mark, 0, 0, 0], 3),
         Call::End => Encoded([0x42, 0, 0, 0, 0, 0], 1),
+        Call::Enter { subprogram } => Encoded([0x06, subprogram.0, 0, 0, 0, 0], 2),
+        Call::Exit { subprogram } => Encoded([0x07, subprogram.0, 0, 0, 0, 0], 2),
     }
 }
 

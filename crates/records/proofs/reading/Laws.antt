@@ -75,6 +75,8 @@ known kind.Tick = inr (λ e. omega arith, λ xs. tt)
 known kind.Granule = inr (λ e. omega arith, λ xs. tt)
 known kind.Task = inr (λ e. omega arith, λ xs. tt)
 known kind.End = inr (λ e. omega arith, λ xs. tt)
+known kind.Enter = inr (λ e. omega arith, λ xs. tt)
+known kind.Exit = inr (λ e. omega arith, λ xs. tt)
 
 -- the four cases of reading
 pub read-cases : {P : Type 0} (s : List ℕ)

@@ -68,6 +68,8 @@ bytes-short call.Tick = lit≤ tt
 bytes-short (call.Granule g) = lit≤ tt
 bytes-short (call.Task p m) = lit≤ tt
 bytes-short call.End = lit≤ tt
+bytes-short (call.Enter m) = lit≤ tt
+bytes-short (call.Exit m) = lit≤ tt
 
 -- what a buffer of at least six bytes says of a write into it: its length and its start are the call's
 module _ (c : Call) (o : List ℕ) (h : 6 ≤ length o) where

@@ -5,11 +5,27 @@ use Rattle.records.specs.Kinds.{kindOf}
 use Rattle.records.proofs.kinds.kind_of.Statement.{statement}
 use Rattle.records.proofs.kinds.kind_of.Tie as tie
 
-returns-14 : tie.Need-returns-14
+returns-16 : tie.Need-returns-16
 unfolding kindOf
-returns-14 c =
+returns-16 c =
     let x = c .match .rest in
-    simp (ne-eqb _ _ (x .0 .0 .0 .0 .0 .0 .0 .0 .0 .0 .0 .0 .1), ne-eqb _ _ (x .0 .0 .0 .0 .0 .0 .0 .0 .0 .0 .0 .1), ne-eqb _ _ (x .0 .0 .0 .0 .0 .0 .0 .0 .0 .0 .1), ne-eqb _ _ (x .0 .0 .0 .0 .0 .0 .0 .0 .0 .1), ne-eqb _ _ (x .0 .0 .0 .0 .0 .0 .0 .0 .1), ne-eqb _ _ (x .0 .0 .0 .0 .0 .0 .0 .1), ne-eqb _ _ (x .0 .0 .0 .0 .0 .0 .1), ne-eqb _ _ (x .0 .0 .0 .0 .0 .1), ne-eqb _ _ (x .0 .0 .0 .0 .1), ne-eqb _ _ (x .0 .0 .0 .1), ne-eqb _ _ (x .0 .0 .1), ne-eqb _ _ (x .0 .1), ne-eqb _ _ (x .1))
+    simp (
+      ne-eqb _ _ (x .0 .0 .0 .0 .0 .0 .0 .0 .0 .0 .0 .0 .0 .0 .1),
+      ne-eqb _ _ (x .0 .0 .0 .0 .0 .0 .0 .0 .0 .0 .0 .0 .0 .1),
+      ne-eqb _ _ (x .0 .0 .0 .0 .0 .0 .0 .0 .0 .0 .0 .0 .1),
+      ne-eqb _ _ (x .0 .0 .0 .0 .0 .0 .0 .0 .0 .0 .0 .1),
+      ne-eqb _ _ (x .0 .0 .0 .0 .0 .0 .0 .0 .0 .0 .1),
+      ne-eqb _ _ (x .0 .0 .0 .0 .0 .0 .0 .0 .0 .1),
+      ne-eqb _ _ (x .0 .0 .0 .0 .0 .0 .0 .0 .1),
+      ne-eqb _ _ (x .0 .0 .0 .0 .0 .0 .0 .1),
+      ne-eqb _ _ (x .0 .0 .0 .0 .0 .0 .1),
+      ne-eqb _ _ (x .0 .0 .0 .0 .0 .1),
+      ne-eqb _ _ (x .0 .0 .0 .0 .1),
+      ne-eqb _ _ (x .0 .0 .0 .1),
+      ne-eqb _ _ (x .0 .0 .1),
+      ne-eqb _ _ (x .0 .1),
+      ne-eqb _ _ (x .1),
+    )
 
 pub kind-of-spec : {M : Type 1} → statement M
 unfolding kindOf
@@ -29,4 +45,6 @@ kind-of-spec =
     (λ c. rw (c .match .keys11))
     (λ c. rw (c .match .keys12))
     (λ c. rw (c .match .keys13))
-    returns-14)
+    (λ c. rw (c .match .keys14))
+    (λ c. rw (c .match .keys15))
+    returns-16)
