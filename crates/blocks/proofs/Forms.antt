@@ -102,6 +102,8 @@ name-of kind.Tick e = clash e
 name-of kind.Granule e = clash e
 name-of kind.Task e = clash e
 name-of kind.End e = clash e
+name-of kind.Enter e = clash e
+name-of kind.Exit e = clash e
 
 -- a call has as many numbers as its kind's body
 pub call-length : (c : Call) → length (fieldsOf c) ≡ length (bodyOf (kindOfCall c))
@@ -118,6 +120,8 @@ call-length call.Tick = refl
 call-length (call.Granule g) = refl
 call-length (call.Task p m) = refl
 call-length call.End = refl
+call-length (call.Enter m) = refl
+call-length (call.Exit m) = refl
 
 -- a form that is found by a byte has that byte
 found-byte : (b : ℕ) (fs : List Form) → isNone (firstForm (λ f. eqb b (f .byte)) fs) ≡ false → firstForm (λ f. eqb b (f .byte)) fs .byte ≡ b
@@ -148,3 +152,5 @@ is-call kind.Tick e xs = clash e
 is-call kind.Granule e xs = clash e
 is-call kind.Task e xs = clash e
 is-call kind.End e xs = clash e
+is-call kind.Enter e xs = clash e
+is-call kind.Exit e xs = clash e

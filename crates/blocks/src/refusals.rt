@@ -98,5 +98,7 @@ pub(crate) fn by_numbers(call: Call, count: usize) -> u8
         Call::Granule { .. } => 0,
         Call::Task { .. } => 0,
         Call::End => 0,
+        Call::Enter { .. } => 0,
+        Call::Exit { .. } => 0,
     }
 }

@@ -36,5 +36,7 @@ pub(crate) fn has_block(kind: Kind) -> bool
         Kind::Granule => false,
         Kind::Task => false,
         Kind::End => false,
+        Kind::Enter => false,
+        Kind::Exit => false,
     }
 }

@@ -39,6 +39,8 @@ fn lay(list: &[u16], call: Call, work: u16) -> Laid
         Call::Granule { .. } => Laid([0, 0, 0, 0, 0, 0], 0),
         Call::Task { .. } => Laid([0, 0, 0, 0, 0, 0], 0),
         Call::End => Laid([0, 0, 0, 0, 0, 0], 0),
+        Call::Enter { .. } => Laid([0, 0, 0, 0, 0, 0], 0),
+        Call::Exit { .. } => Laid([0, 0, 0, 0, 0, 0], 0),
     }
 }
 

@@ -68,6 +68,14 @@ returns-13 : tie.Need-returns-13
 unfolding formOf firstOf
 returns-13 c = rw (c .enum-told10 .given .1)
 
+returns-14 : tie.Need-returns-14
+unfolding formOf firstOf
+returns-14 c = rw (c .enum-told11 .given .1)
+
+returns-15 : tie.Need-returns-15
+unfolding formOf firstOf
+returns-15 c = rw (c .enum-told12 .given .1)
+
 pub by-numbers-spec : {M : Type 1} → statement M
 by-numbers-spec =
     tie.close
@@ -88,6 +96,8 @@ by-numbers-spec =
     (λ c. search needs)
     (λ c. search needs)
     (λ c. search needs)
+    (λ c. search needs)
+    (λ c. search needs)
     returns
     returns-2
     returns-3
@@ -100,4 +110,6 @@ by-numbers-spec =
     returns-10
     returns-11
     returns-12
-    returns-13)
+    returns-13
+    returns-14
+    returns-15)

@@ -60,10 +60,20 @@ returns-14 : tie.Need-returns-14
 unfolding formOf
 returns-14 c = rw (c .enum-told14 .given .1)
 
+returns-15 : tie.Need-returns-15
+unfolding formOf
+returns-15 c = rw (c .enum-told15 .given .1)
+
+returns-16 : tie.Need-returns-16
+unfolding formOf
+returns-16 c = rw (c .enum-told16 .given .1)
+
 pub has-block-spec : {M : Type 1} → statement M
 has-block-spec =
     tie.close
     (tie.spec
+    (λ c. search needs)
+    (λ c. search needs)
     (λ c. search needs)
     (λ c. search needs)
     (λ c. search needs)
@@ -91,4 +101,6 @@ has-block-spec =
     returns-11
     returns-12
     returns-13
-    returns-14)
+    returns-14
+    returns-15
+    returns-16)

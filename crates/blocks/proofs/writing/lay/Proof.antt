@@ -59,6 +59,14 @@ returns-13 : tie.Need-returns-13
 unfolding formOf
 returns-13 c = rw (c .enum-told10 .given .1) (record { size = refl; small = lit≤ tt; block = λ e. clash e })
 
+returns-14 : tie.Need-returns-14
+unfolding formOf
+returns-14 c = rw (c .enum-told11 .given .1) (record { size = refl; small = lit≤ tt; block = λ e. clash e })
+
+returns-15 : tie.Need-returns-15
+unfolding formOf
+returns-15 c = rw (c .enum-told12 .given .1) (record { size = refl; small = lit≤ tt; block = λ e. clash e })
+
 pub lay-spec : {M : Type 1} → statement M
 lay-spec =
     tie.close
@@ -70,6 +78,8 @@ lay-spec =
     (λ c. search needs)
     (λ c. search needs)
     (λ c κs. search needs)
+    (λ c. search needs)
+    (λ c. search needs)
     (λ c. search needs)
     (λ c. search needs)
     (λ c. search needs)
@@ -93,4 +103,6 @@ lay-spec =
     returns-10
     returns-11
     returns-12
-    returns-13)
+    returns-13
+    returns-14
+    returns-15)
