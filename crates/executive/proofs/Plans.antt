@@ -7,6 +7,7 @@ pub mod Walking
 pub mod LinksKept
 pub mod Links
 pub mod GoodIsKept
+pub mod SubsKept
 pub mod Rising
 pub mod Shared
 pub mod Terminate
@@ -19,3 +20,5 @@ pub mod Flag
 pub mod Wait
 pub mod Alarm
 pub mod Tick
+pub mod Enter
+pub mod Exit

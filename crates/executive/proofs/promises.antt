@@ -8,3 +8,4 @@ pub mod Walks
 pub mod Demands
 pub mod Waking
 pub mod LampLaw
+pub mod SubLaw

@@ -12,26 +12,33 @@ use Rattle.executive.specs.declared.Millis.{Millis}
 use Rattle.executive.specs.declared.State.{State}
 use Rattle.executive.specs.declared.Task.{Task}
 use Rattle.executive.specs.declared.Request.{Request}
+use Rattle.executive.specs.declared.Sub.{Sub}
 use Rattle.executive.specs.declared.Rest.{Rest}
 use Rattle.executive.specs.declared.Table.{Table}
 use Rattle.executive.specs.declared.waiters.Link.{Link}
 use Rattle.executive.specs.declared.waiters.Link.the-variants.{AtStart, AtEnd}
-use Rattle.executive.specs.Numbers.{mostTasks, mostQueued, flagCount, highest, mostGranule, endOfTime, longest}
+use Rattle.executive.specs.Numbers.{mostTasks, mostQueued, flagCount, subCount, lastSub, highest, mostGranule, endOfTime, longest}
 use Rattle.executive.specs.Lists.{one, sumOf, _and_, upTo, allOf}
 use Rattle.executive.specs.Pool.{requests}
 use Rattle.executive.specs.Places.{taskAt}
 use Rattle.executive.specs.Table.{items, view, levelsOf}
-use Rattle.executive.specs.States.{ready, awaitStart, awaitEnd, timeOf, maskOf, isOf, is, isDormant, hasTime, hasMask, waitMode, isReady}
+use Rattle.executive.specs.States.{ready, awaitStart, awaitEnd, awaitSub, timeOf, maskOf, awaitedOf, isOf, is, isDormant, hasTime, hasMask, waitMode, isReady, waitsFor}
 use Rattle.executive.specs.Flags.{met}
 use Rattle.executive.specs.WellFormed.{WellFormed, startsOf, endsOf, runsOf}
 
 -- ---- every number is in range, but how many are ready
--- a task's entry among n tasks; a request among them
+-- a task's entry among n tasks; a request among them; a subprogram, with the size of its line, among them
+abbrev pub awaitsInRange : State → Bool
+awaitsInRange s = cond (isOf awaitSub s) (leb (awaitedOf s) lastSub) true
+
 abbrev pub entryInRange : ℕ → Task → Bool
-entryInRange n e = leb (e .own) highest and leb (e .priority) highest and leb (e .«end_waiter» .0) n
+entryInRange n e = leb (e .own) highest and leb (e .priority) highest and leb (e .«end_waiter» .0) n and awaitsInRange (e .state)
 
 abbrev pub requestInRange : ℕ → Request → Bool
 requestInRange n r = leb (r .priority) highest and leb (r .target .0) n and leb (r .«start_waiter» .0) n and leb (r .«end_waiter» .0) n
+
+abbrev pub subInRange : ℕ → Sub → Bool
+subInRange n s = eqb (length (s .line)) mostTasks and leb (s .holder .0) n and leb (s .waiting) mostTasks
 
 -- an entry of zeros, but for its own priority and its state; an entry of zeros
 abbrev pub isZero : Task → Bool
@@ -41,7 +48,11 @@ abbrev pub isBlank : Task → Bool
 isBlank e = isDormant (e .state) and eqb (e .own) 0 and isZero e
 
 abbrev pub sizesRight : List Task → Rest → Bool
-sizesRight ts r = eqb (length ts) mostTasks and eqb (length (r .alarms)) flagCount and eqb (length (r .pool)) mostQueued
+sizesRight ts r =
+    eqb (length ts) mostTasks
+    and eqb (length (r .alarms)) flagCount
+    and eqb (length (r .pool)) mostQueued
+    and eqb (length (r .subs)) subCount
 
 -- the task count, the granule, the clock, how many requests are queued
 abbrev pub inBounds : ℕ → ℕ → Millis → ℕ → Bool
@@ -54,6 +65,7 @@ numbersRight ts r =
     and allOf (entryInRange (r .count)) ts
     and allOf isBlank (drop (r .count) ts)
     and allOf (requestInRange (r .count)) (requests r)
+    and allOf (subInRange (r .count)) (r .subs)
 
 -- ---- the ready queue
 abbrev pub isTask : ℕ → TaskNo → Bool
@@ -178,6 +190,21 @@ isFree r =
 unfoldable pub poolRight : Rest → Bool
 poolRight r = allOf isFree (drop (r .queued) (r .pool))
 
+-- ---- the subprograms: a holder is busy; a free one has no waiters; the line is that of those who wait for it. Those of n
+-- tasks, for the subprograms from number m on
+abbrev pub holderRight : List Task → Sub → Bool
+holderRight ts s = cond (eqb (s .holder .0) 0) (eqb (s .waiting) 0) (not (isDormant (taskAt ts (s .holder .0) .state)))
+
+abbrev pub subRight : List Task → ℕ → ℕ → Sub → Bool
+subRight ts n m s = holderRight ts s and lineRight (waitsFor m) ts n (s .waiting) (s .line)
+
+unfoldable pub subsFrom : List Task → ℕ → ℕ → List Sub → Bool
+subsFrom ts n m [] = true
+subsFrom ts n m (s ∷ ss) = cond (subRight ts n m s) (subsFrom ts n (suc m) ss) false
+
+unfoldable pub subsRight : List Task → Rest → Bool
+subsRight ts r = subsFrom ts (r .count) 0 (r .subs)
+
 -- ---- the check: every rule but the queue's, in their order, which the entries and the rest keep or break whatever the
 -- queue is; and the queue's own
 unfoldable pub allButQueue : List Task → Rest → Bool
@@ -190,6 +217,7 @@ allButQueue ts r =
     and waitersRight ts r
     and dormantRight ts
     and poolRight r
+    and subsRight ts r
 
 unfoldable pub isWellFormed : Table → Bool
 isWellFormed t = queueRight t and allButQueue (t .tasks) (t .rest)
@@ -227,6 +255,20 @@ isLone r = eqb (r .«start_waiter» .0) 0 and eqb (r .«end_waiter» .0) 0
 abbrev pub askedRight : List Task → ℕ → ℕ → List Request → Bool
 askedRight ts n k p = allOf (requestRight ts n) (take k p) and upTo (waitersAt ts (take k p)) n and allOf isFree (drop k p)
 
+-- a free subprogram, for which nobody waits: zeros; a state of waiting for one of them; a task that waits for none
+abbrev pub isFreeSub : Sub → Bool
+isFreeSub s = eqb (length (s .line)) mostTasks and eqb (s .holder .0) 0 and eqb (s .waiting) 0 and allOf isNobody (s .line)
+
+abbrev pub awaitsAny : State → Bool
+awaitsAny s = isOf awaitSub s and leb (awaitedOf s) lastSub
+
+unfoldable pub waitsForNone : List Task → ℕ → Bool
+waitsForNone ts k = not (awaitsAny (taskAt ts k .state))
+
+-- the subprograms ss: their numbers and their rule, of n tasks
+abbrev pub heldRight : List Task → ℕ → List Sub → Bool
+heldRight ts n ss = allOf (subInRange n) ss and subsFrom ts n 0 ss
+
 unfoldable pub inPasses : List Task → Rest → Bool
 inPasses ts r =
     inBounds (r .count) (r .granule) (r .clock) (r .queued)
@@ -234,6 +276,7 @@ inPasses ts r =
     and allOf isBlank (drop (r .count) ts)
     and allOf (alarmRight (r .clock .0)) (r .alarms)
     and askedRight ts (r .count) (r .queued) (r .pool)
+    and heldRight ts (r .count) (r .subs)
 
 -- ---- a tally of numbers: how often k stands in a line is told at place k - 1
 pub record Tallies (c : List ℕ) (xs : List TaskNo) : Type 0 where

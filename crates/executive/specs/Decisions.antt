@@ -9,6 +9,7 @@ use lib.Dec.{leb, ltb, eqb}
 use lib.ListN.{length, getD, take, drop}
 use Rattle.records.specs.declared.TaskNo.{TaskNo}
 use Rattle.records.specs.declared.FlagNo.{FlagNo}
+use Rattle.records.specs.declared.SubNo.{SubNo}
 use Rattle.executive.specs.declared.Millis.{Millis}
 use Rattle.executive.specs.declared.AwaitedMoment.{AwaitedMoment}
 use Rattle.executive.specs.declared.AwaitedMoment.the-variants.{ForNothing, ForStart, ForEnd}
@@ -16,6 +17,7 @@ use Rattle.executive.specs.declared.State.{State}
 use Rattle.executive.specs.declared.State.the-variants as state
 use Rattle.executive.specs.declared.Task.{Task}
 use Rattle.executive.specs.declared.Request.{Request}
+use Rattle.executive.specs.declared.Sub.{Sub}
 use Rattle.executive.specs.declared.Rest.{Rest}
 use Rattle.executive.specs.declared.Table.{Table}
 use Rattle.executive.specs.declared.Marks.{Marks}
@@ -29,11 +31,12 @@ use Rattle.executive.specs.declared.decisions.Change.{Change}
 use Rattle.executive.specs.declared.decisions.Change.the-variants as change
 use Rattle.executive.specs.declared.decisions.Deed.{Deed}
 use Rattle.executive.specs.declared.decisions.Decision.{Decision}
-use Rattle.executive.specs.Numbers.{mostTasks, mostQueued, flagCount, endOfTime}
+use Rattle.executive.specs.Numbers.{mostTasks, mostQueued, flagCount, subCount, endOfTime}
 use Rattle.executive.specs.Lists.{pad, nextOf}
 use Rattle.executive.specs.Places.{nobody, never, noRequest, taskAt}
 use Rattle.executive.specs.Pool.{requests, withRequests, placeOf, removed}
-use Rattle.executive.specs.Table.{ArraysInOrder, line, view, levelsOf, Out, stays, leaves, Join, Plan, depart, FindsRoom}
+use Rattle.executive.specs.Table.{ArraysInOrder, line, view, levelsOf, headOf, Out, stays, leaves, Join, Plan, depart, FindsRoom}
+use Rattle.executive.specs.Subprograms.{subAt, lineOf, LineInOrder, isHeld, entersIt, joinsLine, handedOn, withSub}
 use Rattle.executive.specs.Entries.{withState, asDormant, begun, dueAt, risen}
 use Rattle.executive.specs.Clock.{interval, aimAt, withAlarm, isDue, advanced}
 use Rattle.executive.specs.Flags.{withFlags, flagSet, flagReset, met, modeOf}
@@ -123,6 +126,9 @@ changed (change.Alarm f at) q r = withAlarm (f .0) at r
 changed change.Put q r = withRequests (requests r ++ (q ∷ [])) r
 changed (change.Taken i) q r = withRequests (removed i (requests r)) r
 changed (change.Clock i) q r = advanced r
+changed (change.Held m k) q r = withSub (m .0) (entersIt k (subAt r (m .0))) r
+changed (change.Lined m k i) q r = withSub (m .0) (joinsLine i k (subAt r (m .0))) r
+changed (change.HandedOn m) q r = withSub (m .0) (handedOn (subAt r (m .0))) r
 
 abbrev pub alters : Change → Bool
 alters change.Same = false
@@ -131,6 +137,9 @@ alters (change.Alarm f at) = true
 alters change.Put = true
 alters (change.Taken i) = true
 alters (change.Clock i) = true
+alters (change.Held m k) = true
+alters (change.Lined m k i) = true
+alters (change.HandedOn m) = true
 
 unfoldable pub meant : Deed → Table → Plan
 meant d t = record {
@@ -156,6 +165,9 @@ Able (change.Alarm f at) r = f .0 < flagCount
 Able change.Put r = r .queued < mostQueued
 Able (change.Taken i) r = i < r .queued
 Able (change.Clock i) r = (r .clock .0 + r .granule ≤ endOfTime) × (i ≡ firstDue r)
+Able (change.Held m k) r = m .0 < subCount
+Able (change.Lined m k i) r = (m .0 < subCount) × LineInOrder (subAt r (m .0)) × (i ≤ subAt r (m .0) .waiting) × (subAt r (m .0) .waiting < mostTasks)
+Able (change.HandedOn m) r = (m .0 < subCount) × LineInOrder (subAt r (m .0))
 
 pub record Doable (d : Deed) (t : Table) : Type 0 where
   pub fit : ArraysInOrder t
@@ -237,6 +249,14 @@ unfoldable pub tickDeed : List Task → Rest → Deed
 tickDeed ts r =
     deed leave.Stays (raisedAll (timed (advanced r .clock .0) ts) ++ rising (holds (advanced r .flags)) 1 ts) noRequest (change.Clock (firstDue r))
 
+-- 06, 07: the caller c, its place in the line, the subprogram m as it is
+unfoldable pub enterDeed : TaskNo → ℕ → SubNo → Sub → Deed
+enterDeed c i m s =
+    cond (isHeld s) (alone (leave.As (state.AwaitSub m)) (change.Lined m c i)) (alone leave.Stays (change.Held m c))
+
+unfoldable pub exitDeed : SubNo → Sub → Deed
+exitDeed m s = deed leave.Stays (wakes (headOf (lineOf s))) noRequest (change.HandedOn m)
+
 -- ---- what the kinds' functions ask of the tasks, the rest and the caller
 -- nobody's flag condition holds
 abbrev pub AllUnmet : ℕ → List Task → Type 0
@@ -247,6 +267,7 @@ pub record Judgeable (ts : List Task) (r : Rest) (c : TaskNo) : Type 0 where
   pub clock : r .clock .0 ≤ endOfTime
   pub started : taskAt ts (c .0) .start .0 ≤ r .clock .0
   pub unmet : AllUnmet (r .flags) ts
+  pub waiting : (m : ℕ) → subAt r m .waiting ≤ mostTasks
 
 -- ---- a decision: refused with a number, or done with the marks of the answer
 abbrev pub refusing : ℕ → Decision

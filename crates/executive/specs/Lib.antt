@@ -8,6 +8,7 @@ pub mod Rest
 pub mod Pool
 pub mod Flags
 pub mod Table
+pub mod Subprograms
 pub mod Clock
 pub mod Plans
 pub mod WellFormed

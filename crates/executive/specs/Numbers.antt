@@ -13,6 +13,13 @@ flagCount = 32
 abbrev pub mostQueued : ℕ
 mostQueued = 32
 
+-- eight controlled subprograms, 0 to 7
+abbrev pub subCount : ℕ
+subCount = 8
+
+abbrev pub lastSub : ℕ
+lastSub = 7
+
 -- the highest priority
 abbrev pub highest : ℕ
 highest = 15

@@ -8,17 +8,19 @@ use lib.Dec.{leb, ltb, eqb}
 use lib.ListN.{length, getD}
 use Rattle.records.specs.declared.TaskNo.{TaskNo}
 use Rattle.records.specs.declared.FlagNo.{FlagNo}
+use Rattle.records.specs.declared.SubNo.{SubNo}
 use Rattle.executive.specs.declared.Millis.{Millis}
 use Rattle.executive.specs.declared.AwaitedMoment.{AwaitedMoment}
 use Rattle.executive.specs.declared.AwaitedMoment.the-variants.{ForNothing, ForStart, ForEnd}
 use Rattle.executive.specs.declared.State.{State}
-use Rattle.executive.specs.declared.State.the-variants.{Ready, Paused, Flags, AwaitStart, AwaitEnd}
+use Rattle.executive.specs.declared.State.the-variants.{Ready, Paused, Flags, AwaitStart, AwaitEnd, AwaitSub}
 use Rattle.executive.specs.declared.Task.{Task}
 use Rattle.executive.specs.declared.Request.{Request}
 use Rattle.executive.specs.declared.Rest.{Rest}
 use Rattle.executive.specs.declared.Table.{Table}
 use Rattle.executive.specs.Places.{nobody, noRequest, taskAt}
 use Rattle.executive.specs.Table.{line, headOf, Out, stays, leaves, Join, Plan}
+use Rattle.executive.specs.Subprograms.{subAt, lineOf, isHeld, entersIt, waitsBehind, handedOn, withSub}
 use Rattle.executive.specs.Pool.{requests, withRequests, placeOf, removed}
 use Rattle.executive.specs.States.{timeOf, maskOf, isDormant, isPaused, hasTime, hasMask, waitMode}
 use Rattle.executive.specs.Entries.{withState, asDormant, begun, dueAt, risen}
@@ -222,3 +224,23 @@ tickBy t r = record { out = stays; ins = raisings (timed (r .clock .0) (t .tasks
 
 unfoldable pub tickPlan : Table → Plan
 tickPlan t = tickBy t (advanced (t .rest))
+
+-- ---- 06 (02): a free subprogram gets the caller for its holder. At a held one the caller departs and waits in its line,
+-- behind all of equal or higher priority
+unfoldable pub enterPlan : Table → SubNo → Plan
+enterPlan t m =
+    cond (isHeld (subAt (t .rest) (m .0)))
+    (record {
+      out = leaves (withState (AwaitSub m));
+      ins = [];
+      rest = withSub (m .0) (waitsBehind (t .tasks) (caller t) (subAt (t .rest) (m .0))) (t .rest);
+    })
+    (record { out = stays; ins = []; rest = withSub (m .0) (entersIt (caller t) (subAt (t .rest) (m .0))) (t .rest) })
+
+-- ---- 07 (02): the first of the line becomes the holder and enters; where nobody waits, the subprogram is free
+unfoldable pub exitPlan : Table → SubNo → Plan
+exitPlan t m = record {
+  out = stays;
+  ins = waking (headOf (lineOf (subAt (t .rest) (m .0))));
+  rest = withSub (m .0) (handedOn (subAt (t .rest) (m .0))) (t .rest);
+}

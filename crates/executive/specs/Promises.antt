@@ -8,6 +8,7 @@ pub mod InWords
 pub mod LampLaw
 pub mod QueueLaw
 pub mod Skipping
+pub mod SubLaw
 pub mod EveryStart
 pub mod Waking
 pub mod Walks

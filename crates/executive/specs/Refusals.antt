@@ -49,6 +49,16 @@ Idles k c b = (ts : List Task) (r : Rest) → b ≡ (not (sheet ts r k c .tick) 
 unfoldable pub badBody : Table → Call → Bool
 badBody t c = ruleOf t c .body
 
+-- ---- 13: 06 of a subprogram that the caller holds; 14: 07 of one that it does not hold; 15: 00 or 01 while it holds any
+unfoldable pub holdsIt : Table → Call → Bool
+holdsIt t c = ruleOf t c .inside
+
+unfoldable pub holdsNot : Table → Call → Bool
+holdsNot t c = ruleOf t c .outside
+
+unfoldable pub holdsAny : Table → Call → Bool
+holdsAny t c = ruleOf t c .holding
+
 -- ---- 7: 05 names its caller, with bit 6 or 5
 unfoldable pub namesCaller : Table → Call → Bool
 namesCaller t c = ruleOf t c .itself
@@ -71,6 +81,9 @@ abbrev pub callRefusals : Table → Call → List Refusal
 callRefusals t c =
     when 5 (nobodyActive t c)
     ∷ when 6 (badBody t c)
+    ∷ when 13 (holdsIt t c)
+    ∷ when 14 (holdsNot t c)
+    ∷ when 15 (holdsAny t c)
     ∷ when 7 (namesCaller t c)
     ∷ when 9 (alarmRunning t c)
     ∷ when 8 (poolFull t c)

@@ -3,6 +3,7 @@ use Prim.Native.Nat.{ℕ}
 use mathlib.Core.List.{List}
 use Rattle.executive.specs.declared.Millis.{Millis}
 use Rattle.executive.specs.declared.Request.{Request}
+use Rattle.executive.specs.declared.Sub.{Sub}
 use Rattle.executive.specs.declared.Rest.{Rest}
 
 -- ---- made anew: the clock, the flags, the alarms, the pool and the number of its requests; all else as it was
@@ -15,4 +16,18 @@ remade c fs al p n r = record {
   alarms = al;
   pool = p;
   queued = n;
+  subs = r .subs;
+}
+
+-- the same with other subprograms
+abbrev pub withSubs : List Sub → Rest → Rest
+withSubs ss r = record {
+  count = r .count;
+  granule = r .granule;
+  clock = r .clock;
+  flags = r .flags;
+  alarms = r .alarms;
+  pool = r .pool;
+  queued = r .queued;
+  subs = ss;
 }

@@ -6,6 +6,7 @@ use mathlib.Core.List.{List}
 use lib.Dec.{leb, ltb, eqb}
 use lib.ListN.{getD}
 use Rattle.records.specs.declared.TaskNo.{TaskNo}
+use Rattle.records.specs.declared.SubNo.{SubNo}
 use Rattle.records.specs.declared.Call.{Call}
 use Rattle.records.specs.declared.Call.the-variants as call
 use Rattle.executive.specs.declared.Millis.{Millis}
@@ -15,18 +16,19 @@ use Rattle.executive.specs.declared.Table.{Table}
 use Rattle.executive.specs.declared.Marks.{Marks}
 use Rattle.executive.specs.declared.decisions.Deed.{Deed}
 use Rattle.executive.specs.declared.decisions.Decision.{Decision}
-use Rattle.executive.specs.Numbers.{lastUnit, mostQueued, endOfTime}
+use Rattle.executive.specs.Numbers.{lastUnit, lastSub, mostQueued, endOfTime}
 use Rattle.executive.specs.Lists.{_and_}
 use Rattle.executive.specs.Places.{never, taskAt}
 use Rattle.executive.specs.Pool.{requests}
-use Rattle.executive.specs.Table.{Plan}
+use Rattle.executive.specs.Table.{aheadOf, Plan}
+use Rattle.executive.specs.Subprograms.{subAt, lineOf, holds?, holdsAnyOf}
 use Rattle.executive.specs.Clock.{skippedOf}
 use Rattle.executive.specs.Flags.{isSet, met, modeOf}
 use Rattle.executive.specs.States.{isDormant, isPaused}
 use Rattle.executive.specs.Plans.{caller, nothing, terminatePlan, restartPlan, pausePlan, cancelPausePlan}
-use Rattle.executive.specs.Plans.{startIfDormantPlan, startOrQueuePlan, flagPlan, waitPlan, alarmPlan, tickPlan}
+use Rattle.executive.specs.Plans.{startIfDormantPlan, startOrQueuePlan, flagPlan, waitPlan, alarmPlan, tickPlan, enterPlan, exitPlan}
 use Rattle.executive.specs.Decisions.{noDeed, terminateDeed, restartDeed, pauseDeed, cancelPauseDeed, startIfDormantDeed, startOrQueueDeed, flagDeed, waitDeed}
-use Rattle.executive.specs.Decisions.{alarmDeed, tickDeed, refusing, doing}
+use Rattle.executive.specs.Decisions.{alarmDeed, tickDeed, enterDeed, exitDeed, refusing, doing}
 
 -- what is said of one call
 pub record Rule : Type 0 where
@@ -34,6 +36,12 @@ pub record Rule : Type 0 where
   pub tick : Bool
   -- 6: a number in its body is out of range
   pub body : Bool
+  -- 13: it enters a subprogram that its caller holds
+  pub inside : Bool
+  -- 14: it leaves a subprogram that its caller does not hold
+  pub outside : Bool
+  -- 15: it ends a run whose task holds a subprogram
+  pub holding : Bool
   -- 7: it names its caller
   pub itself : Bool
   -- 9: the alarm is running
@@ -49,11 +57,14 @@ pub record Rule : Type 0 where
   pub deed : Deed
 
 -- ---- the common shapes
--- a call that its body alone can refuse
-abbrev pub plain : Bool → Marks → (Table → Plan) → Deed → Rule
-plain bad m p d = record {
+-- a call that ends its caller's run: its body can refuse it, and that the caller holds a subprogram
+abbrev pub ending : Bool → Bool → Marks → (Table → Plan) → Deed → Rule
+ending bad held m p d = record {
   tick = false;
   body = bad;
+  inside = false;
+  outside = false;
+  holding = held;
   itself = false;
   running = false;
   full = false;
@@ -63,12 +74,33 @@ plain bad m p d = record {
   deed = d;
 }
 
+-- a call that its body alone can refuse
+abbrev pub plain : Bool → Marks → (Table → Plan) → Deed → Rule
+plain bad m p d = ending bad false m p d
+
 -- Z, V and C; those not mentioned are 0
 abbrev pub marks : Bool → Bool → Bool → Marks
 marks z v c = record { z = z; v = v; c = c; skipped = 0 }
 
 abbrev pub onlyZ : Bool → Marks
 onlyZ z = marks z false false
+
+-- a call of one subprogram: there is none of that number, or it is held or not held by the caller
+abbrev pub ofSub : Bool → Bool → Bool → (Table → Plan) → Deed → Rule
+ofSub bad held other p d = record {
+  tick = false;
+  body = bad;
+  inside = held;
+  outside = other;
+  holding = false;
+  itself = false;
+  running = false;
+  full = false;
+  late = false;
+  marks = onlyZ false;
+  plan = p;
+  deed = d;
+}
 
 -- 01: V for units 6 and 7; the grid times that a restart with bit 6 passes over (02)
 abbrev pub restartMarks : Millis → Millis → ℕ → ℕ → Marks
@@ -88,10 +120,11 @@ noCall = plain false (onlyZ false) (λ t. nothing t) noDeed
 
 -- ---- the kinds: what is said of a call with the tasks ts, the rest r and the caller c. No queue is looked at
 abbrev pub sheet : List Task → Rest → TaskNo → Call → Rule
-sheet ts r c call.Terminate = plain false (onlyZ false) (λ t. terminatePlan t) (terminateDeed ts (requests r) c)
+-- 00 and 01: 15 while the caller holds a subprogram (02)
+sheet ts r c call.Terminate = ending false (holdsAnyOf c (r .subs)) (onlyZ false) (λ t. terminatePlan t) (terminateDeed ts (requests r) c)
 -- 01: 6 with both bits 7 and 6 (02)
 sheet ts r c (call.Restart p n) =
-    plain (eqb (p / 64 % 4) 3)
+    ending (eqb (p / 64 % 4) 3) (holdsAnyOf c (r .subs))
     (restartMarks (taskAt ts (c .0) .start) (r .clock) p n)
     (λ t. restartPlan t p n)
     (restartDeed c (taskAt ts (c .0)) (r .clock) p n)
@@ -110,6 +143,9 @@ sheet ts r c (call.StartIfDormant o k) =
 sheet ts r c (call.StartOrQueue o k a) = record {
   tick = false;
   body = noSuchTask r k || eqb (o / 32 % 4) 3;
+  inside = false;
+  outside = false;
+  holding = false;
   itself = eqb (k .0) (c .0) and not (eqb (o / 32 % 4) 0);
   running = false;
   full = not (isDormant (taskAt ts (k .0) .state)) and leb mostQueued (r .queued);
@@ -129,6 +165,9 @@ sheet ts r c (call.Wait m mask) =
 sheet ts r c (call.Alarm u n f) = record {
   tick = false;
   body = ltb lastUnit u || ltb 31 (f .0);
+  inside = false;
+  outside = false;
+  holding = false;
   itself = false;
   running = not (eqb (getD (r .alarms) (f .0) never .0) 0);
   full = false;
@@ -141,6 +180,9 @@ sheet ts r c (call.Alarm u n f) = record {
 sheet ts r c call.Tick = record {
   tick = true;
   body = false;
+  inside = false;
+  outside = false;
+  holding = false;
   itself = false;
   running = false;
   full = false;
@@ -152,6 +194,13 @@ sheet ts r c call.Tick = record {
 sheet ts r c (call.Granule g) = noCall
 sheet ts r c (call.Task p m) = noCall
 sheet ts r c call.End = noCall
+-- 06, 07: 6 with a number over 7; 13 where the caller holds it already, 14 where it does not hold it. Z, V, C are 0
+sheet ts r c (call.Enter m) =
+    ofSub (ltb lastSub (m .0)) (holds? c (subAt r (m .0))) false
+    (λ t. enterPlan t m)
+    (enterDeed c (aheadOf ts (taskAt ts (c .0) .priority) (lineOf (subAt r (m .0)))) m (subAt r (m .0)))
+sheet ts r c (call.Exit m) =
+    ofSub (ltb lastSub (m .0)) false (not (holds? c (subAt r (m .0)))) (λ t. exitPlan t m) (exitDeed m (subAt r (m .0)))
 
 -- what is said of a call at a table
 abbrev pub ruleOf : Table → Call → Rule
@@ -161,8 +210,11 @@ ruleOf t c = sheet (t .tasks) (t .rest) (caller t) c
 abbrev pub judged : Rule → Decision
 judged r =
     cond (r .body) (refusing 6)
+    (cond (r .inside) (refusing 13)
+    (cond (r .outside) (refusing 14)
+    (cond (r .holding) (refusing 15)
     (cond (r .itself) (refusing 7)
-    (cond (r .running) (refusing 9) (cond (r .full) (refusing 8) (cond (r .late) (refusing 10) (doing (r .marks) (r .deed))))))
+    (cond (r .running) (refusing 9) (cond (r .full) (refusing 8) (cond (r .late) (refusing 10) (doing (r .marks) (r .deed)))))))))
 
 unfoldable pub decided : List Task → Rest → TaskNo → Call → Decision
 decided ts r k c = judged (sheet ts r k c)

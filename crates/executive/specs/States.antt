@@ -1,14 +1,14 @@
--- What a task's state is and holds: its kind, its time and its mask. Only these, and `stateOf` which puts a state
--- together again, name each state; all else that is said of a state is said by them.
+-- What a task's state is and holds: its kind, its time, its mask and the number that it waits for. Only these, and
+-- `stateOf` which puts a state together again, name each state; all else that is said of a state is said by them.
 use Prim.Native.Nat.{ℕ}
 use mathlib.Core.Path.{_≡_}
-use mathlib.Core.Bool.{Bool, _||_, cond}
+use mathlib.Core.Bool.{Bool, _||_, _&&_, cond}
 use lib.Dec.{eqb}
 use Rattle.executive.specs.declared.Millis.{Millis}
 use Rattle.executive.specs.declared.Mode.{Mode}
 use Rattle.executive.specs.declared.Mode.the-variants.{Any, All}
 use Rattle.executive.specs.declared.State.{State}
-use Rattle.executive.specs.declared.State.the-variants.{Dormant, Ready, Paused, Due, Flags, AwaitStart, AwaitEnd}
+use Rattle.executive.specs.declared.State.the-variants.{Dormant, Ready, Paused, Due, Flags, AwaitStart, AwaitEnd, AwaitSub}
 use Rattle.executive.specs.Lists.{one}
 use Rattle.executive.specs.Places.{never}
 
@@ -37,6 +37,9 @@ awaitStart = 6
 abbrev pub awaitEnd : ℕ
 awaitEnd = 7
 
+abbrev pub awaitSub : ℕ
+awaitSub = 8
+
 abbrev pub stateKind : State → ℕ
 stateKind Dormant = dormant
 stateKind Ready = ready
@@ -46,6 +49,7 @@ stateKind (Flags Any mask) = awaitAny
 stateKind (Flags All mask) = awaitAll
 stateKind AwaitStart = awaitStart
 stateKind AwaitEnd = awaitEnd
+stateKind (AwaitSub m) = awaitSub
 
 -- ---- the time until which it waits, and the flags for which it waits; 0 where it holds none
 abbrev pub timeOf : State → Millis
@@ -56,6 +60,7 @@ timeOf (Due at) = at
 timeOf (Flags m mask) = never
 timeOf AwaitStart = never
 timeOf AwaitEnd = never
+timeOf (AwaitSub m) = never
 
 abbrev pub maskOf : State → ℕ
 maskOf Dormant = 0
@@ -65,11 +70,23 @@ maskOf (Due at) = 0
 maskOf (Flags m mask) = mask
 maskOf AwaitStart = 0
 maskOf AwaitEnd = 0
+maskOf (AwaitSub m) = 0
 
--- ---- the state of a kind, a time and a mask; a number that is no kind is a wait for any flag of no mask, which no
+-- ---- the number of what it waits for: the subprogram's; 0 where it waits for none
+abbrev pub awaitedOf : State → ℕ
+awaitedOf Dormant = 0
+awaitedOf Ready = 0
+awaitedOf (Paused at) = 0
+awaitedOf (Due at) = 0
+awaitedOf (Flags m mask) = 0
+awaitedOf AwaitStart = 0
+awaitedOf AwaitEnd = 0
+awaitedOf (AwaitSub m) = m .0
+
+-- ---- the state of a kind, a time, a mask and a number; what is no kind is a wait for any flag of no mask, which no
 -- well-formed table holds
-unfoldable pub stateOf : ℕ → Millis → ℕ → State
-stateOf kind time mask =
+unfoldable pub stateOf : ℕ → Millis → ℕ → ℕ → State
+stateOf kind time mask number =
     cond (eqb kind dormant) Dormant
     (cond (eqb kind ready) Ready
     (cond (eqb kind paused) (Paused time)
@@ -78,7 +95,8 @@ stateOf kind time mask =
     (cond (eqb kind awaitAll) (Flags All mask)
     (cond (eqb kind awaitStart) AwaitStart
     (cond (eqb kind awaitEnd) AwaitEnd
-    (Flags Any 0))))))))
+    (cond (eqb kind awaitSub) (AwaitSub (record { 0 = number }))
+    (Flags Any 0)))))))))
 
 -- ---- whether a state is of kind n; the same as a count, 1 where it is, else 0
 abbrev pub isOf : ℕ → State → Bool
@@ -101,6 +119,13 @@ isPaused s = isOf paused s
 abbrev pub hasTime : State → Bool
 hasTime s = isOf paused s || isOf due s
 
+-- whether a state is of kind n and waits for number m; whether a task waits for subprogram m
+abbrev pub isAs : ℕ → ℕ → State → Bool
+isAs n m s = isOf n s && eqb m (awaitedOf s)
+
+abbrev pub waitsFor : ℕ → State → Bool
+waitsFor m s = isAs awaitSub m s
+
 -- a task that waits for flags has a mask, and waits for any or for all of it
 abbrev pub hasMask : State → Bool
 hasMask s = isOf awaitAny s || isOf awaitAll s
@@ -108,7 +133,7 @@ hasMask s = isOf awaitAny s || isOf awaitAll s
 abbrev pub waitMode : State → Mode
 waitMode s = cond (isOf awaitAll s) All Any
 
--- ---- the contracts: r is the state's kind, its time, its mask
+-- ---- the contracts: r is the state's kind, its time, its mask, the number that it waits for
 abbrev pub KindIs : State → ℕ → Type 0
 KindIs s r = r ≡ stateKind s
 
@@ -118,9 +143,13 @@ TimeIs s r = r ≡ timeOf s
 abbrev pub MaskIs : State → ℕ → Type 0
 MaskIs s r = r ≡ maskOf s
 
--- the three tell the state, and there is one answer each
+abbrev pub AwaitedIs : State → ℕ → Type 0
+AwaitedIs s r = r ≡ awaitedOf s
+
+-- the four tell the state, and there is one answer each
 pub record StatesTold : Type 0 where
-  pub back : (s : State) → stateOf (stateKind s) (timeOf s) (maskOf s) ≡ s
+  pub back : (s : State) → stateOf (stateKind s) (timeOf s) (maskOf s) (awaitedOf s) ≡ s
   pub kind-determined : (s : State) (x y : ℕ) → KindIs s x → KindIs s y → x ≡ y
   pub time-determined : (s : State) (x y : Millis) → TimeIs s x → TimeIs s y → x ≡ y
   pub mask-determined : (s : State) (x y : ℕ) → MaskIs s x → MaskIs s y → x ≡ y
+  pub awaited-determined : (s : State) (x y : ℕ) → AwaitedIs s x → AwaitedIs s y → x ≡ y

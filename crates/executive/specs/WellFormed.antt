@@ -12,14 +12,16 @@ use Rattle.executive.specs.declared.State.{State}
 use Rattle.executive.specs.declared.State.the-variants.{Dormant, Ready}
 use Rattle.executive.specs.declared.Task.{Task}
 use Rattle.executive.specs.declared.Request.{Request}
+use Rattle.executive.specs.declared.Rest.{Rest}
 use Rattle.executive.specs.declared.Table.{Table}
-use Rattle.executive.specs.Numbers.{mostTasks, mostQueued, flagCount, highest, mostGranule, endOfTime, longest}
+use Rattle.executive.specs.Numbers.{mostTasks, mostQueued, flagCount, subCount, lastSub, highest, mostGranule, endOfTime, longest}
 use Rattle.executive.specs.Lists.{one, pad, sumOf}
 use Rattle.executive.specs.Queue.{count, Desc}
 use Rattle.executive.specs.Places.{nobody, never, noTask, noRequest, taskAt}
 use Rattle.executive.specs.Table.{line, items}
 use Rattle.executive.specs.Pool.{requests}
-use Rattle.executive.specs.States.{dormant, ready, awaitStart, awaitEnd, timeOf, maskOf, is, hasTime, hasMask, waitMode, isReady}
+use Rattle.executive.specs.Subprograms.{subAt, lineOf}
+use Rattle.executive.specs.States.{dormant, ready, awaitStart, awaitEnd, awaitSub, timeOf, maskOf, awaitedOf, isOf, is, hasTime, hasMask, waitMode, isReady, waitsFor}
 use Rattle.executive.specs.Flags.{isSet, met}
 
 -- how many requests name task k: as their target, as the waiter for their start, as the waiter for the end of the
@@ -60,6 +62,8 @@ pub record Sizes (t : Table) : Type 0 where
   pub queue : length (t .queue) ≡ mostTasks
   pub alarms : length (t .rest .alarms) ≡ flagCount
   pub pool : length (t .rest .pool) ≡ mostQueued
+  pub subs : length (t .rest .subs) ≡ subCount
+  pub lines : (m : ℕ) → length (subAt (t .rest) m .line) ≡ mostTasks
 
 pub record InRange (t : Table) : Type 0 where
   pub sizes : Sizes t
@@ -74,6 +78,9 @@ pub record InRange (t : Table) : Type 0 where
   pub beyond : (k : ℕ) → t .rest .count < k → taskAt (t .tasks) k ≡ noTask
   pub priorities : overPriority (requests (t .rest)) ≡ 0
   pub names : outOfRange (t .rest .count) (requests (t .rest)) ≡ 0
+  pub holders : (m : ℕ) → subAt (t .rest) m .holder .0 ≤ t .rest .count
+  pub waiting : (m : ℕ) → subAt (t .rest) m .waiting ≤ mostTasks
+  pub inside : (k : ℕ) → isOf awaitSub (taskAt (t .tasks) k .state) ≡ true → awaitedOf (taskAt (t .tasks) k .state) ≤ lastSub
 
 -- ---- the line r holds exactly the tasks of ts whose state passes a test, once each, in descending priority
 pub record Line (f : State → Bool) (ts : List Task) (r : List TaskNo) : Type 0 where
@@ -119,6 +126,14 @@ pub record Zeros (e : Task) : Type 0 where
   pub start : e .start .0 ≡ 0
   pub waiter : e .«end_waiter» .0 ≡ 0
 
+-- ---- no subprogram has a dormant holder, none has waiters while it is free, and its line holds exactly the tasks in
+-- the state of waiting for it, once each, in descending priority, the places of equals read as their arrival
+pub record Subprograms (ts : List Task) (r : Rest) : Type 0 where
+  pub busy : (m : ℕ) → 0 < subAt r m .holder .0 → is dormant (taskAt ts (subAt r m .holder .0) .state) ≡ 0
+  pub free : (m : ℕ) → subAt r m .holder .0 ≡ 0 → subAt r m .waiting ≡ 0
+  pub lines : (m : ℕ) → m < subCount → Line (waitsFor m) ts (lineOf (subAt r m))
+  pub tidy : (m : ℕ) → subAt r m .line ≡ pad mostTasks nobody (lineOf (subAt r m))
+
 -- ---- some ready task has priority p
 pub record Lit (t : Table) (p : ℕ) : Type 0 where
   pub task : ℕ
@@ -150,5 +165,7 @@ pub record WellFormed (t : Table) : Type 0 where
   pub dormant : (k : ℕ) → taskAt (t .tasks) k .state ≡ Dormant → Zeros (taskAt (t .tasks) k)
   -- the pool's places, first to last, are read as the order of asking, its free places last and zero
   pub pool : t .rest .pool ≡ pad mostQueued noRequest (requests (t .rest))
+  -- no subprogram has a dormant holder or waiters while it is free; its line holds exactly those who wait for it (02)
+  pub subprograms : Subprograms (t .tasks) (t .rest)
   -- the word of the ready levels has bit p set exactly if some ready task has priority p (02)
   pub levels : Levels t

@@ -30,10 +30,19 @@ ghost use Rattle.executive.specs.Sheet.{onlyZ, restartMarks};
 
 // Kind 00: whoever waits for the end enters, then the caller with the earliest request for it, then whoever waited for
 // that start.
-pub(crate) fn terminate(tasks: [Task; 16], pool: [Request; 32], queued: u8, c: TaskNo) -> Decision
+pub(crate) fn terminate(
+    tasks: [Task; 16],
+    pool: [Request; 32],
+    queued: u8,
+    c: TaskNo,
+    holding: bool,
+) -> Decision
     requires { ⌜ queued ≤ mostQueued ⌝ }
-    ensures { λ r. ⌜ r ≡ doing (onlyZ false) (terminateDeed tasks (take queued pool) c) ⌝ }
+    ensures { λ r. ⌜ r ≡ cond holding (refusing 15) (doing (onlyZ false) (terminateDeed tasks (take queued pool) c)) ⌝ }
 {
+    if holding {
+        return decisions::refused(15);
+    }
     let old = places::task_at(tasks, c);
     let l = decisions::none();
     let l1 = l.woken(old.end_waiter);
@@ -64,12 +73,23 @@ pub(crate) fn terminate(tasks: [Task; 16], pool: [Request; 32], queued: u8, c: T
 }
 
 // Kind 01: the caller is due at the time aimed at, and enters at once where that has come.
-pub(crate) fn restart(old: Task, now: Millis, c: TaskNo, param: u8, count: u8) -> Decision
+pub(crate) fn restart(
+    old: Task,
+    now: Millis,
+    c: TaskNo,
+    holding: bool,
+    param: u8,
+    count: u8,
+) -> Decision
     requires { ⌜ (old .start .0 ≤ now .0) × (now .0 ≤ endOfTime) ⌝ }
-    ensures { λ r. ⌜ r ≡ cond (eqb (param / 64 % 4) 3) (refusing 6) (doing (restartMarks (old .start) now param count) (restartDeed c old now param count)) ⌝ }
+    ensures { λ r. ⌜ r ≡ cond (eqb (param / 64 % 4) 3) (refusing 6)
+        (cond holding (refusing 15) (doing (restartMarks (old .start) now param count) (restartDeed c old now param count))) ⌝ }
 {
     if param / 64 % 4 == 3 {
         return decisions::refused(6);
+    }
+    if holding {
+        return decisions::refused(15);
     }
     let start = old.start;
     let aim = clock::aim_at(start, now, param, count);

@@ -7,6 +7,7 @@ use crate::Task;
 use crate::passes;
 use crate::queue_check;
 use crate::rules;
+use crate::subprogram_check;
 use crate::waiters;
 ghost use mathlib.Core.Path.{_≡_};
 ghost use Prim.Native.Nat.{_≤_};
@@ -24,7 +25,8 @@ fn pool_right(tasks: [Task; 16], pool: [Request; 32], queued: usize, count: u8) 
     waiters::waiters_right(tasks, pool, queued, count) && passes::free_from(pool, queued)
 }
 
-// Every rule but the queue's: the numbers, the entries, the alarms, the pool. Each array is taken out once.
+// Every rule but the queue's: the numbers, the entries, the alarms, the pool, the subprograms. Each array is taken out
+// once.
 pub fn all_but_queue(tasks: [Task; 16], rest: Rest) -> bool
     ensures { λ r. ⌜ r ≡ allButQueue tasks rest ⌝ }
 {
@@ -44,7 +46,11 @@ pub fn all_but_queue(tasks: [Task; 16], rest: Rest) -> bool
         return false;
     }
     let pool = rest.pool;
-    pool_right(tasks, pool, rest.queued as usize, count)
+    if !pool_right(tasks, pool, rest.queued as usize, count) {
+        return false;
+    }
+    let subs = rest.subs;
+    subprogram_check::subs_right(tasks, subs, count)
 }
 
 impl Table {

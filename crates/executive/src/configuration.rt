@@ -9,6 +9,7 @@ use crate::answers;
 use crate::decisions::How;
 use crate::places::NO_TASK;
 use crate::pool::NO_REQUEST;
+use crate::subprograms::NO_SUB;
 use records::TaskNo;
 use records::reading::byte_at;
 ghost use mathlib.Core.Path.{_≡_};
@@ -151,6 +152,7 @@ fn blank_rest(n: u8, granule: u8) -> Rest
         alarms: [Millis(0); 32],
         pool: [NO_REQUEST; 32],
         queued: 0,
+        subs: [NO_SUB; 8],
     }
 }
 

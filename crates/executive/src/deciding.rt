@@ -11,6 +11,7 @@ use crate::places;
 use crate::refusals;
 use crate::starts;
 use crate::states;
+use crate::subprograms;
 use records::Call;
 use records::Got;
 use records::TaskNo;
@@ -42,11 +43,15 @@ fn by_kind(tasks: [Task; 16], rest: Rest, c: TaskNo, call: Call) -> Decision
     match call {
         Call::Terminate => {
             let pool = rest.pool;
-            calls::terminate(tasks, pool, rest.queued, c)
+            let subs = rest.subs;
+            let holding = subprograms::holds_any(subs, c);
+            calls::terminate(tasks, pool, rest.queued, c, holding)
         }
         Call::Restart { parameter, count } => {
             let e = places::task_at(tasks, c);
-            calls::restart(e, now, c, parameter, count)
+            let subs = rest.subs;
+            let holding = subprograms::holds_any(subs, c);
+            calls::restart(e, now, c, holding, parameter, count)
         }
         Call::Pause { unit, count } => calls::pause(now, unit, count),
         Call::CancelPause { task } => {
@@ -79,6 +84,16 @@ fn by_kind(tasks: [Task; 16], rest: Rest, c: TaskNo, call: Call) -> Decision
         Call::Granule { .. } => decisions::no_call(),
         Call::Task { .. } => decisions::no_call(),
         Call::End => decisions::no_call(),
+        Call::Enter { subprogram } => {
+            let subs = rest.subs;
+            let s = subprograms::sub_at(subs, subprogram);
+            subprograms::enter(tasks, s, c, subprogram)
+        }
+        Call::Exit { subprogram } => {
+            let subs = rest.subs;
+            let s = subprograms::sub_at(subs, subprogram);
+            subprograms::exit(s, c, subprogram)
+        }
     }
 }
 

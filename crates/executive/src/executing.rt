@@ -39,6 +39,9 @@ fn alters(change: Change) -> bool
         Change::Put => true,
         Change::Taken(_) => true,
         Change::Clock(_) => true,
+        Change::Held(_, _) => true,
+        Change::Lined(_, _, _) => true,
+        Change::HandedOn(_) => true,
     }
 }
 
@@ -55,6 +58,9 @@ impl Rest {
             Change::Put => self.with_request(q),
             Change::Taken(i) => self.without(i),
             Change::Clock(first) => self.advance(first),
+            Change::Held(m, k) => self.with_holder(m, k),
+            Change::Lined(m, k, at) => self.with_waiter(m, k, at),
+            Change::HandedOn(m) => self.handed_on(m),
         }
     }
 }

@@ -1,11 +1,15 @@
 // The word of the ready levels, bit p for a ready task of priority p, and the status lamp, which shows the highest.
 use crate::Lamp;
 use crate::Table;
+use crate::Task;
+use crate::places;
+use records::TaskNo;
 ghost use mathlib.Core.Path.{_≡_};
 ghost use mathlib.Core.Bool.{cond};
 ghost use Prim.Native.Nat.{_≤_, _-_};
 ghost use lib.Dec.{eqb};
-ghost use Rattle.executive.specs.Table.{levelBit};
+ghost use lib.ListN.{take};
+ghost use Rattle.executive.specs.Table.{levelBit, items, levelsOf};
 ghost use Rattle.executive.specs.Lamp.{lampOf};
 
 // The bit of a priority; one over 15 has none.
@@ -28,6 +32,26 @@ pub(crate) fn cleared(levels: u16, p: u8, next: u8) -> u16
         return levels;
     }
     levels - level_bit(p)
+}
+
+// The word of a line. A number that names no task counts as one of priority 0.
+pub(crate) fn levels_of(tasks: [Task; 16], line: [TaskNo; 16], taken: usize) -> u16
+    requires { ⌜ taken ≤ 16 ⌝ }
+    ensures { λ r. ⌜ r ≡ levelsOf (items tasks (take taken line)) ⌝ }
+{
+    let mut word: u16 = 0;
+    let mut i = taken;
+    while 0 < i {
+        i -= 1;
+        let k = places::entry_place(line[i]);
+        if k < 16 {
+            let e = tasks[k];
+            word = level_bit(e.priority) | word;
+        } else {
+            word = 1 | word;
+        }
+    }
+    word
 }
 
 // What the lamp shows of a word: the place of its highest bit, nothing where it has none.

@@ -1,4 +1,5 @@
 // The executive: the nouns of its table, and the step that takes a table's state and hands the state back.
+use records::SubNo;
 use records::TaskNo;
 
 pub mod answers;
@@ -24,6 +25,8 @@ pub mod rules;
 mod starts;
 pub mod states;
 mod step;
+mod subprogram_check;
+mod subprograms;
 mod waiters;
 mod waking;
 
@@ -45,6 +48,7 @@ pub enum State {
     Flags(Mode, u32),
     AwaitStart,
     AwaitEnd,
+    AwaitSub(SubNo),
 }
 
 // A task's entry: its own priority; its run's current priority and argument; who waits for its end; its state; its
@@ -67,6 +71,14 @@ pub struct Request {
     pub end_waiter: TaskNo,
 }
 
+// A controlled subprogram (02): the task inside it, its holder, 0 where it is free; and those who wait to enter, first to
+// last. The first `waiting` places of the line are taken.
+pub struct Sub {
+    pub holder: TaskNo,
+    pub line: [TaskNo; 16],
+    pub waiting: u8,
+}
+
 // What no task's entering or departing touches. An alarm at 0 is not running.
 pub struct Rest {
     pub count: u8,
@@ -76,6 +88,7 @@ pub struct Rest {
     pub alarms: [Millis; 32],
     pub pool: [Request; 32],
     pub queued: u8,
+    pub subs: [Sub; 8],
 }
 
 // The table. The first `ready` places of the queue are taken; task k has its entry at place k - 1. Bit p of `levels` is

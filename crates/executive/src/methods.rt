@@ -4,6 +4,7 @@ use crate::Outcome;
 use crate::Table;
 use records::Call;
 use records::FlagNo;
+use records::SubNo;
 use records::TaskNo;
 ghost use Rattle.executive.specs.Step.{StepsCall};
 
@@ -73,6 +74,20 @@ impl Table {
         ensures { λ r. ⌜ StepsCall self (Call.Alarm unit count flag) r ⌝ }
     {
         self.step_call(Call::Alarm { unit, count, flag })
+    }
+
+    // Kind 06.
+    pub fn enter_subprogram(mut self, subprogram: SubNo) -> Outcome
+        ensures { λ r. ⌜ StepsCall self (Call.Enter subprogram) r ⌝ }
+    {
+        self.step_call(Call::Enter { subprogram })
+    }
+
+    // Kind 07.
+    pub fn exit_subprogram(mut self, subprogram: SubNo) -> Outcome
+        ensures { λ r. ⌜ StepsCall self (Call.Exit subprogram) r ⌝ }
+    {
+        self.step_call(Call::Exit { subprogram })
     }
 
     // Kind 80.

@@ -1,4 +1,5 @@
-// The check of the ready queue: exactly the ready tasks, once each, in descending priority.
+// The check of a line, the ready queue's or a subprogram's: exactly the tasks in its state, once each, in descending
+// priority.
 use crate::State;
 use crate::Task;
 use crate::levels;
@@ -10,12 +11,12 @@ ghost use Prim.Native.Nat.{_≤_, _<_, _+_};
 ghost use lib.Dec.{eqb};
 ghost use lib.ListN.{drop, take};
 ghost use Rattle.executive.specs.Lists.{one, upTo, allOf, _and_};
-ghost use Rattle.executive.specs.States.{ready, is, isReady};
+ghost use Rattle.executive.specs.States.{isAs, waitsFor};
 ghost use Rattle.executive.specs.Table.{items, levelsOf};
-ghost use Rattle.executive.specs.Check.{isNobody, falls, exactAt, lineLit, Tallies};
+ghost use Rattle.executive.specs.Check.{isNobody, falls, exactAt, lineRight, lineLit, Tallies};
 
 // The queue's free places are zero.
-fn blank_from(queue: [TaskNo; 16], ready: usize) -> bool
+pub(crate) fn blank_from(queue: [TaskNo; 16], ready: usize) -> bool
     requires { ⌜ ready ≤ 16 ⌝ }
     ensures { λ r. ⌜ r ≡ allOf isNobody (drop ready queue) ⌝ }
 {
@@ -84,19 +85,28 @@ fn tally(queue: [TaskNo; 16], ready: usize) -> Counts
     Counts { of }
 }
 
-// Whether a task that stands n times in the queue stands there as often as its state says: once if it is ready,
-// else never.
-fn exact_at(s: State, n: u8) -> bool
-    ensures { λ r. ⌜ r ≡ eqb n (is ready s) ⌝ }
+// Whether a task that stands n times in a line stands there as often as its state says: once if it is of the line's
+// kind and waits for its number, else never.
+fn exact_at(s: State, n: u8, kind: u8, number: u8) -> bool
+    ensures { λ r. ⌜ r ≡ eqb n (one (isAs kind number s)) ⌝ }
 {
-    let kind = states::kind_of(s);
-    let want = plus_if(0, states::READY, kind);
-    n == want
+    if states::is_as(s, kind, number) {
+        return n == 1;
+    }
+    n == 0
 }
 
-fn all_exact(tasks: [Task; 16], queue: [TaskNo; 16], ready: usize, count: u8) -> bool
+// The line holds exactly those whose state is of a kind and waits for a number, once each.
+fn all_exact(
+    tasks: [Task; 16],
+    queue: [TaskNo; 16],
+    ready: usize,
+    count: u8,
+    kind: u8,
+    number: u8,
+) -> bool
     requires { ⌜ (ready ≤ 16) × (count ≤ 16) ⌝ }
-    ensures { λ r. ⌜ r ≡ upTo (exactAt isReady tasks (take ready queue)) count ⌝ }
+    ensures { λ r. ⌜ r ≡ upTo (exactAt (isAs kind number) tasks (take ready queue)) count ⌝ }
 {
     let c = tally(queue, ready);
     let mut k: u8 = 0;
@@ -104,7 +114,7 @@ fn all_exact(tasks: [Task; 16], queue: [TaskNo; 16], ready: usize, count: u8) ->
         let e = tasks[k as usize];
         let s = e.state;
         let n = c.of[k as usize];
-        if !exact_at(s, n) {
+        if !exact_at(s, n, kind, number) {
             return false;
         }
         k += 1;
@@ -133,5 +143,24 @@ pub(crate) fn line_right(
     if !descends(tasks, queue, n, count, levels) {
         return false;
     }
-    all_exact(tasks, queue, n, count) && blank_from(queue, n)
+    all_exact(tasks, queue, n, count, states::READY, 0) && blank_from(queue, n)
+}
+
+// The line of subprogram m holds exactly those who wait for it, once each, in descending priority; its free places are
+// zero. No word of its levels is kept, so its own is given.
+pub(crate) fn waiting_right(
+    tasks: [Task; 16],
+    line: [TaskNo; 16],
+    waiting: usize,
+    count: u8,
+    m: u8,
+) -> bool
+    requires { ⌜ (waiting ≤ 16) × (count ≤ 16) ⌝ }
+    ensures { λ r. ⌜ r ≡ lineRight (waitsFor m) tasks count waiting line ⌝ }
+{
+    let word = levels::levels_of(tasks, line, waiting);
+    if !descends(tasks, line, waiting, count, word) {
+        return false;
+    }
+    all_exact(tasks, line, waiting, count, states::AWAIT_SUB, m) && blank_from(line, waiting)
 }

@@ -10,7 +10,7 @@ use crate::states;
 ghost use mathlib.Core.Path.{_≡_};
 ghost use Prim.Native.Nat.{_<_};
 ghost use Rattle.executive.specs.States.{ready};
-ghost use Rattle.executive.specs.Check.{inBounds, entryInRange, isZero, isBlank, requestInRange};
+ghost use Rattle.executive.specs.Check.{inBounds, awaitsInRange, entryInRange, isZero, isBlank, requestInRange};
 ghost use Rattle.executive.specs.Check.{isStored, isTimely, alarmRight, isUnmet, namesOthers, dormantEntryRight, isFree, entryRight, requestFits};
 
 // The counts, the granule and the clock are in range.
@@ -32,6 +32,16 @@ pub fn in_bounds(count: u8, granule: u8, clock: Millis, queued: u8) -> bool
     queued <= 32
 }
 
+// One who waits for a subprogram waits for one of 0 to 7.
+pub fn awaits_in_range(s: State) -> bool
+    ensures { λ r. ⌜ r ≡ awaitsInRange s ⌝ }
+{
+    if !states::is_of(s, states::AWAIT_SUB) {
+        return true;
+    }
+    states::awaited_of(s) <= 7
+}
+
 pub fn entry_in_range(e: Task, count: u8) -> bool
     ensures { λ r. ⌜ r ≡ entryInRange count e ⌝ }
 {
@@ -41,7 +51,11 @@ pub fn entry_in_range(e: Task, count: u8) -> bool
     if 15 < e.priority {
         return false;
     }
-    e.end_waiter.0 <= count
+    if count < e.end_waiter.0 {
+        return false;
+    }
+    let s = e.state;
+    awaits_in_range(s)
 }
 
 // Zeros but for the own priority and the state.

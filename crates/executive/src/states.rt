@@ -1,9 +1,10 @@
-// A task's state: its kind, its time and its mask. Only these match each state; all else asks them.
+// A task's state: its kind, its time, its mask and the number that it waits for. Only these match each state; all else
+// asks them.
 use crate::Millis;
 use crate::Mode;
 use crate::State;
 ghost use mathlib.Core.Path.{_≡_};
-ghost use Rattle.executive.specs.States.{KindIs, TimeIs, MaskIs, isOf, isDormant, isPaused, hasTime, hasMask, waitMode};
+ghost use Rattle.executive.specs.States.{KindIs, TimeIs, MaskIs, AwaitedIs, isAs, isOf, isDormant, isPaused, hasTime, hasMask, waitMode};
 
 // The kinds of state. The check goes by these numbers, and a table's image holds them.
 const DORMANT: u8 = 0;
@@ -22,6 +23,8 @@ pub(crate) const AWAIT_START: u8 = 6;
 
 pub(crate) const AWAIT_END: u8 = 7;
 
+pub(crate) const AWAIT_SUB: u8 = 8;
+
 // The kind of a state.
 pub fn kind_of(s: State) -> u8
     ensures { λ r. ⌜ KindIs s r ⌝ }
@@ -37,6 +40,7 @@ pub fn kind_of(s: State) -> u8
         },
         State::AwaitStart => AWAIT_START,
         State::AwaitEnd => AWAIT_END,
+        State::AwaitSub(_) => AWAIT_SUB,
     }
 }
 
@@ -52,6 +56,7 @@ pub fn time_of(s: State) -> Millis
         State::Flags(_, _) => Millis(0),
         State::AwaitStart => Millis(0),
         State::AwaitEnd => Millis(0),
+        State::AwaitSub(_) => Millis(0),
     }
 }
 
@@ -65,6 +70,23 @@ pub fn mask_of(s: State) -> u32
         State::Ready => 0,
         State::Paused(_) => 0,
         State::Due(_) => 0,
+        State::AwaitStart => 0,
+        State::AwaitEnd => 0,
+        State::AwaitSub(_) => 0,
+    }
+}
+
+// The number of what a task in this state waits for, a subprogram's; 0 where it waits for none.
+pub fn awaited_of(s: State) -> u8
+    ensures { λ r. ⌜ AwaitedIs s r ⌝ }
+{
+    match s {
+        State::AwaitSub(m) => m.0,
+        State::Dormant => 0,
+        State::Ready => 0,
+        State::Paused(_) => 0,
+        State::Due(_) => 0,
+        State::Flags(_, _) => 0,
         State::AwaitStart => 0,
         State::AwaitEnd => 0,
     }
@@ -96,6 +118,13 @@ pub(crate) fn has_time(s: State) -> bool
     ensures { λ r. ⌜ r ≡ hasTime s ⌝ }
 {
     is_paused(s) || is_of(s, DUE)
+}
+
+// Whether a state is of a kind and waits for a number.
+pub(crate) fn is_as(s: State, kind: u8, number: u8) -> bool
+    ensures { λ r. ⌜ r ≡ isAs kind number s ⌝ }
+{
+    is_of(s, kind) && number == awaited_of(s)
 }
 
 // Whether a task waits for flags.

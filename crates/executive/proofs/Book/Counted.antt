@@ -92,6 +92,8 @@ call-asks t i call.Tick = refl
 call-asks t i (call.Granule g) = refl
 call-asks t i (call.Task p m) = refl
 call-asks t i call.End = refl
+call-asks t i (call.Enter m) = refl
+call-asks t i (call.Exit m) = refl
 
 pub asks-told : (t : Table) (s : List ℕ) (i : ℕ) → Bytes s → one (asks05 t s (stepOf t s)) ≡ length (newAsked i (turnIn t s))
 unfolding turnIn
@@ -134,6 +136,8 @@ call-begins t u rs i b call.Tick d a = refl
 call-begins t u rs i b (call.Granule g) d a = refl
 call-begins t u rs i b (call.Task p m) d a = refl
 call-begins t u rs i b call.End d a = refl
+call-begins t u rs i b (call.Enter m) d a = refl
+call-begins t u rs i b (call.Exit m) d a = refl
 
 pub begins-told : (t : Table) (s : List ℕ) (i : ℕ) (b : Book) → WellFormed t → Bytes s → Agrees (b .waiting) (requests (t .rest))
     → one (begins? t s (stepOf t s)) ≡ length (newBegun i (turnIn t s) b)

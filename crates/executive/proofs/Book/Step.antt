@@ -24,7 +24,8 @@ use Rattle.executive.specs.Places.{noRequest, taskAt}
 use Rattle.executive.specs.Pool.{requests, placeOf, removed, withRequests}
 use Rattle.executive.specs.Table.{leaves, Plan, apply, change-at}
 use Rattle.executive.specs.Entries.{withState, asDormant}
-use Rattle.executive.specs.Plans.{caller, stateAt, waking, endWaiter, begins, terminatePlan, restartPlan, pausePlan, cancelPausePlan, waitOf, atOnce, outOf, startNowPlan, queueRequestPlan, startIfDormantPlan, requestOf, startOrQueuePlan, setPlan, resetPlan, flagPlan, waitPlan, alarmPlan, tickPlan}
+use Rattle.executive.specs.Plans.{caller, stateAt, waking, endWaiter, begins, terminatePlan, restartPlan, pausePlan, cancelPausePlan, waitOf, atOnce, outOf, startNowPlan, queueRequestPlan, startIfDormantPlan, requestOf, startOrQueuePlan, setPlan, resetPlan, flagPlan, waitPlan, alarmPlan, tickPlan, enterPlan, exitPlan}
+use Rattle.executive.specs.Subprograms.{subAt, isHeld}
 use Rattle.executive.specs.Flags.{met, modeOf}
 use Rattle.executive.specs.States.{dormant, is, isDormant, isPaused}
 use Rattle.executive.specs.WellFormed.{targetsOf, WellFormed}
@@ -156,7 +157,7 @@ module _ (t : Table) (w : WellFormed t) where
   either b p q x y = picked (λ (p : Plan). requests (p .rest)) b p q rs x y
 
   call-does : (c : Call) → firstOf (callRefusals t c) ≡ 0 → MovesAreLegal (planOf t c) t → Does rs (apply (planOf t c) t) (turnOf t c)
-  unfolding planOf turnOf apply restartPlan pausePlan cancelPausePlan startIfDormantPlan startNowPlan flagPlan resetPlan setPlan waitPlan alarmPlan tickPlan
+  unfolding planOf turnOf apply restartPlan pausePlan cancelPausePlan startIfDormantPlan startNowPlan flagPlan resetPlan setPlan waitPlan alarmPlan tickPlan enterPlan exitPlan
   call-does call.Terminate z s = end-does (end-owed t w z .1) s
   call-does (call.Restart p n) z s = refl
   call-does (call.Pause u n) z s = either (eqb n 0) _ _ refl refl
@@ -170,6 +171,8 @@ module _ (t : Table) (w : WellFormed t) where
   call-does (call.Granule g) z s = refl
   call-does (call.Task p m) z s = refl
   call-does call.End z s = refl
+  call-does (call.Enter m) z s = either (isHeld (subAt (t .rest) (m .0))) _ _ refl refl
+  call-does (call.Exit m) z s = refl
 
 -- ---- the step
 planned-so : (t : Table) (s : List ℕ) → stepOf t s .answer .number ≡ 0 → planOfRecord t s ≡ planOf t (callIn s)

@@ -32,3 +32,9 @@ module _ {ℓ} {A : Type ℓ} where
       let f : i ≡ length (take i x) + 0 = omega arith in
       ap (λ (n : ℕ). getD (take i x ++ drop i y) n d) f ∙ getD-append-add (take i x) (drop i y) 0 d ∙ getD-drop i y 0 d
       ∙ ap (λ (n : ℕ). getD y n d) (omega arith)
+
+  -- what stands within a list does not depend on what is read past its end
+  pub getD-within : (xs : List A) (i : ℕ) (d e : A) → i < length xs → getD xs i d ≡ getD xs i e
+  getD-within [] i d e h = absurd (not-suc-le-zero h)
+  getD-within (x ∷ xs) zero d e h = refl
+  getD-within (x ∷ xs) (suc i) d e h = getD-within xs i d e (le-of-suc-le-suc h)

@@ -50,4 +50,5 @@ module _ (t : Table) (w : WellFormedByPart t) where
               priorities = w .rested .priorities;
               neat = record { room = w .rested .neat .room; clear = w .rested .neat .clear };
             };
+            lined = w .lined;
           }

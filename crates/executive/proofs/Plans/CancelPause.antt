@@ -19,6 +19,7 @@ use Rattle.executive.specs.States.{isPaused, paused, due, stateKind}
 use Rattle.executive.proofs.Plans.WorkingForm.{WellFormedByPart}
 use Rattle.executive.proofs.Plans.LinksKept.{links-up, up-links}
 use Rattle.executive.proofs.Plans.GoodIsKept.{puts, Good}
+use Rattle.executive.proofs.Plans.SubsKept.{joined, subs-else}
 use Rattle.executive.proofs.Plans.Shared.{EntryOkIn, nothing-good}
 use Rattle.executive.proofs.Plans.Rising.{Tells, One, enters}
 use Rattle.executive.proofs.states.Laws.{of-kind, counted}
@@ -42,7 +43,14 @@ module _ (t : Table) (w : WellFormedByPart t) where
   raise-good k e =
       let r : One (raising k ∷ []) (t .tasks) (requests (t .rest)) now (t .rest .flags) (t .rest .count) (k .0) =
       enters isPaused (requests (t .rest)) now (t .rest .flags) now (t .rest .flags) (t .rest .count) paused-tells (t .tasks) k (links-up (w .links)) e (w .own (k .0)) in
-      record { leaving = refl; joining = r .joining; linked = up-links (r .linked); own = λ j. go r j (eqb j (k .0)) refl; rested = w .rested }
+      record {
+        leaving = refl;
+        joining = joined (raising k ∷ []) (t .tasks) (r .joining);
+        linked = up-links (r .linked);
+        own = λ j. go r j (eqb j (k .0)) refl;
+        rested = w .rested;
+        lined = subs-else (raising k ∷ []) (t .tasks) (r .joining) (w .lined);
+      }
     where
       go : One (raising k ∷ []) (t .tasks) (requests (t .rest)) now (t .rest .flags) (t .rest .count) (k .0)
           → (j : ℕ) (b : Bool) → eqb j (k .0) ≡ b → EntryOkIn (t .rest) j (taskAt (puts (raising k ∷ []) (t .tasks)) j)

@@ -17,6 +17,7 @@ use Rattle.executive.specs.WellFormed.{Unmet}
 use Rattle.executive.proofs.Plans.WorkingForm.{RestOk, WellFormedByPart}
 use Rattle.executive.proofs.Plans.LinksKept.{links-up, up-links}
 use Rattle.executive.proofs.Plans.GoodIsKept.{puts, Good}
+use Rattle.executive.proofs.Plans.SubsKept.{joined, subs-else}
 use Rattle.executive.proofs.Plans.Shared.{nothing-good}
 use Rattle.executive.proofs.Plans.Rising.{Tells, Done, all-risen}
 use Rattle.executive.proofs.flags.Masks.{met-fewer}
@@ -59,7 +60,14 @@ module _ (t : Table) (w : WellFormedByPart t) where
       let now : ℕ = t .rest .clock .0 in
       let d : Done (risers (holds fs) 1 (t .tasks)) (t .tasks) (requests (t .rest)) now fs (t .rest .count) =
       all-risen (holds fs) (requests (t .rest)) now (t .rest .flags) now fs (t .rest .count) (holds-tells now (t .rest .flags) fs) (t .tasks) (links-up (w .links)) (w .own) in
-      record { leaving = refl; joining = d .joining; linked = up-links (d .linked); own = d .own; rested = flagged fs }
+      record {
+        leaving = refl;
+        joining = joined (risers (holds fs) 1 (t .tasks)) (t .tasks) (d .joining);
+        linked = up-links (d .linked);
+        own = d .own;
+        rested = flagged fs;
+        lined = subs-else (risers (holds fs) 1 (t .tasks)) (t .tasks) (d .joining) (w .lined);
+      }
 
   pub reset-good : (f : FlagNo) → Good (resetPlan t f) t
   unfolding resetPlan puts
@@ -78,6 +86,7 @@ module _ (t : Table) (w : WellFormedByPart t) where
           beyond = o .beyond;
         };
     rested = flagged (flagReset (t .rest .flags) (f .0));
+    lined = w .lined;
   }
 
   pub flag-good : (operation : ℕ) (f : FlagNo) → Good (flagPlan t operation f) t

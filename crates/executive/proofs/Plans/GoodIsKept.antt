@@ -14,7 +14,7 @@ use Rattle.executive.specs.Pool.{requests}
 use Rattle.executive.specs.Places.{taskAt, putAt}
 use Rattle.executive.specs.States.{ready, is, isReady}
 use Rattle.executive.specs.WellFormed.{Line}
-use Rattle.executive.proofs.Plans.WorkingForm.{EntriesOk, LinksOk, RestOk, WellFormedByPart}
+use Rattle.executive.proofs.Plans.WorkingForm.{EntriesOk, LinksOk, RestOk, SubsOk, WellFormedByPart}
 use Rattle.executive.proofs.queue.ArraysAreLists.{enter-length, line-length, departed-fit, entered-fit}
 use Rattle.executive.proofs.Plans.Moves.{Entering, MovesAreLegal, out-tasks, leave-line}
 use Rattle.executive.proofs.Plans.QueueKept.{Joins, join-kept, head-is, line-out}
@@ -44,6 +44,7 @@ pub record Good (p : Plan) (t : Table) : Type 0 where
   pub linked : LinksOk (after-tasks p t) (requests (p .rest))
   pub own : EntriesOk (p .rest) (after-tasks p t)
   pub rested : RestOk (p .rest)
+  pub lined : SubsOk (after-tasks p t) (p .rest .subs)
 
 pub joins-tasks : (js : List Join) (t : Table) → joins js t .tasks ≡ puts js (t .tasks)
 unfolding joins puts join entered
@@ -142,6 +143,7 @@ apply-kept p t w g =
         own = rw f (g .own);
         rested = g .rested;
         lit = refl;
+        lined = rw f (g .lined);
       };
       sound = record { once = once (t .tasks) (line t) (w .queue); entering = k .entering };
       room = k .room;

@@ -11,11 +11,12 @@ use Rattle.executive.specs.declared.Request.{Request}
 use Rattle.executive.specs.Lists.{one, sumOf}
 use Rattle.executive.specs.Pool.{placeOf, removed}
 use Rattle.executive.specs.Places.{Names, noRequest, taskAt, putAt}
-use Rattle.executive.specs.States.{dormant, ready, awaitStart, awaitEnd, is}
+use Rattle.executive.specs.States.{dormant, ready, awaitStart, awaitEnd, awaitSub, stateKind, is}
 use Rattle.executive.specs.WellFormed.{startsOf, endsOf, runsOf, targetsOf, waitsForItself}
 use Rattle.executive.proofs.Lists.Tests.{So-of-true, eqb-self, not-zero, eqb-no, eqb-swap}
 use Rattle.executive.proofs.queue.Law.{one-zero}
 use Rattle.executive.proofs.Lists.Sums.{sum-snoc}
+use Rattle.executive.proofs.states.Laws.{counted}
 use Rattle.executive.proofs.Plans.QueueKept.{not-both, busy-names}
 use Rattle.executive.proofs.Plans.LinksKept.{countIf, countIf-zero, countIf-one, LinksUpTo, links-put}
 
@@ -39,8 +40,8 @@ module _ (ts : List Task) (p : List Request) (j : ℕ) (e : Task) where
   -- the run of the caller ends: its end waiter is an orphan
   pub retire : is ready (old .state) ≡ 1 → is dormant (e .state) ≡ 1 → e .«end_waiter» .0 ≡ 0 → LinksUpTo ts p 0 0 0 → LinksUpTo (putAt ts j e) p (old .«end_waiter» .0) 0 j
   retire r z g l =
-      let x : is ready (old .state) + is dormant (old .state) + is awaitStart (old .state) + is awaitEnd (old .state) ≤ 1 = not-both (old .state) in
-      let y : is ready (e .state) + is dormant (e .state) + is awaitStart (e .state) + is awaitEnd (e .state) ≤ 1 = not-both (e .state) in
+      let x : counted (stateKind (old .state)) ≤ 1 = not-both (old .state) in
+      let y : counted (stateKind (e .state)) ≤ 1 = not-both (e .state) in
       let n : Names j ts = busy-names ts j (omega arith) in
       links-put ts p j e 0 0 0 (old .«end_waiter» .0) 0 j (record {
         names = n;
@@ -53,10 +54,10 @@ module _ (ts : List Task) (p : List Request) (j : ℕ) (e : Task) where
       }) l
 
   -- the run of the caller ends, and it stays busy: its end waiter is an orphan
-  pub release : is ready (old .state) ≡ 1 → is ready (e .state) + is dormant (e .state) + is awaitStart (e .state) + is awaitEnd (e .state) ≡ 0 → e .«end_waiter» .0 ≡ 0 → LinksUpTo ts p 0 0 0
+  pub release : is ready (old .state) ≡ 1 → counted (stateKind (e .state)) ≡ 0 → e .«end_waiter» .0 ≡ 0 → LinksUpTo ts p 0 0 0
       → LinksUpTo (putAt ts j e) p (old .«end_waiter» .0) 0 0
   release r z g l =
-      let x : is ready (old .state) + is dormant (old .state) + is awaitStart (old .state) + is awaitEnd (old .state) ≤ 1 = not-both (old .state) in
+      let x : counted (stateKind (old .state)) ≤ 1 = not-both (old .state) in
       let n : Names j ts = busy-names ts j (omega arith) in
       links-put ts p j e 0 0 0 (old .«end_waiter» .0) 0 0 (record {
         names = n;
@@ -69,12 +70,12 @@ module _ (ts : List Task) (p : List Request) (j : ℕ) (e : Task) where
       }) l
 
   -- the orphan end waiter enters
-  pub wake-ender : (s d : ℕ) → 0 < j → e .«end_waiter» .0 ≡ old .«end_waiter» .0 → is ready (e .state) ≡ 1 → LinksUpTo ts p j s d → Names j ts × (is ready (old .state) + is dormant (old .state) ≡ 0) × LinksUpTo (putAt ts j e) p 0 s d
+  pub wake-ender : (s d : ℕ) → 0 < j → e .«end_waiter» .0 ≡ old .«end_waiter» .0 → is ready (e .state) ≡ 1 → LinksUpTo ts p j s d → Names j ts × (is ready (old .state) + is dormant (old .state) + is awaitSub (old .state) ≡ 0) × LinksUpTo (putAt ts j e) p 0 s d
   wake-ender s d h₀ g r l =
       let a : endsOf j p + runsOf j ts + one (eqb j j) ≡ is awaitEnd (old .state) = l .ends j h₀ in
       let b : one (eqb j j) ≡ 1 = ap one (eqb-self j) in
-      let x : is ready (old .state) + is dormant (old .state) + is awaitStart (old .state) + is awaitEnd (old .state) ≤ 1 = not-both (old .state) in
-      let y : is ready (e .state) + is dormant (e .state) + is awaitStart (e .state) + is awaitEnd (e .state) ≤ 1 = not-both (e .state) in (
+      let x : counted (stateKind (old .state)) ≤ 1 = not-both (old .state) in
+      let y : counted (stateKind (e .state)) ≤ 1 = not-both (e .state) in (
         busy-names ts j (omega arith),
         omega arith,
         links-put ts p j e j s d 0 s d (record {
@@ -89,12 +90,12 @@ module _ (ts : List Task) (p : List Request) (j : ℕ) (e : Task) where
       )
 
   -- the orphan start waiter enters
-  pub wake-starter : (w d : ℕ) → 0 < j → e .«end_waiter» .0 ≡ old .«end_waiter» .0 → is ready (e .state) ≡ 1 → LinksUpTo ts p w j d → Names j ts × (is ready (old .state) + is dormant (old .state) ≡ 0) × LinksUpTo (putAt ts j e) p w 0 d
+  pub wake-starter : (w d : ℕ) → 0 < j → e .«end_waiter» .0 ≡ old .«end_waiter» .0 → is ready (e .state) ≡ 1 → LinksUpTo ts p w j d → Names j ts × (is ready (old .state) + is dormant (old .state) + is awaitSub (old .state) ≡ 0) × LinksUpTo (putAt ts j e) p w 0 d
   wake-starter w d h₀ g r l =
       let a : startsOf j p + one (eqb j j) ≡ is awaitStart (old .state) = l .starts j h₀ in
       let b : one (eqb j j) ≡ 1 = ap one (eqb-self j) in
-      let x : is ready (old .state) + is dormant (old .state) + is awaitStart (old .state) + is awaitEnd (old .state) ≤ 1 = not-both (old .state) in
-      let y : is ready (e .state) + is dormant (e .state) + is awaitStart (e .state) + is awaitEnd (e .state) ≤ 1 = not-both (e .state) in (
+      let x : counted (stateKind (old .state)) ≤ 1 = not-both (old .state) in
+      let y : counted (stateKind (e .state)) ≤ 1 = not-both (e .state) in (
         busy-names ts j (omega arith),
         omega arith,
         links-put ts p j e w j d w 0 d (record {
@@ -112,8 +113,8 @@ module _ (ts : List Task) (p : List Request) (j : ℕ) (e : Task) where
   pub begin : (w s : ℕ) → Names j ts → is dormant (old .state) ≡ 1 → is ready (e .state) ≡ 1 → e .«end_waiter» .0 ≡ w → eqb j w ≡ false → (d : ℕ) → ((k : ℕ) → 0 < k → eqb k j ≡ false → eqb k d ≡ false)
       → LinksUpTo ts p w s d → LinksUpTo (putAt ts j e) p 0 s 0
   begin w s n z r g o d f l =
-      let x : is ready (old .state) + is dormant (old .state) + is awaitStart (old .state) + is awaitEnd (old .state) ≤ 1 = not-both (old .state) in
-      let y : is ready (e .state) + is dormant (e .state) + is awaitStart (e .state) + is awaitEnd (e .state) ≤ 1 = not-both (e .state) in
+      let x : counted (stateKind (old .state)) ≤ 1 = not-both (old .state) in
+      let y : counted (stateKind (e .state)) ≤ 1 = not-both (e .state) in
       links-put ts p j e w s d 0 s 0 (record {
         names = n;
         starts = λ k h. omega (arith, countIf-zero (eqb k j) (is awaitStart (old .state)) (omega arith), countIf-zero (eqb k j) (is awaitStart (e .state)) (omega arith));
@@ -134,8 +135,8 @@ module _ (ts : List Task) (p : List Request) (j : ℕ) (e : Task) where
   -- the caller departs to wait for an end, or for a start: an orphan until a link names it
   pub await-end : (s d : ℕ) → is ready (old .state) ≡ 1 → is awaitEnd (e .state) ≡ 1 → e .«end_waiter» .0 ≡ old .«end_waiter» .0 → LinksUpTo ts p 0 s d → LinksUpTo (putAt ts j e) p j s d
   await-end s d r z g l =
-      let x : is ready (old .state) + is dormant (old .state) + is awaitStart (old .state) + is awaitEnd (old .state) ≤ 1 = not-both (old .state) in
-      let y : is ready (e .state) + is dormant (e .state) + is awaitStart (e .state) + is awaitEnd (e .state) ≤ 1 = not-both (e .state) in
+      let x : counted (stateKind (old .state)) ≤ 1 = not-both (old .state) in
+      let y : counted (stateKind (e .state)) ≤ 1 = not-both (e .state) in
       let n : Names j ts = busy-names ts j (omega arith) in
       links-put ts p j e 0 s d j s d (record {
         names = n;
@@ -149,8 +150,8 @@ module _ (ts : List Task) (p : List Request) (j : ℕ) (e : Task) where
 
   pub await-start : (w d : ℕ) → is ready (old .state) ≡ 1 → is awaitStart (e .state) ≡ 1 → e .«end_waiter» .0 ≡ old .«end_waiter» .0 → LinksUpTo ts p w 0 d → LinksUpTo (putAt ts j e) p w j d
   await-start w d r z g l =
-      let x : is ready (old .state) + is dormant (old .state) + is awaitStart (old .state) + is awaitEnd (old .state) ≤ 1 = not-both (old .state) in
-      let y : is ready (e .state) + is dormant (e .state) + is awaitStart (e .state) + is awaitEnd (e .state) ≤ 1 = not-both (e .state) in
+      let x : counted (stateKind (old .state)) ≤ 1 = not-both (old .state) in
+      let y : counted (stateKind (e .state)) ≤ 1 = not-both (e .state) in
       let n : Names j ts = busy-names ts j (omega arith) in
       links-put ts p j e w 0 d w j d (record {
         names = n;

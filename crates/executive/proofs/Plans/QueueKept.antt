@@ -16,13 +16,13 @@ use Rattle.executive.specs.Lists.{one}
 use Rattle.executive.specs.Queue.{count}
 use Rattle.executive.specs.Places.{Names, noTask, taskAt, putAt}
 use Rattle.executive.specs.Table.{line, items, enterAt, Join, entered, join}
-use Rattle.executive.specs.States.{dormant, ready, awaitStart, awaitEnd, stateKind, is, isDormant, isReady}
+use Rattle.executive.specs.States.{dormant, ready, awaitStart, awaitEnd, awaitSub, stateKind, isOf, is, isDormant, isReady}
 use Rattle.executive.specs.WellFormed.{Line}
 use Rattle.executive.proofs.Lists.Tests.{Le, le-yes, le-no, leb-is, So-of-true, eqb-self}
 use Rattle.executive.proofs.queue.Law.{insert-count, insert-desc}
 use Rattle.executive.proofs.Plans.Moves.{items-put, enter-items, join-line}
 use Rattle.executive.proofs.places.TaskAt.{put-at}
-use Rattle.executive.proofs.states.Laws.{counted, dormant-named}
+use Rattle.executive.proofs.states.Laws.{counted, of-kind, dormant-named}
 
 -- a task that is busy is one of the list
 pub busy-names : (ts : List Task) (k : ℕ) → is dormant (taskAt ts k .state) ≡ 0 → Names k ts
@@ -35,40 +35,26 @@ busy-names ts (suc i) h = (omega arith, go (leb (suc i) (length ts)) (leb-is (su
     go false (le-no g) = absurd (omega (arith, rw (List·getD-eq-default ts noTask {n = i} (omega arith)) at h))
 
 -- a state is of one kind
-kinds : (x : ℕ) → counted x ≤ 1
-kinds x = go (eqb ready x) (eqb dormant x) (eqb awaitStart x) (eqb awaitEnd x) refl refl refl refl
-  where
-    eq : (n : ℕ) → eqb n x ≡ true → n ≡ x
-    eq n e = eqb→eq n x (So-of-true (eqb n x) e)
-
-    go : (a b c d : Bool) → eqb ready x ≡ a → eqb dormant x ≡ b → eqb awaitStart x ≡ c → eqb awaitEnd x ≡ d → one a + one b + one c + one d ≤ 1
-    go false false false false p q r s = lit≤ tt
-    go true false false false p q r s = lit≤ tt
-    go false true false false p q r s = lit≤ tt
-    go false false true false p q r s = lit≤ tt
-    go false false false true p q r s = lit≤ tt
-    go true true c d p q r s = absurd (omega (arith, eq ready p, eq dormant q))
-    go true false true d p q r s = absurd (omega (arith, eq ready p, eq awaitStart r))
-    go true false false true p q r s = absurd (omega (arith, eq ready p, eq awaitEnd s))
-    go false true true d p q r s = absurd (omega (arith, eq dormant q, eq awaitStart r))
-    go false true false true p q r s = absurd (omega (arith, eq dormant q, eq awaitEnd s))
-    go false false true true p q r s = absurd (omega (arith, eq awaitStart r, eq awaitEnd s))
-
 pub not-both : (s : State) → counted (stateKind s) ≤ 1
-not-both s = kinds (stateKind s)
-
-pub is-le : (n : ℕ) (s : State) → is n s ≤ 1
-is-le n s = go (eqb n (stateKind s))
+not-both s =
+    by ready (lit≤ tt)
+    (λ a. by dormant (lit≤ tt) (λ b. by awaitStart (lit≤ tt) (λ c. by awaitEnd (lit≤ tt) (λ d. by awaitSub (lit≤ tt) (λ e. omega (arith, ap one a, ap one b, ap one c, ap one d, ap one e))))))
   where
-    go : (b : Bool) → one b ≤ 1
-    go true = lit≤ tt
-    go false = lit≤ tt
+    by : (n : ℕ) → counted n ≤ 1 → (isOf n s ≡ false → counted (stateKind s) ≤ 1) → counted (stateKind s) ≤ 1
+    by n h other = go (isOf n s) refl
+      where
+        go : (b : Bool) → isOf n s ≡ b → counted (stateKind s) ≤ 1
+        go true e = of-kind (λ (k : ℕ). counted k ≤ 1) n h s e
+        go false e = other e
 
--- ---- a line: the ready queue, and any other line of waiting tasks. One joins it, the head leaves it.
-one-le : (b : Bool) → one b ≤ 1
+pub one-le : (b : Bool) → one b ≤ 1
 one-le true = lit≤ tt
 one-le false = lit≤ tt
 
+pub is-le : (n : ℕ) (s : State) → is n s ≤ 1
+is-le n s = one-le (isOf n s)
+
+-- ---- a line: the ready queue, and any other line of waiting tasks. One joins it, the head leaves it.
 module _ (f : State → Bool) (ts : List Task) (jn : TaskNo) (e : Task) where
   abbrev j : ℕ
   j = jn .0
@@ -84,6 +70,19 @@ module _ (f : State → Bool) (ts : List Task) (jn : TaskNo) (e : Task) where
       go : (k : ℕ) (b : Bool) → eqb k j ≡ b → one b + count k (items ts r) ≡ cond b (one (f (e .state))) (one (f (taskAt ts k .state)))
       go k true g = rw (eqb→eq k j (So-of-true (eqb k j) g)) (omega (arith, q .exact j))
       go k false g = omega (arith, q .exact k)
+
+-- one who does not stand in it changes, and does not come to belong there
+pub line-else : (f : State → Bool) (ts : List Task) (j : ℕ) (e : Task) (r : List TaskNo) → Line f ts r → Names j ts → one (f (taskAt ts j .state)) ≡ 0 → one (f (e .state)) ≡ 0 → Line f (putAt ts j e) r
+line-else f ts j e r q n x y =
+    let v : items (putAt ts j e) r ≡ items ts r = items-put ts j e r (q .exact j ∙ x) in
+    record {
+      exact = λ k. rw (v, put-at (λ (e : Task). one (f (e .state))) ts j k e n) (go k (eqb k j) refl);
+      sorted = rw v (q .sorted);
+    }
+  where
+    go : (k : ℕ) (b : Bool) → eqb k j ≡ b → count k (items ts r) ≡ cond b (one (f (e .state))) (one (f (taskAt ts k .state)))
+    go k true g = rw (eqb→eq k j (So-of-true (eqb k j) g)) (omega (arith, q .exact j))
+    go k false g = q .exact k
 
 -- the head of a line
 pub record Head (f : State → Bool) (ts : List Task) (c : TaskNo) (r : List TaskNo) : Type 0 where

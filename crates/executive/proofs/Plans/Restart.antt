@@ -19,14 +19,15 @@ use Rattle.executive.specs.Places.{Names, taskAt, putAt}
 use Rattle.executive.specs.Table.{line, headOf, leaves, depart}
 use Rattle.executive.specs.States.{ready}
 use Rattle.executive.specs.Clock.{aimAt}
-use Rattle.executive.proofs.Plans.WorkingForm.{EntriesOk, WellFormedByPart, busy-own}
+use Rattle.executive.proofs.Plans.WorkingForm.{EntriesOk, SubsOk, WellFormedByPart, busy-own}
 use Rattle.executive.proofs.Lists.Tests.{false-not-true, eqb-no}
 use Rattle.executive.proofs.clock.Interval.{aim-most}
 use Rattle.executive.proofs.places.TaskAt.{at-same, put-length}
 use Rattle.executive.proofs.Plans.LinksKept.{put-all, links-up, up-links}
 use Rattle.executive.proofs.Plans.Links.{alike, release}
 use Rattle.executive.proofs.Plans.GoodIsKept.{puts, Good, JoinsAll, JoinsKeep, moves-kept}
-use Rattle.executive.proofs.Plans.Shared.{EntryOkIn, ready-own, runs, Woken, ender-in, joins-append, puts-append, wake-other, wake-length, inside}
+use Rattle.executive.proofs.Plans.SubsKept.{AllElse, joined, subs-else}
+use Rattle.executive.proofs.Plans.Shared.{EntryOkIn, ready-own, runs, Woken, ender-in, joins-append, puts-append, wake-other, wake-length, inside, leaves-else}
 
 module _ (t : Table) (w : WellFormedByPart t) (h : 0 < t .ready) where
   abbrev c : TaskNo
@@ -76,11 +77,14 @@ module _ (t : Table) (w : WellFormedByPart t) (h : 0 < t .ready) where
         go true y = rw (eqb-true k (c .0) y, still) o
         go false y = freed .own k y
 
-    later-joining : JoinsAll (waking (endWaiter t c) ++ []) ts₄
-    later-joining = joins-append (waking (endWaiter t c)) [] ts₄ (freed .joining) tt
+    later-all : AllElse (waking (endWaiter t c) ++ []) ts₄
+    later-all = joins-append (waking (endWaiter t c)) [] ts₄ (freed .joining) tt
 
-    now-joining : JoinsAll (waking (endWaiter t c) ++ (raising c ∷ [])) ts₄
-    now-joining = joins-append (waking (endWaiter t c)) (raising c ∷ []) ts₄ (freed .joining) (record { names = there; before = rw still refl; after = refl }, tt)
+    now-all : AllElse (waking (endWaiter t c) ++ (raising c ∷ [])) ts₄
+    now-all = joins-append (waking (endWaiter t c)) (raising c ∷ []) ts₄ (freed .joining) (record { names = there; before = rw still refl; after = refl }, tt)
+
+    due-lined : SubsOk ts₄ (t .rest .subs)
+    due-lined = leaves-else t w h e₁ refl (λ z. absurd (omega arith))
 
     later-good : aim .0 ≤ now + longest → now < aim .0 → Good (record { out = leaves (dueAt aim); ins = waking (endWaiter t c) ++ []; rest = t .rest }) t
     unfolding puts
@@ -88,10 +92,11 @@ module _ (t : Table) (w : WellFormedByPart t) (h : 0 < t .ready) where
         let u = puts-append (waking (endWaiter t c)) [] ts₄ in
         record {
           leaving = refl;
-          joining = later-joining;
+          joining = joined (waking (endWaiter t c) ++ []) ts₄ later-all;
           linked = rw u (up-links (freed .linked));
           own = rw u (and-caller (busy-own (λ _. (z, far), false-not-true) (w .own (c .0) .started) (w .own (c .0) .level) (w .own (c .0) .home) refl (inside t w h)));
           rested = w .rested;
+          lined = subs-else (waking (endWaiter t c) ++ []) ts₄ later-all due-lined;
         }
 
     -- the rest is the plan's own: one that took a request out of the pool would have other links
@@ -103,10 +108,11 @@ module _ (t : Table) (w : WellFormedByPart t) (h : 0 < t .ready) where
         let o : EntryOkIn (t .rest) (c .0) (risen e₁) = busy-own (false-not-true, false-not-true) z (w .own (c .0) .level) (w .own (c .0) .home) refl (inside t w h) in
         record {
           leaving = refl;
-          joining = now-joining;
+          joining = joined (waking (endWaiter t c) ++ (raising c ∷ [])) ts₄ now-all;
           linked = rw u (up-links (alike ts₅ rs (c .0) v 0 0 0 there refl (rw still refl) (rw still refl) refl (rw still refl) (freed .linked)));
           own = rw u (λ k. put-all (EntryOkIn (t .rest)) ts₅ (c .0) v there (rw still o) k (λ y. freed .own k y));
           rested = w .rested;
+          lined = subs-else (waking (endWaiter t c) ++ (raising c ∷ [])) ts₄ now-all due-lined;
         }
 
   pub restart-good : (p n : ℕ) → n < 256 → Good (restartPlan t p n) t
@@ -129,5 +135,5 @@ module _ (t : Table) (w : WellFormedByPart t) (h : 0 < t .ready) where
       go aim = moves-kept (leaves (dueAt aim)) (restartBy t c aim .ins) t w refl (by (leb (aim .0) now))
         where
           by : (b : Bool) → JoinsAll (waking (endWaiter t c) ++ cond b (raising c ∷ []) []) (ts₄ aim)
-          by true = now-joining aim
-          by false = later-joining aim
+          by true = joined (waking (endWaiter t c) ++ (raising c ∷ [])) (ts₄ aim) (now-all aim)
+          by false = joined (waking (endWaiter t c) ++ []) (ts₄ aim) (later-all aim)

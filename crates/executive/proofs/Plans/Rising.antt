@@ -18,14 +18,15 @@ use Rattle.executive.specs.Lists.{one, sumOf}
 use Rattle.executive.specs.Plans.{raising, passing, raisings, risers}
 use Rattle.executive.specs.Places.{Names, taskAt, putAt, timesIn}
 use Rattle.executive.specs.Table.{Join}
-use Rattle.executive.specs.States.{dormant, ready, awaitStart, awaitEnd, is, stateKind}
+use Rattle.executive.specs.States.{dormant, ready, awaitStart, awaitEnd, awaitSub, is, stateKind}
 use Rattle.executive.proofs.Plans.WorkingForm.{StateOk, EntryOk, busy-within, busy-own}
 use Rattle.executive.proofs.Lists.Tests.{false-not-true, eqb-self}
 use Rattle.executive.proofs.places.TaskAt.{at-same, at-other}
 use Rattle.executive.proofs.Plans.QueueKept.{busy-names}
 use Rattle.executive.proofs.Plans.LinksKept.{LinksUpTo}
 use Rattle.executive.proofs.Plans.Links.{alike}
-use Rattle.executive.proofs.Plans.GoodIsKept.{puts, JoinsAll}
+use Rattle.executive.proofs.Plans.GoodIsKept.{puts}
+use Rattle.executive.proofs.Plans.SubsKept.{AllElse}
 use Rattle.executive.proofs.states.Laws.{counted}
 use Rattle.executive.proofs.waking.Numbers.{passing-counts}
 
@@ -37,13 +38,13 @@ pub record Tells (f : State → Bool) (a fa c fs : ℕ) : Type 0 where
   pub calms : (s : State) → f s ≡ false → StateOk a fa s → StateOk c fs s
 
 pub record Done (js : List Join) (ts : List Task) (p : List Request) (c fs n : ℕ) : Type 0 where
-  pub joining : JoinsAll js ts
+  pub joining : AllElse js ts
   pub linked : LinksUpTo (puts js ts) p 0 0 0
   pub own : (k : ℕ) → EntryOk c fs n k (taskAt (puts js ts) k)
 
 -- one task: it stays, or it enters
 pub record One (js : List Join) (ts : List Task) (p : List Request) (c fs n k : ℕ) : Type 0 where
-  pub joining : JoinsAll js ts
+  pub joining : AllElse js ts
   pub linked : LinksUpTo (puts js ts) p 0 0 0
   pub own : EntryOk c fs n k (taskAt (puts js ts) k)
   pub rest : (j : ℕ) → eqb j k ≡ false → taskAt (puts js ts) j ≡ taskAt ts j
@@ -60,7 +61,7 @@ module _ (f : State → Bool) (p : List Request) (a fa c fs n : ℕ) (tells : Te
   unfolding puts
   enters ts k l g y =
       let e : Task = taskAt ts (k .0) in
-      let z : is ready (e .state) + is dormant (e .state) + is awaitStart (e .state) + is awaitEnd (e .state) ≡ 0 = tells .waits (e .state) g in
+      let z : is ready (e .state) + is dormant (e .state) + is awaitStart (e .state) + is awaitEnd (e .state) + is awaitSub (e .state) ≡ 0 = tells .waits (e .state) g in
       let m : Names (k .0) ts = busy-names ts (k .0) (omega arith) in
       let v : Task = risen e in
       let o : EntryOk c fs n (k .0) v = busy-own (false-not-true, false-not-true) (tells .aims (e .state) (e .start) g (y .started)) (y .level) (y .home) refl (busy-within y (omega arith)) in

@@ -12,16 +12,18 @@ use Rattle.executive.specs.declared.State.{State}
 use Rattle.executive.specs.declared.State.the-variants.{Ready}
 use Rattle.executive.specs.declared.Task.{Task}
 use Rattle.executive.specs.declared.Request.{Request}
+use Rattle.executive.specs.declared.Sub.{Sub}
 use Rattle.executive.specs.declared.Rest.{Rest}
 use Rattle.executive.specs.declared.Table.{Table}
 use Rattle.executive.specs.Entries.{withState}
+use Rattle.executive.specs.Rest.{withSubs}
 use Rattle.executive.specs.Plans.{waking, nothing}
 use Rattle.executive.specs.Pool.{withRequests, PoolInOrder, requests}
 use Rattle.executive.specs.Places.{noRequest, Names, taskAt, putAt}
 use Rattle.executive.specs.Table.{line, headOf, leaves, Join, change-at}
-use Rattle.executive.specs.States.{dormant, ready, awaitStart, awaitEnd, is, stateKind, isReady}
+use Rattle.executive.specs.States.{dormant, ready, awaitStart, awaitEnd, awaitSub, is, stateKind, isReady}
 use Rattle.executive.specs.WellFormed.{overPriority, Line}
-use Rattle.executive.proofs.Plans.WorkingForm.{StateOk, EntryOk, EntriesOk, RestOk, WellFormedByPart, busy-within, busy-own}
+use Rattle.executive.proofs.Plans.WorkingForm.{StateOk, EntryOk, EntriesOk, RestOk, SubsOk, WellFormedByPart, busy-within, busy-own}
 use Rattle.executive.proofs.Lists.Tests.{false-not-true}
 use Rattle.executive.proofs.Lists.Pad.{line-pad}
 use Rattle.executive.proofs.queue.ArraysAreLists.{line-length}
@@ -29,7 +31,8 @@ use Rattle.executive.proofs.places.TaskAt.{at-other, put-length}
 use Rattle.executive.proofs.Plans.QueueKept.{not-both, busy-names, head-is}
 use Rattle.executive.proofs.Plans.LinksKept.{put-all, LinksUpTo, links-up, up-links}
 use Rattle.executive.proofs.Plans.Links.{alike, wake-ender, wake-starter}
-use Rattle.executive.proofs.Plans.GoodIsKept.{puts, JoinsAll, Good}
+use Rattle.executive.proofs.Plans.GoodIsKept.{puts, Good}
+use Rattle.executive.proofs.Plans.SubsKept.{HoldsNone, AllElse, subs-put}
 use Rattle.executive.proofs.states.Laws.{counted}
 
 -- the entry of task k is in order, beside the rest r
@@ -48,7 +51,7 @@ ready-own b o = state-own Ready (false-not-true, false-not-true) refl b o
 
 pub nothing-good : (t : Table) → WellFormedByPart t → Good (nothing t) t
 unfolding puts
-nothing-good t w = record { leaving = refl; joining = tt; linked = w .links; own = w .own; rested = w .rested }
+nothing-good t w = record { leaving = refl; joining = tt; linked = w .links; own = w .own; rested = w .rested; lined = w .lined }
 
 -- what is known of the caller
 pub record Runs (ts : List Task) (c : ℕ) : Type 0 where
@@ -56,6 +59,7 @@ pub record Runs (ts : List Task) (c : ℕ) : Type 0 where
   pub is-busy : is dormant (taskAt ts c .state) ≡ 0
   pub no-start : is awaitStart (taskAt ts c .state) ≡ 0
   pub no-end : is awaitEnd (taskAt ts c .state) ≡ 0
+  pub no-sub : is awaitSub (taskAt ts c .state) ≡ 0
   pub names : Names c ts
 
 caller-ready : (ts : List Task) (r : List TaskNo) → Line isReady ts r → 0 < length r → is ready (taskAt ts (headOf r .0) .state) ≡ 1
@@ -66,7 +70,12 @@ pub runs : (t : Table) → WellFormedByPart t → 0 < t .ready → Runs (t .task
 runs t w h =
     let r : is ready (taskAt (t .tasks) (headOf (line t) .0) .state) ≡ 1 = caller-ready (t .tasks) (line t) (w .queue) (omega (arith, line-length t (w .fit))) in
     let x = not-both (taskAt (t .tasks) (headOf (line t) .0) .state) in
-    record { is-ready = r; is-busy = omega arith; no-start = omega arith; no-end = omega arith; names = busy-names (t .tasks) (headOf (line t) .0) (omega arith) }
+    record { is-ready = r; is-busy = omega arith; no-start = omega arith; no-end = omega arith; no-sub = omega arith; names = busy-names (t .tasks) (headOf (line t) .0) (omega arith) }
+
+-- the caller departs, and not to wait for a subprogram: one that sleeps holds none
+pub leaves-else : (t : Table) → WellFormedByPart t → 0 < t .ready → (e : Task) → is awaitSub (e .state) ≡ 0 → (is dormant (e .state) ≡ 1 → HoldsNone (headOf (line t) .0) (t .rest .subs))
+    → SubsOk (putAt (t .tasks) (headOf (line t) .0) e) (t .rest .subs)
+leaves-else t w h e z d = let r = runs t w h in subs-put (t .tasks) (headOf (line t) .0) e (r .names) (r .no-sub) z d (w .lined)
 
 -- the caller departs to wait for a time or for flags: no link names it
 pub waits-good : (t : Table) → WellFormedByPart t → 0 < t .ready → (s : State) → StateOk (t .rest .clock .0) (t .rest .flags) s → counted (stateKind s) ≡ 0
@@ -83,12 +92,25 @@ waits-good t w h s m z =
       linked = up-links (alike (t .tasks) (requests (t .rest)) c e 0 0 0 (r .names) refl (omega (arith, r .no-start)) (omega (arith, r .no-end)) d (r .is-busy) (links-up (w .links)));
       own = own-put (t .rest) (t .tasks) c e (r .names) (state-own s m d (r .is-busy) (w .own c)) (w .own);
       rested = w .rested;
+      lined = leaves-else t w h e (omega arith) (λ x. absurd (omega arith));
     }
+
+-- the rest with other subprograms
+pub subs-rested : {r : Rest} (ss : List Sub) → RestOk r → RestOk (withSubs ss r)
+subs-rested ss o = record {
+  count = o .count;
+  granule = o .granule;
+  clocked = o .clocked;
+  sized = o .sized;
+  alarms = o .alarms;
+  priorities = o .priorities;
+  neat = record { room = o .neat .room; clear = o .neat .clear };
+}
 
 -- ---- 00
 -- those named enter, one after the other; P is what is to hold of each entry
 pub record Woken (P : ℕ → Task → Type 0) (js : List Join) (ts : List Task) (p : List Request) (w s d : ℕ) : Type 0 where
-  pub joining : JoinsAll js ts
+  pub joining : AllElse js ts
   pub linked : LinksUpTo (puts js ts) p w s d
   pub own : (k : ℕ) → P k (taskAt (puts js ts) k)
 
@@ -115,7 +137,7 @@ module _ (P : ℕ → Task → Type 0) (readied : (k : ℕ) (e : Task) → is do
           let r = wake-starter ts p (s .0) e w d (omega (arith, eqb-false (s .0) 0 z)) refl refl l in
           record { joining = (record { names = r .0; before = omega (arith, r .1); after = refl }, tt); linked = r .2; own = λ k. put-all P ts (s .0) e (r .0) (readied (s .0) (taskAt ts (s .0)) (omega (arith, r .1)) (a (s .0))) k (λ _. a k) }
 
-pub joins-append : (a b : List Join) (ts : List Task) → JoinsAll a ts → JoinsAll b (puts a ts) → JoinsAll (a ++ b) ts
+pub joins-append : (a b : List Join) (ts : List Task) → AllElse a ts → AllElse b (puts a ts) → AllElse (a ++ b) ts
 unfolding puts
 joins-append [] b ts x y = y
 joins-append (j ∷ a) b ts x y = (x .0, joins-append a b (change-at ts (j .who .0) (j .change)) (x .1) y)

@@ -1,4 +1,4 @@
--- A line is no longer than there are tasks: so a ready queue of sixteen tasks never overflows.
+-- A line is no longer than there are tasks: so a line of sixteen tasks never overflows.
 use mathlib.Core.Path.{_≡_, refl, sym, ap}
 use mathlib.Core.Bool.{Bool, false}
 use mathlib.Core.List.{List, [], _∷_}
@@ -11,12 +11,12 @@ use Rattle.executive.specs.declared.State.the-variants.{Dormant}
 use Rattle.executive.specs.declared.Task.{Task}
 use Rattle.executive.specs.Lists.{one, sumOf}
 use Rattle.executive.specs.Queue.{count}
-use Rattle.executive.specs.Places.{noTask, taskAt, putAt}
+use Rattle.executive.specs.Places.{Names, noTask, taskAt, putAt}
 use Rattle.executive.specs.Table.{items, Join}
-use Rattle.executive.specs.States.{ready, is, isReady}
+use Rattle.executive.specs.States.{isReady}
 use Rattle.executive.specs.WellFormed.{Line}
 use Rattle.executive.proofs.places.TaskAt.{sum-put, put-length}
-use Rattle.executive.proofs.Plans.QueueKept.{is-le, Head, head-is, line-out, Joins}
+use Rattle.executive.proofs.Plans.QueueKept.{one-le, Head, head-is, line-out, Joins}
 
 pub sum-zeros : (f : Task → ℕ) (ts : List Task) → ((i : ℕ) → f (getD ts i noTask) ≡ 0) → sumOf f ts ≡ 0
 unfolding sumOf
@@ -42,17 +42,13 @@ line-size f h (c ∷ r) ts q =
       ap one h,
     )
 
--- one that may enter finds at most fifteen
+-- one of sixteen that does not stand in a line and may come to finds at most fifteen there
+pub fewer : (f : State → Bool) → f Dormant ≡ false → (ts : List Task) (r : List TaskNo) (j : ℕ) (e : Task) → length ts ≡ 16 → Line f ts r → Names j ts
+    → one (f (taskAt ts j .state)) ≡ 0 → one (f (e .state)) ≡ 1 → length r < 16
+fewer f z ts r j e l q n x y =
+    let g : Task → ℕ = λ (e : Task). one (f (e .state)) in
+    omega (arith, line-size f z r ts q, sum-put g ts j e n, sum-le g (putAt ts j e) (λ e. one-le (f (e .state))), put-length ts j e)
+
+-- one that may enter the ready queue
 pub room-to-enter : (j : Join) (ts : List Task) (r : List TaskNo) → length ts ≡ 16 → Line isReady ts r → Joins j ts → length r < 16
-room-to-enter j ts r l q h =
-    let e : Task = j .change (taskAt ts (j .who .0)) in
-    let f : Task → ℕ = λ (e : Task). is ready (e .state) in
-    omega (
-      arith,
-      line-size isReady refl r ts q,
-      sum-put f ts (j .who .0) e (h .names),
-      h .before,
-      h .after,
-      sum-le f (putAt ts (j .who .0) e) (λ e. is-le ready (e .state)),
-      put-length ts (j .who .0) e,
-    )
+room-to-enter j ts r l q h = fewer isReady refl ts r (j .who .0) (j .change (taskAt ts (j .who .0))) l q (h .names) (h .before) (h .after)

@@ -19,9 +19,9 @@ use Rattle.executive.specs.Lists.{one, _and_}
 use Rattle.executive.specs.Pool.{withRequests, requests}
 use Rattle.executive.specs.Places.{nobody, noRequest, Names, taskAt, putAt}
 use Rattle.executive.specs.Table.{outTasks, line, headOf, Out, stays, leaves}
-use Rattle.executive.specs.States.{dormant, ready, is, isDormant}
+use Rattle.executive.specs.States.{dormant, ready, awaitSub, is, isDormant}
 use Rattle.executive.specs.WellFormed.{overPriority}
-use Rattle.executive.proofs.Plans.WorkingForm.{EntriesOk, LinksOk, WellFormedByPart, busy-own}
+use Rattle.executive.proofs.Plans.WorkingForm.{EntriesOk, LinksOk, SubsOk, WellFormedByPart, busy-own}
 use Rattle.executive.proofs.Lists.Tests.{not-zero, one-ge, false-not-true}
 use Rattle.executive.proofs.Lists.Pad.{line-pad}
 use Rattle.executive.proofs.queue.ArraysAreLists.{queued-neat}
@@ -31,7 +31,8 @@ use Rattle.executive.proofs.Plans.QueueKept.{not-both}
 use Rattle.executive.proofs.Plans.LinksKept.{links-up, up-links}
 use Rattle.executive.proofs.Plans.Links.{begin, await-end, await-start, adopt}
 use Rattle.executive.proofs.Plans.GoodIsKept.{puts, outReady, Good}
-use Rattle.executive.proofs.Plans.Shared.{own-put, runs, pooled, waits-own}
+use Rattle.executive.proofs.Plans.SubsKept.{AllElse, joined, subs-else}
+use Rattle.executive.proofs.Plans.Shared.{own-put, runs, pooled, waits-own, leaves-else}
 
 module _ (t : Table) (w : WellFormedByPart t) (h : 0 < t .ready) where
   abbrev c : TaskNo
@@ -49,6 +50,10 @@ module _ (t : Table) (w : WellFormedByPart t) (h : 0 < t .ready) where
   MayWait ForStart k = eqb k (c .0) ≡ false
   MayWait ForEnd k = eqb k (c .0) ≡ false
 
+  -- the caller departs to a state that is busy, and waits for no subprogram
+  gone : (e : Task) → is dormant (e .state) + is awaitSub (e .state) ≡ 0 → SubsOk (putAt (t .tasks) (c .0) e) (t .rest .subs)
+  gone e z = leaves-else t w h e (omega arith) (λ d. absurd (omega arith))
+
   module _ (k : TaskNo) (p a : ℕ) (lv : p ≤ 15) where
     -- a request that names no end waiter names one waiter at most
     sole : (b : Bool) → cond b 0 (one (not (eqb 0 0))) ≡ 0
@@ -60,9 +65,9 @@ module _ (t : Table) (w : WellFormedByPart t) (h : 0 < t .ready) where
 
     module _ (hk : 0 < k .0) (busy : is dormant (taskAt (t .tasks) (k .0) .state) ≡ 0) (room : t .rest .queued < 32) where
       queued : (wt : AwaitedMoment) → (o : Out) (ts : List Task) → outOf wt ≡ o → outTasks o (t .tasks) (c .0) ≡ ts → outReady o e ≡ 0
-          → LinksOk ts (rs ++ (asks c wt k p a ∷ [])) → EntriesOk (t .rest) ts → Good (queueRequestPlan t (asks c wt k p a) wt) t
+          → LinksOk ts (rs ++ (asks c wt k p a ∷ [])) → EntriesOk (t .rest) ts → SubsOk ts (t .rest .subs) → Good (queueRequestPlan t (asks c wt k p a) wt) t
       unfolding queueRequestPlan puts
-      queued wt o ts eo et z l own =
+      queued wt o ts eo et z l own lined =
           let q : Request = asks c wt k p a in
           let m : requests (withRequests (rs ++ (q ∷ [])) (t .rest)) ≡ rs ++ (q ∷ []) = line-pad noRequest 32 (rs ++ (q ∷ [])) in
           record {
@@ -71,36 +76,39 @@ module _ (t : Table) (w : WellFormedByPart t) (h : 0 < t .ready) where
             linked = rw (eo, et, m) l;
             own = rw (eo, et) own;
             rested = (pooled t w h) (rs ++ (q ∷ [])) (queued-neat (t .rest) (w .fit .neat) q room) (steep-more q refl);
+            lined = rw (eo, et) lined;
           }
 
       pub queue-good : (wt : AwaitedMoment) → MayWait wt (k .0) → Good (queueRequestPlan t (asks c wt k p a) wt) t
       queue-good ForNothing x = queued ForNothing stays (t .tasks) refl refl refl
-          (up-links (adopt (t .tasks) rs (asks c ForNothing k p a) hk busy (not-zero (k .0) hk) (not-zero (k .0) hk) refl (links-up (w .links)))) (w .own)
+          (up-links (adopt (t .tasks) rs (asks c ForNothing k p a) hk busy (not-zero (k .0) hk) (not-zero (k .0) hk) refl (links-up (w .links)))) (w .own) (w .lined)
       queue-good ForStart x =
           let v : Task = withState AwaitStart e in
           queued ForStart (leaves (withState AwaitStart)) (putAt (t .tasks) (c .0) v) refl refl refl
           (up-links (adopt (putAt (t .tasks) (c .0) v) rs (asks c ForStart k p a) hk (rw (at-other (t .tasks) (c .0) (k .0) v x) busy) x (not-zero (k .0) hk) (sole (eqb (c .0) 0))
-          (await-start (t .tasks) rs (c .0) v 0 0 (runs t w h .is-ready) refl refl (links-up (w .links))))) ((waits-own t w h) AwaitStart (false-not-true, false-not-true) refl)
+          (await-start (t .tasks) rs (c .0) v 0 0 (runs t w h .is-ready) refl refl (links-up (w .links))))) ((waits-own t w h) AwaitStart (false-not-true, false-not-true) refl) (gone v refl)
       queue-good ForEnd x =
           let v : Task = withState AwaitEnd e in
           queued ForEnd (leaves (withState AwaitEnd)) (putAt (t .tasks) (c .0) v) refl refl refl
           (up-links (adopt (putAt (t .tasks) (c .0) v) rs (asks c ForEnd k p a) hk (rw (at-other (t .tasks) (c .0) (k .0) v x) busy) (not-zero (k .0) hk) x refl
-          (await-end (t .tasks) rs (c .0) v 0 0 (runs t w h .is-ready) refl refl (links-up (w .links))))) ((waits-own t w h) AwaitEnd (false-not-true, false-not-true) refl)
+          (await-end (t .tasks) rs (c .0) v 0 0 (runs t w h .is-ready) refl refl (links-up (w .links))))) ((waits-own t w h) AwaitEnd (false-not-true, false-not-true) refl) (gone v refl)
 
     module _ (n : Names (k .0) (t .tasks)) (few : k .0 ≤ t .rest .count) (idle : is dormant (taskAt (t .tasks) (k .0) .state) ≡ 1) where
-      fresh : is ready (taskAt (t .tasks) (k .0) .state) ≡ 0
+      fresh : is ready (taskAt (t .tasks) (k .0) .state) + is awaitSub (taskAt (t .tasks) (k .0) .state) ≡ 0
       fresh = omega (arith, not-both (taskAt (t .tasks) (k .0) .state))
 
       alone : (q : Request) → q .target ≡ k → q .priority ≡ p → q .«end_waiter» ≡ nobody → Good (record { out = stays; ins = begins (q .target) q (t .rest .clock) ∷ []; rest = t .rest }) t
       unfolding puts
       alone q ek ep ee =
           let v : Task = begun q (t .rest .clock) (taskAt (t .tasks) (k .0)) in
+          let all : AllElse (begins (q .target) q (t .rest .clock) ∷ []) (t .tasks) = rw ek (record { names = n; before = fresh; after = refl }, tt) in
           record {
             leaving = refl;
-            joining = rw ek (record { names = n; before = fresh; after = refl }, tt);
+            joining = joined (begins (q .target) q (t .rest .clock) ∷ []) (t .tasks) all;
             linked = rw ek (up-links (begin (t .tasks) rs (k .0) v 0 0 n idle refl (ap (λ (x : TaskNo). x .0) ee) (not-zero (k .0) (n .0)) 0 (λ k h _. not-zero k h) (links-up (w .links))));
             own = rw ek (own-put (t .rest) (t .tasks) (k .0) v n (busy-own (false-not-true, false-not-true) (omega arith) (omega (arith, ep)) (w .own (k .0) .home) refl few) (w .own));
             rested = w .rested;
+            lined = subs-else (begins (q .target) q (t .rest .clock) ∷ []) (t .tasks) all (w .lined);
           }
 
       pub start-good : (wt : AwaitedMoment) → MayWait wt (k .0) → Good (startNowPlan t (asks c wt k p a) wt) t
@@ -114,12 +122,14 @@ module _ (t : Table) (w : WellFormedByPart t) (h : 0 < t .ready) where
           let b : Task = begun q (t .rest .clock) (taskAt ts (k .0)) in
           let y : taskAt ts (k .0) ≡ taskAt (t .tasks) (k .0) = at-other (t .tasks) (c .0) (k .0) v x in
           let m : Names (k .0) ts = (n .0, rw (put-length (t .tasks) (c .0) v) (n .1)) in
+          let all : AllElse (begins k q (t .rest .clock) ∷ []) ts = (record { names = m; before = rw y fresh; after = refl }, tt) in
           record {
             leaving = refl;
-            joining = (record { names = m; before = rw y fresh; after = refl }, tt);
+            joining = joined (begins k q (t .rest .clock) ∷ []) ts all;
             linked = up-links (begin ts rs (k .0) b (c .0) 0 m (rw y idle) refl refl x 0 (λ k h _. not-zero k h) (await-end (t .tasks) rs (c .0) v 0 0 (runs t w h .is-ready) refl refl (links-up (w .links))));
             own = own-put (t .rest) ts (k .0) b m (busy-own (false-not-true, false-not-true) (omega arith) lv (rw y (w .own (k .0) .home)) refl few) ((waits-own t w h) AwaitEnd (false-not-true, false-not-true) refl);
             rested = w .rested;
+            lined = subs-else (begins k q (t .rest .clock) ∷ []) ts all (gone v refl);
           }
 
 -- ---- 04 and 05: what their options say

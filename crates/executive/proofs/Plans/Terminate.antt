@@ -19,7 +19,7 @@ use Rattle.executive.specs.Places.{noRequest, Names, taskAt, putAt}
 use Rattle.executive.specs.Table.{line, headOf, leaves, Join}
 use Rattle.executive.specs.States.{ready}
 use Rattle.executive.specs.WellFormed.{overPriority}
-use Rattle.executive.proofs.Plans.WorkingForm.{EntriesOk, WellFormedByPart, busy-own}
+use Rattle.executive.proofs.Plans.WorkingForm.{EntriesOk, SubsOk, WellFormedByPart, busy-own}
 use Rattle.executive.proofs.Lists.Tests.{false-not-true}
 use Rattle.executive.proofs.queue.Law.{one-zero}
 use Rattle.executive.proofs.Lists.Pad.{line-pad}
@@ -28,10 +28,11 @@ use Rattle.executive.proofs.places.TaskAt.{at-same, put-length}
 use Rattle.executive.proofs.Plans.LinksKept.{LinksUpTo, links-up, up-links}
 use Rattle.executive.proofs.Plans.Links.{retire, begin, settle, take, removed-sum, place-target, none-asked}
 use Rattle.executive.proofs.Plans.GoodIsKept.{puts, Good}
+use Rattle.executive.proofs.Plans.SubsKept.{HoldsNone, AllElse, joined, subs-else}
 use Rattle.executive.proofs.Plans.Shared.{EntryOkIn, own-put, ready-own, Runs, runs, Woken, ender-in, starter-in, joins-append, puts-append, wake-other}
-use Rattle.executive.proofs.Plans.Shared.{wake-length, inside, pooled}
+use Rattle.executive.proofs.Plans.Shared.{wake-length, inside, pooled, leaves-else}
 
-module _ (t : Table) (w : WellFormedByPart t) (h : 0 < t .ready) where
+module _ (t : Table) (w : WellFormedByPart t) (h : 0 < t .ready) (none : HoldsNone (headOf (line t) .0) (t .rest .subs)) where
   abbrev c : TaskNo
   c = headOf (line t)
 
@@ -61,12 +62,22 @@ module _ (t : Table) (w : WellFormedByPart t) (h : 0 < t .ready) where
   retired : LinksUpTo ts₁ rs (e .«end_waiter» .0) 0 (c .0)
   retired = retire (t .tasks) rs (c .0) (asDormant e) (runs t w h .is-ready) refl refl (links-up (w .links))
 
+  asleep-lined : SubsOk ts₁ (t .rest .subs)
+  asleep-lined = leaves-else t w h (asDormant e) refl (λ _. none)
+
   stop-good : length rs ≤ placeOf (c .0) rs → Good (record { out = leaves asDormant; ins = waking (endWaiter t c); rest = t .rest }) t
   unfolding puts
   stop-good n =
       let x : Woken Q (waking (endWaiter t c)) ts₁ rs 0 0 0 =
       ender-in Q (λ k e. ready-own) ts₁ rs (endWaiter t c) 0 0 (settle ts₁ rs (endWaiter t c .0) 0 (c .0) (none-asked (c .0) rs n) retired) asleep-own in
-      record { leaving = refl; joining = x .joining; linked = up-links (x .linked); own = x .own; rested = w .rested }
+      record {
+        leaving = refl;
+        joining = joined (waking (endWaiter t c)) ts₁ (x .joining);
+        linked = up-links (x .linked);
+        own = x .own;
+        rested = w .rested;
+        lined = subs-else (waking (endWaiter t c)) ts₁ (x .joining) asleep-lined;
+      }
 
   run-good : (i : ℕ) → placeOf (c .0) rs ≡ i → i < length rs → (q : Request) → getD rs i noRequest ≡ q
       → Good (record { out = leaves asDormant; ins = waking (endWaiter t c) ++ (begins c q (t .rest .clock) ∷ waking (q .«start_waiter»)); rest = withRequests (removed i rs) (t .rest) }) t
@@ -91,12 +102,15 @@ module _ (t : Table) (w : WellFormedByPart t) (h : 0 < t .ready) where
       starter-in Q (λ k e. ready-own) ts₃ (removed i rs) 0 (q .«start_waiter») 0 b (own-put (t .rest) ts₂ (c .0) e₃ n₂ (busy-own (false-not-true, false-not-true) (omega arith) lv (x .own (c .0) .home) refl (inside t w h)) (x .own)) in
       let js : List Join = begins c q (t .rest .clock) ∷ waking (q .«start_waiter») in
       let u = puts-append (waking (endWaiter t c)) js ts₁ in
+      let all : AllElse (waking (endWaiter t c) ++ js) ts₁ =
+      joins-append (waking (endWaiter t c)) js ts₁ (x .joining) (record { names = n₂; before = rw a₂ refl; after = refl }, v .joining) in
       record {
         leaving = refl;
-        joining = joins-append (waking (endWaiter t c)) js ts₁ (x .joining) (record { names = n₂; before = rw a₂ refl; after = refl }, v .joining);
+        joining = joined (waking (endWaiter t c) ++ js) ts₁ all;
         linked = rw (u, l) (up-links (v .linked));
         own = rw u (v .own);
         rested = (pooled t w h) (removed i rs) (removed-neat (t .rest) (w .fit .neat) i (omega (arith, requests-length (t .rest) (w .fit .neat)))) (omega (arith, w .rested .priorities));
+        lined = subs-else (waking (endWaiter t c) ++ js) ts₁ all asleep-lined;
       }
 
   pub terminate-good : Good (terminatePlan t) t

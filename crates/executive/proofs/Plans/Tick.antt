@@ -23,12 +23,14 @@ use Rattle.executive.specs.Rest.{remade}
 use Rattle.executive.specs.Clock.{withAlarm, withClock, isDue, rung, advanced}
 use Rattle.executive.specs.Places.{never, taskAt}
 use Rattle.executive.specs.Pool.{requests}
+use Rattle.executive.specs.Table.{Join}
 use Rattle.executive.specs.States.{due, stateKind, timeOf, maskOf, isOf, hasTime, hasMask, waitMode}
 use Rattle.executive.proofs.Plans.WorkingForm.{StateOk, EntryOk, RestOk, WellFormedByPart}
 use Rattle.executive.proofs.Lists.Tests.{false-not-true, Lt, lt-yes, lt-no, ltb-is}
 use Rattle.executive.proofs.Lists.Sums.{set-all}
 use Rattle.executive.proofs.Plans.LinksKept.{LinksUpTo, links-up, up-links}
 use Rattle.executive.proofs.Plans.GoodIsKept.{Good}
+use Rattle.executive.proofs.Plans.SubsKept.{joined, subs-else}
 use Rattle.executive.proofs.Plans.Rising.{Tells, Done, raisings-append, halfway, all-raised}
 use Rattle.executive.proofs.waking.Over.{over}
 use Rattle.executive.proofs.waking.Numbers.{woken, woken-counts}
@@ -152,13 +154,15 @@ tick-good t w m =
     let gr : r .granule ≡ t .rest .granule = advanced-alone (λ (r : Rest). r .granule) (λ r fs al. refl) (t .rest) in
     let al : Rung r 32 = advanced-rung (t .rest) (w .rested) in
     let n : r .queued ≡ t .rest .queued = advanced-alone (λ (r : Rest). r .queued) (λ r fs al. refl) (t .rest) in
+    let sb : r .subs ≡ t .rest .subs = advanced-alone (λ (r : Rest). r .subs) (λ r fs al. refl) (t .rest) in
     let h : t .rest .clock .0 ≤ r .clock .0 = rw k (omega arith) in
-    let d : Done (raisings (timed (r .clock .0) (t .tasks)) ++ risers (holds (r .flags)) 1 (t .tasks)) (t .tasks) (requests (t .rest)) (r .clock .0) (r .flags) (t .rest .count) =
+    let js : List Join = raisings (timed (r .clock .0) (t .tasks)) ++ risers (holds (r .flags)) 1 (t .tasks) in
+    let d : Done js (t .tasks) (requests (t .rest)) (r .clock .0) (r .flags) (t .rest .count) =
     rw (← raisings-append (timed (r .clock .0) (t .tasks)) (passing (holds (r .flags)) 1 (t .tasks)))
     (woken-done (requests (t .rest)) (t .rest .clock .0) (t .rest .flags) (r .clock .0) (r .flags) (t .rest .count) h (t .tasks) (links-up (w .links)) (w .own)) in
     record {
       leaving = refl;
-      joining = d .joining;
+      joining = joined js (t .tasks) (d .joining);
       linked = rw q (up-links (d .linked));
       own = rw cn (d .own);
       rested = record {
@@ -170,6 +174,7 @@ tick-good t w m =
         priorities = rw q (w .rested .priorities);
         neat = record { room = rw n (w .fit .neat .room); clear = rw (q, pl) (w .fit .neat .clear) };
       };
+      lined = rw sb (subs-else js (t .tasks) (d .joining) (w .lined));
     }
   where
     below : (i : ℕ) → 0 < getD (advanced (t .rest) .alarms) i never .0 → i < 32

@@ -1,27 +1,33 @@
 -- The working form of a well-formed table: the rules grouped by what a step changes. It says what `WellFormed` says,
 -- both ways.
 use mathlib.Core.Path.{_≡_, refl, ap, _∙_}
-use mathlib.Core.Bool.{Bool, true, false}
+use mathlib.Core.Bool.{Bool, true, false, _&&_}
 use mathlib.Core.List.{List, [], _∷_}
 use Prim.Native.Nat.{ℕ, zero, suc, _+_, _≤_, _<_, zero-le}
 use native.Mathlib.Omega.{arith}
-use lib.Dec.{eqb, ltb, eqb→eq}
-use lib.ListN.{length, getD}
+use borrow.Author.Tests.{eqb-true}
+use lib.Dec.{leb, eqb, ltb, eqb→eq}
+use lib.ListN.{length, getD, List·getD-eq-default}
+use lib.Seq.{length-take-le}
 use Rattle.executive.specs.declared.State.{State}
 use Rattle.executive.specs.declared.Task.{Task}
 use Rattle.executive.specs.declared.Request.{Request}
+use Rattle.executive.specs.declared.Sub.{Sub}
 use Rattle.executive.specs.declared.Rest.{Rest}
 use Rattle.executive.specs.declared.Table.{Table}
-use Rattle.executive.specs.Numbers.{mostTasks, flagCount, highest, mostGranule, endOfTime}
+use Rattle.executive.specs.Numbers.{mostTasks, flagCount, subCount, lastSub, highest, mostGranule, endOfTime}
 use Rattle.executive.specs.Lists.{one, sumOf}
 use Rattle.executive.specs.Pool.{PoolInOrder, requests}
-use Rattle.executive.specs.Table.{ArraysInOrder, line, view, levelsOf}
-use Rattle.executive.specs.Places.{never, noTask, taskAt}
-use Rattle.executive.specs.States.{dormant, ready, awaitStart, awaitEnd, is, isDormant, isReady}
-use Rattle.executive.specs.WellFormed.{targetsOf, startsOf, endsOf, runsOf, overPriority, outOfRange, waitsForItself, twoWaiters, dormantTarget, Line, Stored, Timely, Unmet, Zeros, WellFormed}
+use Rattle.executive.specs.Table.{ArraysInOrder, line, items, view, levelsOf}
+use Rattle.executive.specs.Queue.{count}
+use Rattle.executive.specs.Subprograms.{noSub, subAt, lineOf, LineInOrder}
+use Rattle.executive.specs.Places.{nobody, never, noTask, taskAt}
+use Rattle.executive.specs.States.{dormant, ready, awaitStart, awaitEnd, awaitSub, awaitedOf, isOf, is, isDormant, isReady, waitsFor}
+use Rattle.executive.specs.WellFormed.{targetsOf, startsOf, endsOf, runsOf, overPriority, outOfRange, waitsForItself, twoWaiters, dormantTarget, Line, Stored, Timely, Unmet, Zeros, InRange, Subprograms, WellFormed}
 use Rattle.executive.proofs.states.Laws.{dormant-named, dormant-kind}
-use Rattle.executive.proofs.Lists.Tests.{So-of-true, eqb-self, not-zero, Lt, lt-yes, lt-no, ltb-is, false-not-true}
-use Rattle.executive.proofs.queue.ArraysAreLists.{queue-length, pool-length}
+use Rattle.executive.proofs.Lists.Tests.{So-of-true, eqb-self, not-zero, Le, le-yes, le-no, leb-is, Lt, lt-yes, lt-no, ltb-is, false-not-true}
+use Rattle.executive.proofs.Lists.Pad.{length-pad}
+use Rattle.executive.proofs.queue.ArraysAreLists.{queue-length, pool-length, take-le}
 use Rattle.executive.proofs.check.Levels.{levels-get, levels-make}
 
 -- nothing in this state is due now, at the clock c with the flags fs
@@ -58,6 +64,17 @@ pub record RestOk (r : Rest) : Type 0 where
   pub priorities : overPriority (requests r) ≡ 0
   pub neat : PoolInOrder r
 
+-- the rule of subprogram m, which is s; of all the subprograms ss, those past the last number included, which are free
+pub record SubOk (ts : List Task) (m : ℕ) (s : Sub) : Type 0 where
+  pub neat : LineInOrder s
+  pub busy : 0 < s .holder .0 → is dormant (taskAt ts (s .holder .0) .state) ≡ 0
+  pub free : s .holder .0 ≡ 0 → s .waiting ≡ 0
+  pub waiters : Line (waitsFor m) ts (lineOf s)
+
+pub record SubsOk (ts : List Task) (ss : List Sub) : Type 0 where
+  pub sized : length ss ≡ subCount
+  pub each : (m : ℕ) → SubOk ts m (getD ss m noSub)
+
 -- the entries of all tasks, beside a rest
 abbrev pub EntriesOk : Rest → List Task → Type 0
 EntriesOk r ts = (k : ℕ) → EntryOk (r .clock .0) (r .flags) (r .count) k (taskAt ts k)
@@ -69,6 +86,7 @@ pub record WellFormedByPart (t : Table) : Type 0 where
   pub own : EntriesOk (t .rest) (t .tasks)
   pub rested : RestOk (t .rest)
   pub lit : t .levels ≡ levelsOf (view t)
+  pub lined : SubsOk (t .tasks) (t .rest .subs)
 
 -- ---- one entry
 -- the blank entry is in order at any number
@@ -138,6 +156,39 @@ unfolding taskAt
 runs-le w ts zero h = omega (arith, ap one (not-zero w h))
 runs-le w ts (suc i) h = term-le (λ (e : Task). one (eqb w (e .«end_waiter» .0))) noTask ts i (ap one (not-zero w h))
 
+-- ---- the subprograms
+-- a line in good order: sixteen places, as many taken as wait
+pub line-places : (s : Sub) → LineInOrder s → length (s .line) ≡ 16
+line-places s o = ap length (o .clear) ∙ length-pad nobody 16 (lineOf s) (omega (arith, take-le (s .waiting) (s .line), o .room))
+
+pub line-waiting : (s : Sub) → LineInOrder s → length (lineOf s) ≡ s .waiting
+line-waiting s o = length-take-le (s .waiting) (s .line) (omega (arith, line-places s o, o .room))
+
+-- past the last number there is none
+past-sub : (ss : List Sub) (m : ℕ) → length ss ≡ subCount → subCount ≤ m → getD ss m noSub ≡ noSub
+past-sub ss m l h = List·getD-eq-default ss noSub {n = m} (omega arith)
+
+sub-of : (t : Table) → InRange t → Subprograms (t .tasks) (t .rest) → (m : ℕ) → SubOk (t .tasks) m (subAt (t .rest) m)
+unfolding items count
+sub-of t n s m = record {
+  neat = record { room = n .waiting m; clear = s .tidy m };
+  busy = s .busy m;
+  free = s .free m;
+  waiters = go (ltb m subCount) (ltb-is m subCount);
+}
+  where
+    nobody-waits : subCount ≤ m → (k : ℕ) → 0 ≡ one (waitsFor m (taskAt (t .tasks) k .state))
+    nobody-waits h k = by (isOf awaitSub (taskAt (t .tasks) k .state)) (eqb m (awaitedOf (taskAt (t .tasks) k .state))) refl refl
+      where
+        by : (a b : Bool) → isOf awaitSub (taskAt (t .tasks) k .state) ≡ a → eqb m (awaitedOf (taskAt (t .tasks) k .state)) ≡ b → 0 ≡ one (a && b)
+        by true true x y = absurd (omega (arith, n .inside k x, eqb-true m (awaitedOf (taskAt (t .tasks) k .state)) y))
+        by true false x y = refl
+        by false b x y = refl
+
+    go : (b : Bool) → Lt m subCount b → Line (waitsFor m) (t .tasks) (lineOf (subAt (t .rest) m))
+    go true (lt-yes h) = s .lines m h
+    go false (lt-no h) = rw (past-sub (t .rest .subs) m (n .sizes .subs) h) (record { exact = nobody-waits h; sorted = tt })
+
 -- ---- the two forms
 pub formed : {t : Table} → WellFormed t → WellFormedByPart t
 unfolding taskAt
@@ -174,6 +225,7 @@ formed {t} w =
         neat = record { room = n .queued; clear = w .pool };
       };
       lit = levels-make t (w .queue .exactly) (n .priority) (w .levels);
+      lined = record { sized = n .sizes .subs; each = sub-of t n (w .subprograms) };
     }
 
 module _ (t : Table) (w : WellFormedByPart t) where
@@ -206,10 +258,34 @@ module _ (t : Table) (w : WellFormedByPart t) where
   any-idle zero z = w .links .named
   any-idle (suc k) z = w .links .busy (suc k) (omega arith) z
 
+  abbrev sub : ℕ → Sub
+  sub m = subAt (t .rest) m
+
+  holder-le : (m : ℕ) → sub m .holder .0 ≤ t .rest .count
+  holder-le m = go (ltb 0 (sub m .holder .0)) (ltb-is 0 (sub m .holder .0))
+    where
+      go : (b : Bool) → Lt 0 (sub m .holder .0) b → sub m .holder .0 ≤ t .rest .count
+      go true (lt-yes h) = busy-within (w .own (sub m .holder .0)) (w .lined .each m .busy h)
+      go false (lt-no h) = omega arith
+
+  -- whoever waits for a subprogram stands in its line, and past the last number there is none
+  awaited-le : (k : ℕ) → isOf awaitSub (taskAt ts k .state) ≡ true → awaitedOf (taskAt ts k .state) ≤ lastSub
+  unfolding items count
+  awaited-le k h = go (leb m lastSub) (leb-is m lastSub)
+    where
+      m : ℕ
+      m = awaitedOf (taskAt ts k .state)
+
+      go : (b : Bool) → Le m lastSub b → m ≤ lastSub
+      go true (le-yes g) = g
+      go false (le-no g) =
+          let x : 0 ≡ one (isOf awaitSub (taskAt ts k .state) && eqb m m) = rw (past-sub (t .rest .subs) m (w .lined .sized) (omega arith)) at (w .lined .each m .waiters .exact k) in
+          absurd (omega (arith, rw (h, eqb-self m) at x))
+
   pub well-formed : WellFormed t
   well-formed = record {
     numbers = record {
-      sizes = record { tasks = w .fit .all; queue = queue-length t (w .fit); alarms = w .rested .sized; pool = pool-length (t .rest) (w .rested .neat) };
+      sizes = record { tasks = w .fit .all; queue = queue-length t (w .fit); alarms = w .rested .sized; pool = pool-length (t .rest) (w .rested .neat); subs = w .lined .sized; lines = λ m. line-places (sub m) (w .lined .each m .neat) };
       count = w .rested .count;
       granule = w .rested .granule;
       clock = w .rested .clocked;
@@ -221,6 +297,9 @@ module _ (t : Table) (w : WellFormedByPart t) where
       beyond = λ k. w .own k .beyond;
       priorities = w .rested .priorities;
       names = wild-none (t .rest .count) p (λ k h. (over-none k h .0, over-none k h .1, omega (arith, over-none k h .2)));
+      holders = holder-le;
+      waiting = λ m. w .lined .each m .neat .room;
+      inside = awaited-le;
     };
     queue = record { exactly = w .queue; tidy = w .fit .tidy };
     times = record { tasks = λ k. w .own k .calm .0; alarms = w .rested .alarms };
@@ -230,5 +309,11 @@ module _ (t : Table) (w : WellFormedByPart t) where
     waiters = record { starts = w .links .starts; ends = w .links .ends; others = w .links .others; apart = w .links .apart; single = w .links .single };
     dormant = λ k z. w .own k .zeros (dormant-kind _ z);
     pool = w .rested .neat .clear;
+    subprograms = record {
+      busy = λ m. w .lined .each m .busy;
+      free = λ m. w .lined .each m .free;
+      lines = λ m _. w .lined .each m .waiters;
+      tidy = λ m. w .lined .each m .neat .clear;
+    };
     levels = levels-get t (w .queue) (λ k. w .own k .level) (w .lit);
   }

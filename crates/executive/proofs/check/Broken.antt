@@ -3,14 +3,14 @@ use mathlib.Core.Path.{refl}
 use Rattle.executive.specs.Lists.{pad, sumOf, upTo, allOf}
 use Rattle.executive.specs.Places.{putAt, taskAt}
 use Rattle.executive.specs.Table.{items, levelsOf}
-use Rattle.executive.specs.Check.{falls, exactAt, waitersAt, allButQueue, numbersRight, queueRight, timesRight, startedRight, masksRight, busyRight, waitersRight, dormantRight, poolRight, isWellFormed}
-use Rattle.executive.specs.Promises.Broken.{sound, noGranule, entryBeyond, outOfOrder, twiceReady, pauseOver, alarmFar, lateStart, noMask, waitOver, idleTarget, namedTwice, unnamed, ownWaiter, sleepTalk, strayPlace, wrongLight, lightOut, Broken}
+use Rattle.executive.specs.Check.{falls, exactAt, waitersAt, allButQueue, numbersRight, queueRight, timesRight, startedRight, masksRight, busyRight, waitersRight, dormantRight, poolRight, subsFrom, subsRight, isWellFormed}
+use Rattle.executive.specs.Promises.Broken.{sound, noGranule, entryBeyond, waitsForEight, outOfOrder, twiceReady, pauseOver, alarmFar, lateStart, noMask, waitOver, idleTarget, namedTwice, unnamed, ownWaiter, sleepTalk, strayPlace, sleepingHolder, nobodyInside, twiceInLine, lowerFirst, strayInLine, leftOut, wrongLight, lightOut, Broken}
 
 pub broken : Broken
-unfolding pad putAt taskAt sumOf upTo allOf falls exactAt waitersAt numbersRight queueRight timesRight startedRight masksRight busyRight waitersRight dormantRight poolRight allButQueue isWellFormed sound noGranule entryBeyond outOfOrder twiceReady pauseOver alarmFar lateStart noMask waitOver idleTarget namedTwice unnamed ownWaiter sleepTalk strayPlace wrongLight lightOut levelsOf items
+unfolding pad putAt taskAt sumOf upTo allOf falls exactAt waitersAt numbersRight queueRight timesRight startedRight masksRight busyRight waitersRight dormantRight poolRight subsFrom subsRight allButQueue isWellFormed sound noGranule entryBeyond waitsForEight outOfOrder twiceReady pauseOver alarmFar lateStart noMask waitOver idleTarget namedTwice unnamed ownWaiter sleepTalk strayPlace sleepingHolder nobodyInside twiceInLine lowerFirst strayInLine leftOut wrongLight lightOut levelsOf items
 broken = record {
   kept = refl;
-  numbers = ((refl, refl), (refl, refl));
+  numbers = ((refl, refl), (refl, refl), (refl, refl));
   queue = ((refl, refl), (refl, refl));
   times = ((refl, refl), (refl, refl));
   started = (refl, refl);
@@ -19,5 +19,6 @@ broken = record {
   waiters = ((refl, refl), (refl, refl), (refl, refl));
   dormant = (refl, refl);
   pool = (refl, refl);
+  subprograms = ((refl, refl), (refl, refl), (refl, refl), (refl, refl), (refl, refl), (refl, refl));
   levels = ((refl, refl), (refl, refl));
 }

@@ -17,10 +17,11 @@ use Rattle.executive.specs.declared.State.{State}
 use Rattle.executive.specs.Lists.{one, _and_, upTo, allOf}
 use Rattle.executive.specs.Places.{noTask, taskAt, entryPlace}
 use Rattle.executive.specs.Pool.{requests}
-use Rattle.executive.specs.States.{ready, awaitStart, awaitEnd, isOf, is, isDormant}
+use Rattle.executive.specs.States.{ready, awaitStart, awaitEnd, isOf, is, isAs, isDormant, isReady}
 use Rattle.executive.specs.WellFormed.{startsOf, endsOf, runsOf}
-use Rattle.executive.specs.Check.{entryInRange, requestInRange, isBlank, sizesRight, inBounds, numbersRight, standsIn, exactAt, alarmRight, taskTimely, timesRight, isStarted, startedRight, taskUnmet, masksRight, targetBusy, busyRight, waitersAt, namesOthers, waitersRight, dormantEntryRight, dormantRight, poolRight, allButQueue, entryRight, requestFits, requestRight, isQuiet, isLone, inPasses, Tallies}
+use Rattle.executive.specs.Check.{entryInRange, requestInRange, subInRange, isBlank, sizesRight, inBounds, numbersRight, standsIn, exactAt, alarmRight, taskTimely, timesRight, isStarted, startedRight, taskUnmet, masksRight, targetBusy, busyRight, waitersAt, namesOthers, waitersRight, dormantEntryRight, dormantRight, poolRight, subsRight, allButQueue, entryRight, requestFits, requestRight, isQuiet, isLone, askedRight, inPasses, Tallies}
 use Rattle.executive.proofs.places.TaskAt.{at-place, at-no-place}
+use Rattle.executive.proofs.states.Laws.{ready-as}
 use Rattle.executive.proofs.Lists.Loops.{both, all-make}
 use Rattle.executive.proofs.Lists.Tests.{and-true, true-and, and-false-right, none-one, of-not, sum-none}
 use Rattle.executive.proofs.check.Blanks.{tasks-get}
@@ -78,6 +79,11 @@ tallied-exact f c ts xs n l t = same-up (talliedAt f c ts) (exactAt f ts xs) n a
         let z : suc (k - 1) ≡ k = omega arith in
         ap (λ (m : ℕ). eqb m (one (f (taskAt ts k .state)))) (t .counts (k - 1) (omega arith) ∙ ap (λ (m : ℕ). standsIn m xs) z)
 
+-- the ready queue's line, by its kind of state and its number
+pub ready-exact : (ts : List Task) (xs : List TaskNo) (n : ℕ) → upTo (exactAt (isAs ready 0) ts xs) n ≡ upTo (exactAt isReady ts xs) n
+unfolding exactAt
+ready-exact ts xs n = same-up (exactAt (isAs ready 0) ts xs) (exactAt isReady ts xs) n (λ k a b. ap (λ (x : Bool). eqb (standsIn k xs) (one x)) (ready-as (taskAt ts k .state)))
+
 -- the rules on a request, with its target's entry read where it lies
 module _ (ts : List Task) (n : ℕ) (r : Request) where
   pub fits-not : requestFits n r ≡ false → requestRight ts n r ≡ false
@@ -134,13 +140,15 @@ module _ (ts : List Task) (r : Rest) where
   ps = requests r
 
   there : sizesRight ts r ≡ true → inPasses ts r ≡ true → allButQueue ts r ≡ true
-  unfolding inPasses allButQueue numbersRight timesRight startedRight masksRight busyRight waitersRight dormantRight poolRight
+  unfolding inPasses allButQueue numbersRight timesRight startedRight masksRight busyRight waitersRight dormantRight poolRight subsRight
   there z e =
       let b = and-true (inBounds n (r .granule) (r .clock) (r .queued)) _ e in
       let a = and-true (allOf (entryRight n c fs) ts) _ (b .1) in
       let d = and-true (allOf isBlank (drop n ts)) _ (a .1) in
       let f = and-true (allOf (alarmRight c) (r .alarms)) _ (d .1) in
-      let q = and-true (allOf (requestRight ts n) ps) _ (f .1) in
+      let u = and-true (askedRight ts n (r .queued) (r .pool)) _ (f .1) in
+      let v = and-true (allOf (subInRange n) (r .subs)) _ (u .1) in
+      let q = and-true (allOf (requestRight ts n) ps) _ (u .0) in
       let w = and-true (upTo (waitersAt ts ps) n) _ (q .1) in
       let e1 = all-split (entryInRange n) _ ts (a .0) in
       let e2 = all-split (taskTimely c) _ ts (e1 .1) in
@@ -149,16 +157,16 @@ module _ (ts : List Task) (r : Rest) where
       let q1 = all-split (requestInRange n) _ ps (q .0) in
       let q2 = all-split namesOthers (targetBusy ts) ps (q1 .1) in
       true-and (numbersRight ts r) _
-      (true-and (sizesRight ts r) _ z (true-and (inBounds n (r .granule) (r .clock) (r .queued)) _ (b .0) (true-and (allOf (entryInRange n) ts) _ (e1 .0) (true-and (allOf isBlank (drop n ts)) _ (d .0) (q1 .0)))))
+      (true-and (sizesRight ts r) _ z (true-and (inBounds n (r .granule) (r .clock) (r .queued)) _ (b .0) (true-and (allOf (entryInRange n) ts) _ (e1 .0) (true-and (allOf isBlank (drop n ts)) _ (d .0) (true-and (allOf (requestInRange n) ps) _ (q1 .0) (v .0))))))
       (true-and (timesRight ts r) _ (true-and (allOf (taskTimely c) ts) _ (e2 .0) (f .0))
       (true-and (startedRight ts r) _ (e3 .0)
       (true-and (masksRight ts r) _ (e4 .0)
       (true-and (busyRight ts r) _ (q2 .1)
       (true-and (waitersRight ts r) _ (true-and (upTo (waitersAt ts ps) n) _ (w .0) (q2 .0))
-      (true-and (dormantRight ts) _ (e4 .1) (w .1)))))))
+      (true-and (dormantRight ts) _ (e4 .1) (true-and (poolRight r) _ (w .1) (v .1))))))))
 
   back : allButQueue ts r ≡ true → inPasses ts r ≡ true
-  unfolding inPasses allButQueue numbersRight timesRight startedRight masksRight busyRight waitersRight dormantRight poolRight
+  unfolding inPasses allButQueue numbersRight timesRight startedRight masksRight busyRight waitersRight dormantRight poolRight subsRight
   back e =
       let a = and-true (numbersRight ts r) _ e in
       let d = and-true (timesRight ts r) _ (a .1) in
@@ -167,22 +175,26 @@ module _ (ts : List Task) (r : Rest) where
       let h = and-true (busyRight ts r) _ (g .1) in
       let j = and-true (waitersRight ts r) _ (h .1) in
       let k = and-true (dormantRight ts) _ (j .1) in
+      let l = and-true (poolRight r) _ (k .1) in
       let n1 = and-true (sizesRight ts r) _ (a .0) in
       let n2 = and-true (inBounds n (r .granule) (r .clock) (r .queued)) _ (n1 .1) in
       let n3 = and-true (allOf (entryInRange n) ts) _ (n2 .1) in
       let n4 = and-true (allOf isBlank (drop n ts)) _ (n3 .1) in
+      let n5 = and-true (allOf (requestInRange n) ps) _ (n4 .1) in
       let d1 = and-true (allOf (taskTimely c) ts) _ (d .0) in
       let j1 = and-true (upTo (waitersAt ts ps) n) _ (j .0) in
       true-and (inBounds n (r .granule) (r .clock) (r .queued)) _ (n2 .0)
       (true-and (allOf (entryRight n c fs) ts) _ (all-join (entryInRange n) _ ts (n3 .0) (all-join (taskTimely c) _ ts (d1 .0) (all-join (isStarted c) _ ts (f .0) (all-join (taskUnmet fs) dormantEntryRight ts (g .0) (k .0)))))
       (true-and (allOf isBlank (drop n ts)) _ (n4 .0)
       (true-and (allOf (alarmRight c) (r .alarms)) _ (d1 .1)
-      (true-and (allOf (requestRight ts n) ps) _ (all-join (requestInRange n) _ ps (n4 .1) (all-join namesOthers (targetBusy ts) ps (j1 .1) (h .0)))
-      (true-and (upTo (waitersAt ts ps) n) _ (j1 .0) (k .1))))))
+      (true-and (askedRight ts n (r .queued) (r .pool)) _
+      (true-and (allOf (requestRight ts n) ps) _ (all-join (requestInRange n) _ ps (n5 .0) (all-join namesOthers (targetBusy ts) ps (j1 .1) (h .0)))
+      (true-and (upTo (waitersAt ts ps) n) _ (j1 .0) (l .0)))
+      (true-and (allOf (subInRange n) (r .subs)) _ (n5 .1) (l .1))))))
 
   pub in-passes : sizesRight ts r ≡ true → inPasses ts r ≡ allButQueue ts r
   in-passes z = same (inPasses ts r) (allButQueue ts r) (there z) back
 
   -- an answer that is right in passes is right, of arrays of the right sizes
-  pub sized : {b : Bool} → length ts ≡ 16 → length (r .alarms) ≡ 32 → length (r .pool) ≡ 32 → b ≡ inPasses ts r → b ≡ allButQueue ts r
-  sized a d e h = h ∙ in-passes (rw (eq-eqb _ _ a, eq-eqb _ _ d, eq-eqb _ _ e) refl)
+  pub sized : {b : Bool} → length ts ≡ 16 → length (r .alarms) ≡ 32 → length (r .pool) ≡ 32 → length (r .subs) ≡ 8 → b ≡ inPasses ts r → b ≡ allButQueue ts r
+  sized a d e g h = h ∙ in-passes (rw (eq-eqb _ _ a, eq-eqb _ _ d, eq-eqb _ _ e, eq-eqb _ _ g) refl)

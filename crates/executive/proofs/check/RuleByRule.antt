@@ -6,25 +6,27 @@ use mathlib.Core.List.{List, [], _∷_}
 use native.Mathlib.Omega.{arith}
 use borrow.Author.Tests.{eqb-true, eq-eqb, ne-eqb, leb-true, le-leb, leb-false, ltb-true, lt-ltb, eqb-false}
 use lib.Dec.{eqb, leb, ltb}
-use lib.ListN.{length, drop, getD}
+use lib.ListN.{length, take, drop, getD}
 use Rattle.records.specs.declared.TaskNo.{TaskNo}
 use Rattle.executive.specs.declared.Millis.{Millis}
 use Rattle.executive.specs.declared.State.{State}
 use Rattle.executive.specs.declared.State.the-variants.{Dormant}
 use Rattle.executive.specs.declared.Task.{Task}
 use Rattle.executive.specs.declared.Request.{Request}
+use Rattle.executive.specs.declared.Sub.{Sub}
 use Rattle.executive.specs.declared.Rest.{Rest}
 use Rattle.executive.specs.declared.Table.{Table}
-use Rattle.executive.specs.Numbers.{mostTasks, mostQueued, highest, mostGranule, endOfTime, longest}
+use Rattle.executive.specs.Numbers.{mostTasks, mostQueued, lastSub, highest, mostGranule, endOfTime, longest}
 use Rattle.executive.specs.Lists.{one, pad, sumOf, _and_, upTo, allOf}
 use Rattle.executive.specs.Queue.{count}
 use Rattle.executive.specs.Places.{nobody, never, noTask, noRequest, taskAt}
 use Rattle.executive.specs.Table.{line, items}
 use Rattle.executive.specs.Pool.{requests}
-use Rattle.executive.specs.States.{dormant, ready, awaitStart, awaitEnd, is, isDormant, timeOf, maskOf, hasTime, hasMask, waitMode, isReady}
+use Rattle.executive.specs.Subprograms.{noSub, subAt}
+use Rattle.executive.specs.States.{dormant, awaitStart, awaitEnd, awaitSub, isOf, is, isDormant, timeOf, maskOf, awaitedOf, hasTime, hasMask, waitMode, isReady}
 use Rattle.executive.specs.Flags.{met}
-use Rattle.executive.specs.WellFormed.{InRange, Queue, Stored, Timely, Times, Unmet, Waiters, Zeros, startsOf, endsOf, runsOf, dormantTarget}
-use Rattle.executive.specs.Check.{entryInRange, requestInRange, isBlank, sizesRight, inBounds, numbersRight, isTask, isNobody, falls, standsIn, exactAt, orderRight, queueRight, isStored, isTimely, alarmRight, taskTimely, timesRight, isStarted, startedRight, isUnmet, taskUnmet, masksRight, targetBusy, busyRight, waitersAt, namesOthers, waitersRight, isZero, dormantEntryRight, dormantRight, isFree, poolRight}
+use Rattle.executive.specs.WellFormed.{InRange, Line, Queue, Stored, Timely, Times, Unmet, Waiters, Zeros, startsOf, endsOf, runsOf, dormantTarget}
+use Rattle.executive.specs.Check.{awaitsInRange, entryInRange, requestInRange, subInRange, isBlank, sizesRight, inBounds, numbersRight, isTask, isNobody, falls, standsIn, exactAt, lineRight, orderRight, queueRight, isStored, isTimely, alarmRight, taskTimely, timesRight, isStarted, startedRight, isUnmet, taskUnmet, masksRight, targetBusy, busyRight, waitersAt, namesOthers, waitersRight, isZero, dormantEntryRight, dormantRight, isFree, poolRight}
 use Rattle.executive.proofs.states.Laws.{dormant-named, dormant-kind}
 use Rattle.executive.proofs.places.TaskAt.{at-none}
 use Rattle.executive.proofs.Lists.Loops.{all-get, all-make, every-get, every-make}
@@ -61,10 +63,27 @@ module _ (n g : ℕ) (c : Millis) (q : ℕ) where
 
 module _ (n : ℕ) where
   blank-in-range : entryInRange n noTask ≡ true
-  blank-in-range = le-leb 0 n (omega arith)
+  blank-in-range = rw (le-leb 0 n (omega arith)) refl
+
+  tail-of : (e : Task) → entryInRange n e ≡ true → (leb (e .«end_waiter» .0) n and awaitsInRange (e .state)) ≡ true
+  tail-of e h = and-true (leb (e .priority) highest) _ (and-true (leb (e .own) highest) _ h .1) .1
 
   waiter-of : (e : Task) → entryInRange n e ≡ true → e .«end_waiter» .0 ≤ n
-  waiter-of e h = leb-true _ _ (and-true (leb (e .priority) highest) _ (and-true (leb (e .own) highest) _ h .1) .1)
+  waiter-of e h = leb-true _ _ (and-true (leb (e .«end_waiter» .0) n) _ (tail-of e h) .0)
+
+  awaited-of : (e : Task) → entryInRange n e ≡ true → isOf awaitSub (e .state) ≡ true → awaitedOf (e .state) ≤ lastSub
+  awaited-of e h s = leb-true _ _ (rw s at (and-true (leb (e .«end_waiter» .0) n) _ (tail-of e h) .1))
+
+  -- a subprogram: the size of its line, its holder, how many wait; those of a free one
+  sub-of : (s : Sub) → subInRange n s ≡ true → (length (s .line) ≡ mostTasks) × (s .holder .0 ≤ n) × (s .waiting ≤ mostTasks)
+  sub-of s h =
+      let a = and-true (eqb (length (s .line)) mostTasks) _ h in
+      let b = and-true (leb (s .holder .0) n) _ (a .1) in
+      (eqb-true _ _ (a .0), leb-true _ _ (b .0), leb-true _ _ (b .1))
+
+  free-in-range : subInRange n noSub ≡ true
+  unfolding pad
+  free-in-range = rw (le-leb 0 n (omega arith)) refl
 
   steep-none : (r : Request) → requestInRange n r ≡ true → one (ltb highest (r .priority)) ≡ 0
   steep-none r e = leb-none (r .priority) highest (and-true (leb (r .priority) highest) _ e .0)
@@ -93,18 +112,18 @@ module _ (n : ℕ) where
   far : (k m : ℕ) → n < k → m ≤ n → one (eqb k m) ≡ 0
   far k m h l = ap one (ne-eqb k m (λ e. omega arith))
 
+awaits-make : (s : State) → (isOf awaitSub s ≡ true → awaitedOf s ≤ lastSub) → awaitsInRange s ≡ true
+awaits-make s h = go (isOf awaitSub s) h
+  where
+    go : (b : Bool) → (b ≡ true → awaitedOf s ≤ lastSub) → cond b (leb (awaitedOf s) lastSub) true ≡ true
+    go true f = le-leb _ _ (f refl)
+    go false f = refl
+
 -- what is known of the numbers, as the later rules use it
 pub record Known (t : Table) : Type 0 where
   pub range : InRange t
   pub entries : allOf (entryInRange (t .rest .count)) (t .tasks) ≡ true
   pub asked : allOf (requestInRange (t .rest .count)) (requests (t .rest)) ≡ true
-
--- the count, the granule, the clock and the number of requests of entries and rest whose numbers are right
-pub bounded : (ts : List Task) (r : Rest) → numbersRight ts r ≡ true → Bounds (r .count) (r .granule) (r .clock) (r .queued)
-unfolding numbersRight
-bounded ts r e =
-    let s = and-true (sizesRight ts r) _ e in
-    bounds-get (r .count) (r .granule) (r .clock) (r .queued) (and-true (inBounds (r .count) (r .granule) (r .clock) (r .queued)) _ (s .1) .0)
 
 -- the queue's own numbers
 pub record Lined (t : Table) : Type 0 where
@@ -129,11 +148,14 @@ module _ (t : Table) where
       let b = and-true (inBounds n (t .rest .granule) (t .rest .clock) (t .rest .queued)) _ (s .1) in
       let m = and-true (allOf (entryInRange n) (t .tasks)) _ (b .1) in
       let p = and-true (allOf isBlank (drop n (t .tasks))) _ (m .1) in
+      let q1 = and-true (allOf (requestInRange n) (requests (t .rest))) _ (p .1) in
+      let s3 = and-true (eqb (length (t .rest .pool)) 32) _ (s2 .1) in
       let w = bounds-get n (t .rest .granule) (t .rest .clock) (t .rest .queued) (b .0) in
       let h : (k : ℕ) → entryInRange n (taskAt (t .tasks) k) ≡ true = tasks-get (entryInRange n) (t .tasks) (blank-in-range n) (m .0) in
+      let g : (k : ℕ) → subInRange n (subAt (t .rest) k) ≡ true = every-get (subInRange n) noSub (t .rest .subs) (free-in-range n) (q1 .1) in
       record {
         range = record {
-          sizes = record { tasks = eqb-true _ _ (s1 .0); queue = q .size; alarms = eqb-true _ _ (s2 .0); pool = eqb-true _ _ (s2 .1) };
+          sizes = record { tasks = eqb-true _ _ (s1 .0); queue = q .size; alarms = eqb-true _ _ (s2 .0); pool = eqb-true _ _ (s3 .0); subs = eqb-true _ _ (s3 .1); lines = λ k. sub-of n (subAt (t .rest) k) (g k) .0 };
           count = w .count;
           granule = w .granule;
           clock = w .clock;
@@ -143,11 +165,14 @@ module _ (t : Table) where
           priority = λ k. leb-true _ _ (and-true (leb (taskAt (t .tasks) k .priority) highest) _ (and-true (leb (taskAt (t .tasks) k .own) highest) _ (h k) .1) .0);
           waiter = λ k. waiter-of n (taskAt (t .tasks) k) (h k);
           beyond = past-get (t .tasks) n (p .0);
-          priorities = sum-none (requestInRange n) (λ (r : Request). one (ltb highest (r .priority))) (steep-none n) (requests (t .rest)) (p .1);
-          names = sum-none (requestInRange n) (λ (r : Request). one (ltb n (r .target .0)) + one (ltb n (r .«start_waiter» .0)) + one (ltb n (r .«end_waiter» .0))) (wild-none n) (requests (t .rest)) (p .1);
+          priorities = sum-none (requestInRange n) (λ (r : Request). one (ltb highest (r .priority))) (steep-none n) (requests (t .rest)) (q1 .0);
+          names = sum-none (requestInRange n) (λ (r : Request). one (ltb n (r .target .0)) + one (ltb n (r .«start_waiter» .0)) + one (ltb n (r .«end_waiter» .0))) (wild-none n) (requests (t .rest)) (q1 .0);
+          holders = λ k. sub-of n (subAt (t .rest) k) (g k) .1;
+          waiting = λ k. sub-of n (subAt (t .rest) k) (g k) .2;
+          inside = λ k. awaited-of n (taskAt (t .tasks) k) (h k);
         };
         entries = m .0;
-        asked = p .1;
+        asked = q1 .0;
       }
 
   pub numbers-make : InRange t → numbersRight (t .tasks) (t .rest) ≡ true
@@ -155,15 +180,20 @@ module _ (t : Table) where
   numbers-make w =
       let n = t .rest .count in
       true-and (sizesRight (t .tasks) (t .rest)) _
-      (rw (eq-eqb (length (t .tasks)) 16 (w .sizes .tasks), eq-eqb (length (t .rest .alarms)) 32 (w .sizes .alarms), eq-eqb (length (t .rest .pool)) 32 (w .sizes .pool)) refl)
+      (rw (eq-eqb (length (t .tasks)) 16 (w .sizes .tasks), eq-eqb (length (t .rest .alarms)) 32 (w .sizes .alarms), eq-eqb (length (t .rest .pool)) 32 (w .sizes .pool), eq-eqb (length (t .rest .subs)) 8 (w .sizes .subs)) refl)
       (true-and (inBounds n (t .rest .granule) (t .rest .clock) (t .rest .queued)) _
       (bounds-make n (t .rest .granule) (t .rest .clock) (t .rest .queued) (record { count = w .count; granule = w .granule; clock = w .clock; queued = w .queued }))
       (true-and (allOf (entryInRange n) (t .tasks)) _
       (tasks-make (entryInRange n) (t .tasks) (λ k.
       true-and (leb (taskAt (t .tasks) k .own) highest) _ (le-leb _ _ (w .own k))
-      (true-and (leb (taskAt (t .tasks) k .priority) highest) _ (le-leb _ _ (w .priority k)) (le-leb _ _ (w .waiter k)))))
+      (true-and (leb (taskAt (t .tasks) k .priority) highest) _ (le-leb _ _ (w .priority k))
+      (true-and (leb (taskAt (t .tasks) k .«end_waiter» .0) n) _ (le-leb _ _ (w .waiter k)) (awaits-make (taskAt (t .tasks) k .state) (w .inside k))))))
       (true-and (allOf isBlank (drop n (t .tasks))) _ (past-make (t .tasks) n (w .beyond))
-      (none-all (requestInRange n) (λ (r : Request). one (ltb highest (r .priority))) (λ (r : Request). one (ltb n (r .target .0)) + one (ltb n (r .«start_waiter» .0)) + one (ltb n (r .«end_waiter» .0))) (ranged n) (requests (t .rest)) (w .priorities) (w .names)))))
+      (true-and (allOf (requestInRange n) (requests (t .rest))) _
+      (none-all (requestInRange n) (λ (r : Request). one (ltb highest (r .priority))) (λ (r : Request). one (ltb n (r .target .0)) + one (ltb n (r .«start_waiter» .0)) + one (ltb n (r .«end_waiter» .0))) (ranged n) (requests (t .rest)) (w .priorities) (w .names))
+      (every-make (subInRange n) noSub (t .rest .subs) (λ k.
+      true-and (eqb (length (subAt (t .rest) k .line)) 16) _ (eq-eqb _ _ (w .sizes .lines k))
+      (true-and (leb (subAt (t .rest) k .holder .0) n) _ (le-leb _ _ (w .holders k)) (le-leb _ _ (w .waiting k)))))))))
 
 -- ---- the ready queue
 module _ (ts : List Task) where
@@ -194,59 +224,72 @@ place n (suc i) = go (leb (suc i) n) refl
     go true e = among (omega arith) (leb-true _ _ e)
     go false e = past (leb-false _ _ e)
 
-module _ (t : Table) (w : InRange t) where
-  -- a ready task's number is a task's
-  ready-no : (x : TaskNo) → 0 < is ready (taskAt (t .tasks) (x .0) .state) → isTask (t .rest .count) x ≡ true
-  ready-no x h = go (place (t .rest .count) (x .0))
-    where
-      go : Place (t .rest .count) (x .0) → isTask (t .rest .count) x ≡ true
-      go (nought e) = absurd (let y : is ready (taskAt (t .tasks) (x .0) .state) ≡ 0 = rw (at-none (t .tasks) (x .0) e) refl in omega arith)
-      go (among a b) = true-and (ltb 0 (x .0)) _ (lt-ltb 0 (x .0) a) (le-leb _ _ b)
-      go (past l) = absurd (let y : is ready (taskAt (t .tasks) (x .0) .state) ≡ 0 = rw (w .beyond (x .0) l) refl in omega arith)
+-- the line q, of which the first r places are taken, of those whose state passes a test, which no dormant one does
+module _ (f : State → Bool) (z : f Dormant ≡ false) (t : Table) (w : InRange t) (r : ℕ) (q : List TaskNo) (l : length q ≡ 16) where
+  abbrev ts : List Task
+  ts = t .tasks
 
-  pub queue-make : Queue t → orderRight t ≡ true
+  abbrev n : ℕ
+  n = t .rest .count
+
+  -- nobody's number, and one past the tasks, stands in no line
+  none-at : (k : ℕ) → taskAt ts k ≡ noTask → one (f (taskAt ts k .state)) ≡ 0
+  none-at k e = rw (e, z) refl
+
+  -- the number of one whose state passes is a task's
+  line-no : (x : TaskNo) → 0 < one (f (taskAt ts (x .0) .state)) → isTask n x ≡ true
+  line-no x h = go (place n (x .0))
+    where
+      go : Place n (x .0) → isTask n x ≡ true
+      go (nought e) = absurd (omega (arith, none-at (x .0) (at-none ts (x .0) e)))
+      go (among a b) = true-and (ltb 0 (x .0)) _ (lt-ltb 0 (x .0) a) (le-leb _ _ b)
+      go (past g) = absurd (omega (arith, none-at (x .0) (w .beyond (x .0) g)))
+
+  pub line-make : r ≤ 16 → Line f ts (take r q) → q ≡ pad 16 nobody (take r q) → lineRight f ts n r q ≡ true
   unfolding exactAt
+  line-make h e p =
+      true-and (leb n 16) _ (le-leb _ _ (w .count .1))
+      (true-and (leb r 16) _ (le-leb _ _ h)
+      (true-and (falls ts n 15 (take r q)) _
+      (desc-falls ts n 15 (take r q)
+      (all-tasks ts n (take r q) (λ x g. line-no x (rw (e .exact (x .0)) at g)))
+      (low ts n 15 (take r q) (w .priority))
+      (e .sorted))
+      (true-and (upTo (exactAt f ts (take r q)) n) _
+      (all-make (exactAt f ts (take r q)) n (λ k g x. eq-eqb _ _ (stands-count ts k (take r q) ∙ e .exact k)))
+      (pad-blank isNobody nobody refl 16 r q l p))))
+
+  exact-get : allOf (isTask n) (take r q) ≡ true → upTo (exactAt f ts (take r q)) n ≡ true
+      → (k : ℕ) → count k (items ts (take r q)) ≡ one (f (taskAt ts k .state))
+  unfolding exactAt
+  exact-get a u k = sym (stands-count ts k (take r q)) ∙ go (place n k)
+    where
+      none : (0 < k → n < k) → standsIn k (take r q) ≡ 0
+      none h = sum-none (isTask n) (λ (x : TaskNo). one (eqb k (x .0))) (λ x. out-of ts n k x h) (take r q) a
+
+      go : Place n k → standsIn k (take r q) ≡ one (f (taskAt ts k .state))
+      go (nought e) = none (λ y. absurd (omega arith)) ∙ sym (none-at k (at-none ts k e))
+      go (among g h) = eqb-true _ _ (all-get (exactAt f ts (take r q)) n k u g h)
+      go (past h) = none (λ y. h) ∙ sym (none-at k (w .beyond k h))
+
+  pub line-get : lineRight f ts n r q ≡ true → Line f ts (take r q) × (q ≡ pad 16 nobody (take r q))
+  line-get e =
+      let y = and-true (leb n 16) _ e in
+      let x = and-true (leb r 16) _ (y .1) in
+      let a = and-true (falls ts n 15 (take r q)) _ (x .1) in
+      let b = and-true (upTo (exactAt f ts (take r q)) n) _ (a .1) in
+      (record { exact = exact-get (falls-tasks ts n 15 (take r q) (a .0)) (b .0); sorted = falls-desc ts n 15 (take r q) (a .0) .1 }, blank-pad isNobody nobody nobody-is 16 r q l (b .1))
+
+module _ (t : Table) (w : InRange t) where
+  pub queue-make : Queue t → orderRight t ≡ true
   queue-make q =
       true-and (eqb (length (t .queue)) 16) _ (eq-eqb _ _ (w .sizes .queue))
-      (true-and (leb (t .rest .count) 16) _ (le-leb _ _ (w .count .1))
-      (true-and (leb (t .ready) 16) _ (le-leb _ _ (w .ready))
-      (true-and (falls (t .tasks) (t .rest .count) 15 (line t)) _
-      (desc-falls (t .tasks) (t .rest .count) 15 (line t)
-      (all-tasks (t .tasks) (t .rest .count) (line t) (λ x h. ready-no x (rw (q .exactly .exact (x .0)) at h)))
-      (low (t .tasks) (t .rest .count) 15 (line t) (w .priority))
-      (q .exactly .sorted))
-      (true-and (upTo (exactAt isReady (t .tasks) (line t)) (t .rest .count)) _
-      (all-make (exactAt isReady (t .tasks) (line t)) (t .rest .count) (λ k g h. eq-eqb _ _ (stands-count (t .tasks) k (line t) ∙ q .exactly .exact k)))
-      (pad-blank isNobody nobody refl 16 (t .ready) (t .queue) (w .sizes .queue) (q .tidy))))))
-
-module _ (t : Table) (w : InRange t) where
-  exact-get : allOf (isTask (t .rest .count)) (line t) ≡ true → upTo (exactAt isReady (t .tasks) (line t)) (t .rest .count) ≡ true
-      → (k : ℕ) → count k (items (t .tasks) (line t)) ≡ is ready (taskAt (t .tasks) k .state)
-  unfolding exactAt
-  exact-get a u k = sym (stands-count (t .tasks) k (line t)) ∙ go (place (t .rest .count) k)
-    where
-      none : (0 < k → t .rest .count < k) → standsIn k (line t) ≡ 0
-      none h = sum-none (isTask (t .rest .count)) (λ (x : TaskNo). one (eqb k (x .0))) (λ x. out-of (t .tasks) (t .rest .count) k x h) (line t) a
-
-      go : Place (t .rest .count) k → standsIn k (line t) ≡ is ready (taskAt (t .tasks) k .state)
-      go (nought e) = none (λ z. absurd (omega arith)) ∙ sym (rw (at-none (t .tasks) k e) refl)
-      go (among g h) = eqb-true _ _ (all-get (exactAt isReady (t .tasks) (line t)) (t .rest .count) k u g h)
-      go (past h) = none (λ z. h) ∙ sym (rw (w .beyond k h) refl)
+      (line-make isReady refl t w (t .ready) (t .queue) (w .sizes .queue) (w .ready) (q .exactly) (q .tidy))
 
   pub queue-get : orderRight t ≡ true → Queue t
   queue-get e =
-      let z = and-true (eqb (length (t .queue)) 16) _ e in
-      let y = and-true (leb (t .rest .count) 16) _ (z .1) in
-      let x = and-true (leb (t .ready) 16) _ (y .1) in
-      let a = and-true (falls (t .tasks) (t .rest .count) 15 (line t)) _ (x .1) in
-      let b = and-true (upTo (exactAt isReady (t .tasks) (line t)) (t .rest .count)) _ (a .1) in
-      record {
-        exactly = record {
-          exact = exact-get (falls-tasks (t .tasks) (t .rest .count) 15 (line t) (a .0)) (b .0);
-          sorted = falls-desc (t .tasks) (t .rest .count) 15 (line t) (a .0) .1;
-        };
-        tidy = blank-pad isNobody nobody nobody-is 16 (t .ready) (t .queue) (w .sizes .queue) (b .1);
-      }
+      let a = line-get isReady refl t w (t .ready) (t .queue) (w .sizes .queue) (and-true (eqb (length (t .queue)) 16) _ e .1) in
+      record { exactly = a .0; tidy = a .1 }
 
 -- ---- stored times
 stored-get : (c at : ℕ) → isStored c at ≡ true → Stored c at

@@ -15,9 +15,10 @@ use Rattle.executive.specs.Lists.{one, pad, sumOf}
 use Rattle.executive.specs.Queue.{count}
 use Rattle.executive.specs.Places.{nobody, never, noTask, Names, taskAt, putAt}
 use Rattle.executive.specs.Table.{items, levelsOf, litInFlight, stays, Join, Plan, FindsRoom, depart, apply, begin, enterAllInFlight, applyInFlight}
-use Rattle.executive.specs.States.{dormant, ready, awaitStart, awaitEnd, is, isReady}
+use Rattle.executive.specs.States.{dormant, ready, awaitStart, awaitEnd, is, isReady, waitsFor}
 use Rattle.executive.specs.Plans.{asks, begins}
 use Rattle.executive.specs.WellFormed.{WellFormed, runsOf, Line}
+use Rattle.executive.specs.Subprograms.{noSub}
 use Rattle.executive.specs.Configuration.{granuleIn, ownIn, markIn, tasksIn, isConfiguration, blankRest, dormantAt, sleepers, dormantTable, markedStart, starters, freshTable, freshOf, zeroTable, madeBy}
 use Rattle.executive.specs.Promises.FreshLaw.{noConfiguration}
 use Rattle.executive.specs.Promises.Demands.{Dispatched}
@@ -29,8 +30,9 @@ use Rattle.executive.proofs.Plans.Size.{sum-zeros}
 use Rattle.executive.proofs.Plans.QueueKept.{not-both}
 use Rattle.executive.proofs.Plans.LinksKept.{put-all, LinksUpTo, links-up, up-links}
 use Rattle.executive.proofs.Plans.Links as links
-use Rattle.executive.proofs.Plans.WorkingForm.{EntryOk, blank-own, busy-own, LinksOk, RestOk, WellFormedByPart, formed, well-formed}
+use Rattle.executive.proofs.Plans.WorkingForm.{EntryOk, blank-own, busy-own, LinksOk, RestOk, SubsOk, WellFormedByPart, formed, well-formed}
 use Rattle.executive.proofs.Plans.GoodIsKept.{puts, Good, GoodOutcome, plan-in-flight, apply-kept}
+use Rattle.executive.proofs.Plans.SubsKept.{joined, subs-else}
 use Rattle.executive.proofs.Plans.Rising.{Done}
 use Rattle.executive.proofs.configuration.Loops.{dormant-fit}
 use Rattle.executive.proofs.configuration.Shape.{Configured, configured}
@@ -86,6 +88,18 @@ module _ (s : List ℕ) (n : ℕ) where
   unfolding items count
   asleep-line = record { exact = any-asleep (λ e. 0 ≡ is ready (e .state)) (λ _. refl); sorted = tt }
 
+  asleep-lined : SubsOk asleep (pad 8 noSub [])
+  unfolding pad items count
+  asleep-lined = record {
+    sized = refl;
+    each = λ m. rw (pad-at noSub 8 [] m) (record {
+      neat = record { room = zero-le; clear = refl };
+      busy = λ h. absurd (omega arith);
+      free = λ _. refl;
+      waiters = record { exact = any-asleep (λ e. 0 ≡ one (waitsFor m (e .state))) (λ _. refl); sorted = tt };
+    });
+  }
+
   asleep-own : ((k : ℕ) → 0 < k → k ≤ n → ownIn s k ≤ 15) → (k : ℕ) → EntryOk 0 0 n k (taskAt asleep k)
   asleep-own h = each-asleep (EntryOk 0 0 n) (λ k g l. record {
     calm = (false-not-true, false-not-true);
@@ -117,6 +131,7 @@ dormant-formed s b c = record {
   own = asleep-own s (tasksIn s) (c .own);
   rested = blank-rested (tasksIn s) (granuleIn s) (c .some) (c .few) (c .granule) (b 1);
   lit = refl;
+  lined = asleep-lined s (tasksIn s);
 }
 
 -- ---- the starts: from number k on, the tasks are still dormant
@@ -173,7 +188,14 @@ starts-good s b c =
       own = f .own;
       dormant = λ j _. any-asleep s (tasksIn s) (λ e. is dormant (e .state) ≡ 1) (λ _. refl) j;
     }) in
-    record { leaving = refl; joining = d .joining; linked = up-links (d .linked); own = d .own; rested = f .rested }
+    record {
+      leaving = refl;
+      joining = joined (starters s (tasksIn s) 1) (dormantTable s .tasks) (d .joining);
+      linked = up-links (d .linked);
+      own = d .own;
+      rested = f .rested;
+      lined = subs-else (starters s (tasksIn s) 1) (dormantTable s .tasks) (d .joining) (f .lined);
+    }
 
 pub starts-kept : (s : List ℕ) → Bytes s → isConfiguration s ≡ true → GoodOutcome (startsPlan s) (dormantTable s)
 starts-kept s b e = let c = configured s e in apply-kept (startsPlan s) (dormantTable s) (dormant-formed s b c) (starts-good s b c)

@@ -48,6 +48,9 @@ unaltered (change.Alarm f at) q t e = false-not-true (sym e)
 unaltered change.Put q t e = false-not-true (sym e)
 unaltered (change.Taken i) q t e = false-not-true (sym e)
 unaltered (change.Clock i) q t e = false-not-true (sym e)
+unaltered (change.Held m k) q t e = false-not-true (sym e)
+unaltered (change.Lined m k i) q t e = false-not-true (sym e)
+unaltered (change.HandedOn m) q t e = false-not-true (sym e)
 
 -- a change that can be made keeps the requests in order
 pub changed-neat : (ch : Change) (q : Request) (r : Rest) → PoolInOrder r → Able ch r → PoolInOrder (changed ch q r)
@@ -60,6 +63,9 @@ changed-neat (change.Clock i) q r f a =
     let n : advanced r .queued ≡ r .queued = advanced-alone (λ (r : Rest). r .queued) (λ r fs al. refl) r in
     let p : advanced r .pool ≡ r .pool = advanced-alone (λ (r : Rest). r .pool) (λ r fs al. refl) r in
     record { room = rw n (f .room); clear = rw (p, n) (f .clear) }
+changed-neat (change.Held m k) q r f a = record { room = f .room; clear = f .clear }
+changed-neat (change.Lined m k i) q r f a = record { room = f .room; clear = f .clear }
+changed-neat (change.HandedOn m) q r f a = record { room = f .room; clear = f .clear }
 
 -- the caller leaves, the rest changes, and all enter, each with the word on the way: that is the plan, which says the
 -- word at its end

@@ -1,6 +1,6 @@
 -- A call that nothing refuses has what its decision asks.
 use Prim.Native.Nat.{ℕ, _+_, _≤_, _<_, _^_}
-use mathlib.Core.Path.{_≡_, refl, sym}
+use mathlib.Core.Path.{_≡_, refl, sym, _∙_}
 use mathlib.Core.Bool.{Bool, true, false, _||_}
 use mathlib.Core.List.{List, _∷_}
 use native.Mathlib.Omega.{arith}
@@ -9,15 +9,16 @@ use lib.Dec.{ltb}
 use Rattle.records.specs.Firsts.{Refusal, when, firstOf}
 use Rattle.records.specs.declared.TaskNo.{TaskNo}
 use Rattle.records.specs.declared.FlagNo.{FlagNo}
+use Rattle.records.specs.declared.SubNo.{SubNo}
 use Rattle.records.specs.declared.Call.{Call}
 use Rattle.records.specs.declared.Call.the-variants as call
-use Rattle.executive.specs.Numbers.{lastUnit}
+use Rattle.executive.specs.Numbers.{lastUnit, lastSub, subCount}
 use Rattle.executive.specs.declared.Table.{Table}
 use Rattle.executive.specs.Table.{ArraysInOrder, TimesInOrder}
 use Rattle.executive.specs.States.{isDormant}
 use Rattle.executive.specs.Plans.{stateAt}
 use Rattle.executive.specs.WellFormed.{WellFormed, Times}
-use Rattle.executive.specs.Refusals.{isTick, nobodyActive, badBody, namesCaller, alarmRunning, poolFull, endsTime, callRefusals}
+use Rattle.executive.specs.Refusals.{isTick, nobodyActive, badBody, holdsIt, holdsNot, holdsAny, namesCaller, alarmRunning, poolFull, endsTime, callRefusals}
 use Rattle.executive.proofs.Lists.Tests.{false-not-true}
 use Rattle.executive.proofs.calls.InOrder.{fit-of, standing-of}
 
@@ -31,6 +32,9 @@ first-none n false rs h e = (refl, e)
 pub record Clear (t : Table) (c : Call) : Type 0 where
   pub active : nobodyActive t c ≡ false
   pub body : badBody t c ≡ false
+  pub inside : holdsIt t c ≡ false
+  pub outside : holdsNot t c ≡ false
+  pub holding : holdsAny t c ≡ false
   pub another : namesCaller t c ≡ false
   pub room : poolFull t c ≡ false
   pub time : endsTime t c ≡ false
@@ -39,11 +43,14 @@ pub clear-of : (t : Table) (c : Call) → firstOf (callRefusals t c) ≡ 0 → C
 clear-of t c h =
     let a = first-none 5 (nobodyActive t c) _ (omega arith) h in
     let b = first-none 6 (badBody t c) _ (omega arith) (a .1) in
-    let d = first-none 7 (namesCaller t c) _ (omega arith) (b .1) in
+    let i = first-none 13 (holdsIt t c) _ (omega arith) (b .1) in
+    let o = first-none 14 (holdsNot t c) _ (omega arith) (i .1) in
+    let n = first-none 15 (holdsAny t c) _ (omega arith) (o .1) in
+    let d = first-none 7 (namesCaller t c) _ (omega arith) (n .1) in
     let e = first-none 9 (alarmRunning t c) _ (omega arith) (d .1) in
     let f = first-none 8 (poolFull t c) _ (omega arith) (e .1) in
     let g = first-none 10 (endsTime t c) _ (omega arith) (f .1) in
-    record { active = a .0; body = b .0; another = d .0; room = f .0; time = g .0 }
+    record { active = a .0; body = b .0; inside = i .0; outside = o .0; holding = n .0; another = d .0; room = f .0; time = g .0 }
 
 pub or-none : (a b : Bool) → (a || b) ≡ false → (a ≡ false) × (b ≡ false)
 or-none false b h = (refl, h)
@@ -73,6 +80,12 @@ module _ (t : Table) (w : WellFormed t) where
 
   pub alarm-owed : (u n : ℕ) (f : FlagNo) → firstOf (callRefusals t (call.Alarm u n f)) ≡ 0 → f .0 < 32
   alarm-owed u n f h = alarm-low t u n f (clear-of t (call.Alarm u n f) h .body)
+
+  -- 06 and 07: a call that is refused by its body where there is no subprogram of that number
+  pub sub-owed : (c : Call) (m : SubNo) → isTick t c ≡ false → badBody t c ≡ ltb lastSub (m .0) → firstOf (callRefusals t c) ≡ 0
+      → (0 < t .ready) × (m .0 < subCount)
+  sub-owed c m n b h =
+      let l = ltb-false lastSub (m .0) (sym b ∙ clear-of t c h .body) in (active c n h, omega arith)
 
   pub tick-owed : firstOf (callRefusals t call.Tick) ≡ 0 → ArraysInOrder t × (t .rest .clock .0 + t .rest .granule ≤ 2 ^ 40)
   unfolding endsTime

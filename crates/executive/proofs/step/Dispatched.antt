@@ -11,7 +11,7 @@ use lib.Dec.{eqb}
 use lib.ListN.{length}
 use Rattle.records.specs.declared.TaskNo.{TaskNo}
 use Rattle.executive.specs.declared.State.{State}
-use Rattle.executive.specs.declared.State.the-variants.{Ready}
+use Rattle.executive.specs.declared.State.the-variants.{Dormant, Ready}
 use Rattle.executive.specs.declared.Task.{Task}
 use Rattle.executive.specs.declared.Table.{Table}
 use Rattle.executive.specs.Lists.{one}
@@ -39,31 +39,31 @@ prio-is ts (j ∷ r) k h = go (eqb k (j .0)) refl h (prio-is ts r k)
     go true e h ih = rw (eqb-true k (j .0) e)
     go false e h ih = ih (omega arith)
 
--- what is said of a queue's numbers r, with the tasks ts
-module _ (ts : List Task) where
+-- what is said of a line's numbers r, with the tasks ts: of the ready queue, and of any line of those who pass a test
+module _ (f : State → Bool) (ts : List Task) where
   pub record Picks (r : List TaskNo) (k : ℕ) : Type 0 where
     pub head : activeOf (items ts r) ≡ k
-    pub is-ready : 0 < k → is ready (taskAt ts k .state) ≡ 1
-    pub highest : (j : ℕ) → is ready (taskAt ts j .state) ≡ 1 → taskAt ts j .priority ≤ taskAt ts k .priority
-    pub first : (j : ℕ) → is ready (taskAt ts j .state) ≡ 1 → j ≢ k → ahead k (items ts r) < ahead j (items ts r)
-    pub idle : (k ≡ 0) ↔ ((j : ℕ) → is ready (taskAt ts j .state) ≡ 0)
+    pub passes : 0 < k → one (f (taskAt ts k .state)) ≡ 1
+    pub highest : (j : ℕ) → one (f (taskAt ts j .state)) ≡ 1 → taskAt ts j .priority ≤ taskAt ts k .priority
+    pub first : (j : ℕ) → one (f (taskAt ts j .state)) ≡ 1 → j ≢ k → ahead k (items ts r) < ahead j (items ts r)
+    pub idle : (k ≡ 0) ↔ ((j : ℕ) → one (f (taskAt ts j .state)) ≡ 0)
     pub empty : (k ≡ 0) ↔ (length r ≡ 0)
 
-  pub picks : (r : List TaskNo) → Line isReady ts r → Picks r (headOf r .0)
+  pub picks : f Dormant ≡ false → (r : List TaskNo) → Line f ts r → Picks r (headOf r .0)
   unfolding items count activeOf
-  picks [] q = record {
+  picks z [] q = record {
     head = refl;
-    is-ready = λ h. absurd (omega arith);
+    passes = λ h. absurd (omega arith);
     highest = λ j h. absurd (omega (arith, q .exact j));
     first = λ j h n. absurd (omega (arith, q .exact j));
     idle = (λ e j. sym (q .exact j), λ f. refl);
     empty = (λ e. refl, λ e. refl);
   }
-  picks (c ∷ r) q =
-      let h : Head isReady ts c r = head-is isReady ts c r refl q in
+  picks z (c ∷ r) q =
+      let h : Head f ts c r = head-is f ts c r z q in
       record {
         head = refl;
-        is-ready = λ _. h .is-of;
+        passes = λ _. h .is-of;
         highest = λ j e.
             let g : 0 < count j (items ts (c ∷ r)) = omega (arith, q .exact j) in
             omega (arith, head-highest (itemOf ts c) (items ts r) j (q .sorted) g, prio-is ts (c ∷ r) j g);
@@ -81,12 +81,12 @@ unready s n = go (isOf ready s) refl
 
 pub dispatches : (t : Table) → WellFormedByPart t → Dispatched t (caller t .0)
 dispatches t w =
-    let p : Picks (t .tasks) (line t) (caller t .0) = picks (t .tasks) (line t) (w .queue) in
+    let p : Picks isReady (t .tasks) (line t) (caller t .0) = picks isReady (t .tasks) refl (line t) (w .queue) in
     let n : length (line t) ≡ t .ready = line-length t (w .fit) in
     record {
       head = p .head;
       chosen = λ h. record {
-        ready = ready-named _ (p .is-ready h);
+        ready = ready-named _ (p .passes h);
         highest = λ j e. p .highest j (ready-kind _ e);
         first = λ j e _ d. p .first j (ready-kind _ e) d;
       };

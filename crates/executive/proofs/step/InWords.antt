@@ -1,5 +1,5 @@
 -- Each test of the refusals says what the words say, and so the first that passes is the first that holds.
-use Prim.Native.Nat.{ℕ, _+_, _/_, _%_, _≤_, _<_}
+use Prim.Native.Nat.{ℕ, zero, suc, _+_, _/_, _%_, _≤_, _<_}
 use mathlib.Core.Path.{_≡_, refl, sym, ap, _∙_}
 use mathlib.Core.Logic.{_↔_, _≢_, _⊎_, inl, inr, ⊎-elim}
 use mathlib.Core.Bool.{Bool, true, false, not, cond, _||_}
@@ -12,6 +12,7 @@ use lib.ListN.{length, getD}
 use Rattle.records.specs.Firsts.{Refusal, firstOf}
 use Rattle.records.specs.declared.TaskNo.{TaskNo}
 use Rattle.records.specs.declared.FlagNo.{FlagNo}
+use Rattle.records.specs.declared.SubNo.{SubNo}
 use Rattle.records.specs.declared.Kind.{Kind}
 use Rattle.records.specs.declared.Kind.the-variants as kind
 use Rattle.records.specs.declared.Call.{Call}
@@ -19,17 +20,19 @@ use Rattle.records.specs.declared.Call.the-variants as call
 use Rattle.records.specs.Kinds.{lengthOf, isCall}
 use Rattle.executive.specs.declared.State.{State}
 use Rattle.executive.specs.declared.State.the-variants.{Dormant}
+use Rattle.executive.specs.declared.Sub.{Sub}
 use Rattle.executive.specs.declared.Table.{Table}
-use Rattle.executive.specs.Lists.{_and_}
+use Rattle.executive.specs.Lists.{_and_, allOf}
+use Rattle.executive.specs.Subprograms.{noSub, subAt, holds?, holdsAnyOf}
 use Rattle.executive.specs.Numbers.{mostQueued, endOfTime}
 use Rattle.executive.specs.Places.{never}
 use Rattle.executive.specs.Plans.{caller, stateAt}
 use Rattle.executive.specs.States.{isDormant}
 use Rattle.executive.specs.Check.{isWellFormed}
 use Rattle.executive.specs.Sheet.{noSuchTask, marksOf}
-use Rattle.executive.specs.Refusals.{kindOfRecord, callIn, isTick, nobodyActive, badBody, namesCaller, alarmRunning, poolFull, endsTime, refusals}
+use Rattle.executive.specs.Refusals.{kindOfRecord, callIn, isTick, nobodyActive, badBody, holdsIt, holdsNot, holdsAny, namesCaller, alarmRunning, poolFull, endsTime, refusals}
 use Rattle.executive.specs.Step.{stepOf}
-use Rattle.executive.specs.Promises.InWords.{Bit, NoCall, NoTask, BadBody, NamesCaller, AlarmRunning, PoolFull, Case, cases, First, Given}
+use Rattle.executive.specs.Promises.InWords.{Bit, NoCall, NoTask, BadBody, Holds, HoldsIt, HoldsNot, HoldsOne, HoldsAny, NamesCaller, AlarmRunning, PoolFull, Case, cases, First, Given}
 use Rattle.executive.proofs.Lists.Tests.{false-not-true}
 use Rattle.executive.proofs.check.Decides.{well-formed-iff}
 use Rattle.executive.proofs.step.FirstThatHolds.{step-number}
@@ -139,9 +142,33 @@ says-no-call k = (to k, λ z. ⊎-elim (λ e. rw e refl) (λ y. ⊎-elim (λ e. 
     to kind.Granule e = inr (inl refl)
     to kind.Task e = inr (inr (inl refl))
     to kind.End e = inr (inr (inr refl))
+    to kind.Enter e = false-not-true e
+    to kind.Exit e = false-not-true e
 
 says-dormant : (x : State) → Says (isDormant x) (x ≡ Dormant)
 says-dormant x = (dormant-is x, λ e. rw e refl)
+
+-- ---- one of some subprograms is held by task k
+record Held (k : TaskNo) (ss : List Sub) : Type 0 where
+  pub number : ℕ
+  pub there : number < length ss
+  pub held : k .0 ≡ getD ss number noSub .holder .0
+
+some-held : (k : TaskNo) (ss : List Sub) → Says (holdsAnyOf k ss) (Held k ss)
+unfolding holdsAnyOf allOf
+some-held k [] = (λ e. false-not-true e, λ x. absurd (omega (arith, x .there)))
+some-held k (s ∷ ss) = go (holds? k s) refl (some-held k ss)
+  where
+    go : (b : Bool) → holds? k s ≡ b → Says (holdsAnyOf k ss) (Held k ss) → Says (not (cond (not b) (allOf (λ s. not (holds? k s)) ss) false)) (Held k (s ∷ ss))
+    go true e x = (λ f. record { number = 0; there = omega arith; held = eqb-true _ _ e }, λ h. refl)
+    go false e x = (
+      λ f. let y = x .0 f in record { number = suc (y .number); there = omega (arith, y .there); held = y .held },
+      λ h. back (h .number) (h .there) (h .held),
+    )
+      where
+        back : (n : ℕ) → n < length (s ∷ ss) → k .0 ≡ getD (s ∷ ss) n noSub .holder .0 → holdsAnyOf k ss ≡ true
+        back zero l h = absurd (eqb-false _ _ e h)
+        back (suc n) l h = x .1 (record { number = n; there = omega arith; held = h })
 
 -- ---- each number
 module _ (t : Table) where
@@ -163,6 +190,18 @@ module _ (t : Table) where
   says-bad (call.Granule g) = says-nothing
   says-bad (call.Task p m) = says-nothing
   says-bad call.End = says-nothing
+  says-bad (call.Enter m) = says-lt _ (m .0)
+  says-bad (call.Exit m) = says-lt _ (m .0)
+
+  -- 13 of a 06, 14 of a 07, 15 of a 00 or a 01
+  holds-said : (m : SubNo) → Says (holds? (caller t) (subAt (t .rest) (m .0))) (Holds t (m .0))
+  holds-said m = says-eq (caller t .0) (subAt (t .rest) (m .0) .holder .0)
+
+  any-said : Says (holdsAnyOf (caller t) (t .rest .subs)) (HoldsOne t)
+  any-said = let x = some-held (caller t) (t .rest .subs) in (
+    λ e. let y = x .0 e in record { number = y .number; there = y .there; held = y .held },
+    λ y. x .1 (record { number = y .number; there = y .there; held = y .held }),
+  )
 
   -- 7 and 8 of a 05, 9 of a 0B, 10 of a tick
   caller-said : (o : ℕ) (k : TaskNo) → Says (eqb (k .0) (caller t .0) and not (eqb (o / 32 % 4) 0)) ((k .0 ≡ caller t .0) × (Bit 6 o ⊎ Bit 5 o))
@@ -185,41 +224,78 @@ module _ (t : Table) where
 
   pub record Tells (c : Call) : Type 0 where
     pub tick : isTick t c ≡ true → c ≡ call.Tick
+    pub inside : holdsIt t c ≡ true → HoldsIt t c
+    pub outside : holdsNot t c ≡ true → HoldsNot t c
+    pub holding : holdsAny t c ≡ true → HoldsAny t c
     pub caller : namesCaller t c ≡ true → NamesCaller t c
     pub running : alarmRunning t c ≡ true → AlarmRunning t c
     pub full : poolFull t c ≡ true → PoolFull t c
     pub late : endsTime t c ≡ true → (c ≡ call.Tick) × (endOfTime < t .rest .clock .0 + t .rest .granule)
     pub skips : marksOf t c .skipped ≢ 0 → Restarts c
 
+  abbrev Silent : Call → Type 0
+  Silent c = (isTick t c ≡ false) × (namesCaller t c ≡ false) × (alarmRunning t c ≡ false) × (poolFull t c ≡ false) × (endsTime t c ≡ false)
+
+  none : {P : Type 0} {b : Bool} → b ≡ false → b ≡ true → P
+  none f e = false-not-true (sym f ∙ e)
+
+  -- of a subprogram's call, or one that ends a run, nothing else is told; of others, nothing at all
+  held-tells : (c : Call) → Silent c → (holdsIt t c ≡ true → HoldsIt t c) → (holdsNot t c ≡ true → HoldsNot t c) → (holdsAny t c ≡ true → HoldsAny t c)
+      → (marksOf t c .skipped ≢ 0 → Restarts c) → Tells c
+  held-tells c s i o h k = record { tick = none (s .0); inside = i; outside = o; holding = h; caller = none (s .1); running = none (s .2); full = none (s .3); late = none (s .4); skips = k }
+
+  nothing-tells : (c : Call) → Silent c → holdsIt t c ≡ false → holdsNot t c ≡ false → holdsAny t c ≡ false → marksOf t c .skipped ≡ 0 → Tells c
+  nothing-tells c s i o h z = held-tells c s (none i) (none o) (none h) (λ n. absurd (n z))
+
   pub tells : (c : Call) → Tells c
-  unfolding namesCaller alarmRunning poolFull endsTime marksOf
-  tells call.Terminate = record { tick = λ e. false-not-true e; caller = λ e. false-not-true e; running = λ e. false-not-true e; full = λ e. false-not-true e; late = λ e. false-not-true e; skips = λ z. absurd (z refl) }
-  tells (call.Restart p n) = record { tick = λ e. false-not-true e; caller = λ e. false-not-true e; running = λ e. false-not-true e; full = λ e. false-not-true e; late = λ e. false-not-true e; skips = λ z. record { parameter = p; count = n; call = refl } }
-  tells (call.Pause u n) = record { tick = λ e. false-not-true e; caller = λ e. false-not-true e; running = λ e. false-not-true e; full = λ e. false-not-true e; late = λ e. false-not-true e; skips = λ z. absurd (z refl) }
-  tells (call.CancelPause k) = record { tick = λ e. false-not-true e; caller = λ e. false-not-true e; running = λ e. false-not-true e; full = λ e. false-not-true e; late = λ e. false-not-true e; skips = λ z. absurd (z refl) }
-  tells (call.StartIfDormant o k) = record { tick = λ e. false-not-true e; caller = λ e. false-not-true e; running = λ e. false-not-true e; full = λ e. false-not-true e; late = λ e. false-not-true e; skips = λ z. absurd (z refl) }
+  unfolding holdsIt holdsNot holdsAny namesCaller alarmRunning poolFull endsTime marksOf
+  tells call.Terminate = held-tells _ (refl, refl, refl, refl, refl) (none refl) (none refl) (λ e. (inl refl, any-said .0 e)) (λ z. absurd (z refl))
+  tells (call.Restart p n) = held-tells _ (refl, refl, refl, refl, refl) (none refl) (none refl) (λ e. (inr (record { parameter = p; count = n; call = refl }), any-said .0 e)) (λ z. record { parameter = p; count = n; call = refl })
+  tells (call.Pause u n) = nothing-tells _ (refl, refl, refl, refl, refl) refl refl refl refl
+  tells (call.CancelPause k) = nothing-tells _ (refl, refl, refl, refl, refl) refl refl refl refl
+  tells (call.StartIfDormant o k) = nothing-tells _ (refl, refl, refl, refl, refl) refl refl refl refl
   tells (call.StartOrQueue o k a) = record {
-    tick = λ e. false-not-true e;
+    tick = none refl;
+    inside = none refl;
+    outside = none refl;
+    holding = none refl;
     caller = λ e. record { option = o; target = k; argument = a; call = refl; said = caller-said o k .0 e };
-    running = λ e. false-not-true e;
+    running = none refl;
     full = λ e. record { option = o; target = k; argument = a; call = refl; said = full-said k .0 e };
-    late = λ e. false-not-true e;
+    late = none refl;
     skips = λ z. absurd (z refl);
   }
-  tells (call.Flag o f) = record { tick = λ e. false-not-true e; caller = λ e. false-not-true e; running = λ e. false-not-true e; full = λ e. false-not-true e; late = λ e. false-not-true e; skips = λ z. absurd (z refl) }
-  tells (call.Wait m mask) = record { tick = λ e. false-not-true e; caller = λ e. false-not-true e; running = λ e. false-not-true e; full = λ e. false-not-true e; late = λ e. false-not-true e; skips = λ z. absurd (z refl) }
+  tells (call.Flag o f) = nothing-tells _ (refl, refl, refl, refl, refl) refl refl refl refl
+  tells (call.Wait m mask) = nothing-tells _ (refl, refl, refl, refl, refl) refl refl refl refl
   tells (call.Alarm u n f) = record {
-    tick = λ e. false-not-true e;
-    caller = λ e. false-not-true e;
+    tick = none refl;
+    inside = none refl;
+    outside = none refl;
+    holding = none refl;
+    caller = none refl;
     running = λ e. record { unit = u; count = n; flag = f; call = refl; said = running-said f .0 e };
-    full = λ e. false-not-true e;
-    late = λ e. false-not-true e;
+    full = none refl;
+    late = none refl;
     skips = λ z. absurd (z refl);
   }
-  tells call.Tick = record { tick = λ e. refl; caller = λ e. false-not-true e; running = λ e. false-not-true e; full = λ e. false-not-true e; late = λ e. (refl, late-said .0 e); skips = λ z. absurd (z refl) }
-  tells (call.Granule g) = record { tick = λ e. false-not-true e; caller = λ e. false-not-true e; running = λ e. false-not-true e; full = λ e. false-not-true e; late = λ e. false-not-true e; skips = λ z. absurd (z refl) }
-  tells (call.Task p m) = record { tick = λ e. false-not-true e; caller = λ e. false-not-true e; running = λ e. false-not-true e; full = λ e. false-not-true e; late = λ e. false-not-true e; skips = λ z. absurd (z refl) }
-  tells call.End = record { tick = λ e. false-not-true e; caller = λ e. false-not-true e; running = λ e. false-not-true e; full = λ e. false-not-true e; late = λ e. false-not-true e; skips = λ z. absurd (z refl) }
+  tells call.Tick = record {
+    tick = λ e. refl;
+    inside = none refl;
+    outside = none refl;
+    holding = none refl;
+    caller = none refl;
+    running = none refl;
+    full = none refl;
+    late = λ e. (refl, late-said .0 e);
+    skips = λ z. absurd (z refl);
+  }
+  tells (call.Granule g) = nothing-tells _ (refl, refl, refl, refl, refl) refl refl refl refl
+  tells (call.Task p m) = nothing-tells _ (refl, refl, refl, refl, refl) refl refl refl refl
+  tells call.End = nothing-tells _ (refl, refl, refl, refl, refl) refl refl refl refl
+  tells (call.Enter m) =
+      held-tells _ (refl, refl, refl, refl, refl) (λ e. record { subprogram = m; call = refl; said = holds-said m .0 e }) (none refl) (none refl) (λ z. absurd (z refl))
+  tells (call.Exit m) =
+      held-tells _ (refl, refl, refl, refl, refl) (none refl) (λ e. record { subprogram = m; call = refl; said = says-not _ (holds-said m) .0 e }) (none refl) (λ z. absurd (z refl))
 
   module _ (c : Call) where
     says-tick : Says (isTick t c) (c ≡ call.Tick)
@@ -228,6 +304,18 @@ module _ (t : Table) where
     says-idle : Says (nobodyActive t c) ((c ≢ call.Tick) × (t .ready ≡ 0))
     unfolding nobodyActive
     says-idle = says-and (not (isTick t c)) (eqb (t .ready) 0) (says-not (isTick t c) says-tick) (says-eq (t .ready) 0)
+
+    says-inside : Says (holdsIt t c) (HoldsIt t c)
+    unfolding holdsIt
+    says-inside = (tells c .inside, λ x. rw (x .call) (holds-said (x .subprogram) .1 (x .said)))
+
+    says-outside : Says (holdsNot t c) (HoldsNot t c)
+    unfolding holdsNot
+    says-outside = (tells c .outside, λ x. rw (x .call) (says-not _ (holds-said (x .subprogram)) .1 (x .said)))
+
+    says-holding : Says (holdsAny t c) (HoldsAny t c)
+    unfolding holdsAny
+    says-holding = (tells c .holding, λ x. ⊎-elim (λ e. rw e (any-said .1 (x .1))) (λ r. rw (r .call) (any-said .1 (x .1))) (x .0))
 
     says-caller : Says (namesCaller t c) (NamesCaller t c)
     unfolding namesCaller
@@ -279,7 +367,23 @@ matches t s =
           (
             refl,
             says-not _ (says-eq (length s) (lengthOf (kindOfRecord s))),
-            (refl, says-idle t c, (refl, says-bad t c, (refl, says-caller t c, (refl, says-running t c, (refl, says-full t c, (refl, says-late t c, tt)))))),
+            (
+              refl,
+              says-idle t c,
+              (
+                refl,
+                says-bad t c,
+                (
+                  refl,
+                  says-inside t c,
+                  (
+                    refl,
+                    says-outside t c,
+                    (refl, says-holding t c, (refl, says-caller t c, (refl, says-running t c, (refl, says-full t c, (refl, says-late t c, tt))))),
+                  ),
+                ),
+              ),
+            ),
           ),
         ),
       ),

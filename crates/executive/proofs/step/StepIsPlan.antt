@@ -18,7 +18,7 @@ use Rattle.records.specs.Calls.{InRange, GotInRange}
 use Rattle.records.specs.Numbers.{Bytes}
 use Rattle.records.specs.Reading.{readOf}
 use Rattle.records.proofs.Assured.{promises}
-use Rattle.executive.specs.Numbers.{lastUnit}
+use Rattle.executive.specs.Numbers.{lastUnit, lastSub}
 use Rattle.executive.specs.declared.Table.{Table}
 use Rattle.executive.specs.declared.Outcome.{Outcome}
 use Rattle.executive.specs.Lists.{_and_}
@@ -28,14 +28,15 @@ use Rattle.executive.specs.States.{isDormant}
 use Rattle.executive.specs.Plans.{stateAt, nothing, pausePlan, alarmPlan}
 use Rattle.executive.specs.WellFormed.{WellFormed}
 use Rattle.executive.specs.Sheet.{planOf, noSuchTask, marks}
-use Rattle.executive.specs.Refusals.{nobodyActive, badBody, namesCaller, poolFull, endsTime, callRefusals, refusals, calledBy, callIn}
+use Rattle.executive.specs.Refusals.{nobodyActive, badBody, holdsAny, namesCaller, poolFull, endsTime, callRefusals, refusals, calledBy, callIn}
 use Rattle.executive.specs.Step.{noTable, answerOf, hasV, accepted, refused, outcomeOf, performed, stepOf}
 use Rattle.executive.specs.Promises.Demands.{planFor, planOfCall, planOfRecord}
 use Rattle.executive.proofs.Lists.Tests.{false-not-true}
 use Rattle.executive.proofs.refusals.NothingRefuses.{Clear, clear-of, first-none, or-none}
 use Rattle.executive.proofs.Plans.WorkingForm.{WellFormedByPart, formed, well-formed}
 use Rattle.executive.proofs.Plans.GoodIsKept.{outReady, Good, GoodOutcome, JoinsKeep, plan-in-flight, moves-kept, apply-kept}
-use Rattle.executive.proofs.Plans.Shared.{nothing-good}
+use Rattle.executive.proofs.Plans.Shared.{nothing-good, runs}
+use Rattle.executive.proofs.Plans.SubsKept.{holds-none}
 use Rattle.executive.proofs.Plans.Pause.{pause-good}
 use Rattle.executive.proofs.Plans.Terminate.{terminate-good}
 use Rattle.executive.proofs.Plans.Restart.{restart-good, restart-room}
@@ -46,6 +47,8 @@ use Rattle.executive.proofs.Plans.Flag.{set-good, flag-good}
 use Rattle.executive.proofs.Plans.Wait.{wait-good}
 use Rattle.executive.proofs.Plans.Alarm.{alarm-good}
 use Rattle.executive.proofs.Plans.Tick.{tick-good}
+use Rattle.executive.proofs.Plans.Enter.{enter-good}
+use Rattle.executive.proofs.Plans.Exit.{exit-good}
 
 and-other : (a b : Bool) → a and b ≡ false → a ≡ true → b ≡ false
 and-other true b e f = e
@@ -93,8 +96,10 @@ module _ (t : Table) (w : WellFormedByPart t) where
   alarm-room u n f = either (eqb n 0) _ _ (sized _ (set-good t w f)) (alone _ refl)
 
   call-sound : (c : Call) → Clear t c → Sound c
-  unfolding planOf nobodyActive badBody namesCaller poolFull endsTime
-  call-sound call.Terminate a = sound _ (terminate-good t w (some-ready t (a .active)))
+  unfolding planOf nobodyActive badBody holdsAny namesCaller poolFull endsTime
+  call-sound call.Terminate a =
+      let h = some-ready t (a .active) in
+      sound _ (terminate-good t w h (holds-none _ (t .rest .subs) (runs t w h .names .0) (a .holding)))
   call-sound (call.Restart p n) a =
       let h = some-ready t (a .active) in
       record { room = restart-room t w h p n; good = λ r. restart-good t w h p n (r .1 .0) }
@@ -121,6 +126,8 @@ module _ (t : Table) (w : WellFormedByPart t) where
   call-sound (call.Granule g) a = sound _ (nothing-good t w)
   call-sound (call.Task p m) a = sound _ (nothing-good t w)
   call-sound call.End a = sound _ (nothing-good t w)
+  call-sound (call.Enter m) a = sound _ (enter-good t w (some-ready t (a .active)) m (ltb-false lastSub (m .0) (a .body)))
+  call-sound (call.Exit m) a = sound _ (exit-good t w m (ltb-false lastSub (m .0) (a .body)))
 
 pub call-good : (t : Table) (c : Call) → WellFormedByPart t → InRange c → Clear t c → Good (planOf t c) t
 call-good t c w r a = call-sound t w c a .good r

@@ -8,17 +8,19 @@ use Rattle.records.specs.declared.TaskNo.{TaskNo}
 use Rattle.executive.specs.declared.Millis.{Millis}
 use Rattle.executive.specs.declared.Mode.the-variants.{All}
 use Rattle.executive.specs.declared.State.{State}
-use Rattle.executive.specs.declared.State.the-variants.{Dormant, Ready, Paused, Flags, AwaitStart, AwaitEnd}
+use Rattle.executive.specs.declared.State.the-variants.{Dormant, Ready, Paused, Due, Flags, AwaitStart, AwaitEnd, AwaitSub}
 use Rattle.executive.specs.declared.Task.{Task}
 use Rattle.executive.specs.declared.Request.{Request}
+use Rattle.executive.specs.declared.Sub.{Sub}
 use Rattle.executive.specs.declared.Table.{Table}
-use Rattle.executive.specs.Numbers.{mostTasks, mostQueued, flagCount, longest}
+use Rattle.executive.specs.Numbers.{mostTasks, mostQueued, flagCount, subCount, longest}
 use Rattle.executive.specs.Places.{nobody, never, noTask, noRequest, putAt}
 use Rattle.executive.specs.Lists.{pad}
+use Rattle.executive.specs.Subprograms.{noSub, heldBy}
 use Rattle.executive.specs.Check.{numbersRight, orderRight, levelsRight, timesRight, startedRight, masksRight, busyRight, waitersRight, dormantRight}
-use Rattle.executive.specs.Check.{poolRight, isWellFormed}
+use Rattle.executive.specs.Check.{poolRight, subsRight, isWellFormed}
 
--- ---- the sound table: seven tasks, the clock at 1,000 ms, flag 0 set
+-- ---- the sound table: eleven tasks, the clock at 1,000 ms, flag 0 set
 abbrev pub no : ℕ → TaskNo
 no k = record { 0 = k }
 
@@ -29,7 +31,7 @@ abbrev pub entry : State → ℕ → ℕ → ℕ → TaskNo → Task
 entry s p a start w = record { own = 4; state = s; priority = p; argument = a; start = record { 0 = start }; «end_waiter» = w }
 
 -- 1 and 2 are ready, 2 before 1; 3 waits for the end of 1's run; 4 is paused; 5 waits for flags 0 and 1; 6 waits
--- for a queued request; 7 is dormant
+-- for a queued request; 7 is dormant; 8 is due; 9, 10 and 11 wait for subprogram 2, which 4 holds
 abbrev pub entries : List Task
 entries =
     pad mostTasks noTask (
@@ -40,6 +42,10 @@ entries =
     ∷ entry (Flags All 3) 3 0 0 nobody
     ∷ entry AwaitStart 3 0 0 nobody
     ∷ entry Dormant 0 0 0 nobody
+    ∷ entry (Due (record { 0 = now + 1 })) 3 0 0 nobody
+    ∷ entry (AwaitSub (record { 0 = 2 })) 3 0 0 nobody
+    ∷ entry (AwaitSub (record { 0 = 2 })) 6 0 0 nobody
+    ∷ entry (AwaitSub (record { 0 = 2 })) 3 0 0 nobody
     ∷ [])
 
 abbrev pub lined : List TaskNo → List TaskNo
@@ -53,13 +59,21 @@ asking k = pad mostQueued noRequest (record { target = no k; priority = 9; argum
 abbrev pub ringing : ℕ → List Millis
 ringing at = set (pad flagCount never []) 4 (record { 0 = at })
 
-abbrev pub tableOf : ℕ → List Task → List TaskNo → ℕ → List Request → List Millis → Table
-tableOf g ts q levels p rings = record {
+-- all are free but subprogram 2
+abbrev pub holding : Sub → List Sub
+holding s = set (pad subCount noSub []) 2 s
+
+-- 10 of priority 6 is first, then 9 and 11, of priority 3, as they came
+abbrev pub shared : List Sub
+shared = holding (heldBy (no 4) (no 10 ∷ no 9 ∷ no 11 ∷ []))
+
+abbrev pub tableOf : ℕ → List Task → List TaskNo → ℕ → List Request → List Millis → List Sub → Table
+tableOf g ts q levels p rings subs = record {
   tasks = ts;
   queue = q;
   ready = 2;
   levels = levels;
-  rest = record { count = 7; granule = g; clock = record { 0 = now }; flags = 1; alarms = rings; pool = p; queued = 1 };
+  rest = record { count = 11; granule = g; clock = record { 0 = now }; flags = 1; alarms = rings; pool = p; queued = 1; subs = subs };
 }
 
 -- the ready levels are 5 and 7
@@ -67,24 +81,30 @@ abbrev pub lit : ℕ
 lit = 2 ^ 5 + 2 ^ 7
 
 abbrev pub withEntries : List Task → Table
-withEntries ts = tableOf 10 ts (lined (no 2 ∷ no 1 ∷ [])) lit (asking 1) (ringing (now + longest))
+withEntries ts = tableOf 10 ts (lined (no 2 ∷ no 1 ∷ [])) lit (asking 1) (ringing (now + longest)) shared
 
 abbrev pub withQueue : List Task → List TaskNo → ℕ → Table
-withQueue ts q levels = tableOf 10 ts (lined q) levels (asking 1) (ringing (now + longest))
+withQueue ts q levels = tableOf 10 ts (lined q) levels (asking 1) (ringing (now + longest)) shared
 
 abbrev pub withPool : List Request → Table
-withPool p = tableOf 10 entries (lined (no 2 ∷ no 1 ∷ [])) lit p (ringing (now + longest))
+withPool p = tableOf 10 entries (lined (no 2 ∷ no 1 ∷ [])) lit p (ringing (now + longest)) shared
+
+abbrev pub withSubs : List Task → List Sub → Table
+withSubs ts subs = tableOf 10 ts (lined (no 2 ∷ no 1 ∷ [])) lit (asking 1) (ringing (now + longest)) subs
 
 unfoldable pub sound : Table
 sound = withEntries entries
 
 -- ---- the broken ones: each is the sound one but for one field
--- a granule of 0 ms; an entry past the task count
+-- a granule of 0 ms; an entry past the task count; a task that waits for what is no subprogram
 unfoldable pub noGranule : Table
-noGranule = tableOf 0 entries (lined (no 2 ∷ no 1 ∷ [])) lit (asking 1) (ringing (now + longest))
+noGranule = tableOf 0 entries (lined (no 2 ∷ no 1 ∷ [])) lit (asking 1) (ringing (now + longest)) shared
 
 unfoldable pub entryBeyond : Table
-entryBeyond = withEntries (putAt entries 8 (entry Dormant 0 0 0 nobody))
+entryBeyond = withEntries (putAt entries 12 (entry Dormant 0 0 0 nobody))
+
+unfoldable pub waitsForEight : Table
+waitsForEight = withEntries (putAt entries 8 (entry (AwaitSub (record { 0 = 8 })) 3 0 0 nobody))
 
 -- a lower priority in front of a higher one; a task twice in the queue, another ready one of the same priority not
 -- there
@@ -99,7 +119,7 @@ unfoldable pub pauseOver : Table
 pauseOver = withEntries (putAt entries 4 (entry (Paused (record { 0 = now })) 3 0 0 nobody))
 
 unfoldable pub alarmFar : Table
-alarmFar = tableOf 10 entries (lined (no 2 ∷ no 1 ∷ [])) lit (asking 1) (ringing (now + longest + 1))
+alarmFar = tableOf 10 entries (lined (no 2 ∷ no 1 ∷ [])) lit (asking 1) (ringing (now + longest + 1)) shared
 
 -- a last scheduled start after the clock
 unfoldable pub lateStart : Table
@@ -134,6 +154,27 @@ sleepTalk = withEntries (putAt entries 7 (entry Dormant 0 1 0 nobody))
 unfoldable pub strayPlace : Table
 strayPlace = withPool (set (asking 1) 1 (record { target = nobody; priority = 0; argument = 1; «start_waiter» = nobody; «end_waiter» = nobody }))
 
+-- a dormant holder; one who waits for a free one
+unfoldable pub sleepingHolder : Table
+sleepingHolder = withSubs entries (holding (heldBy (no 7) (no 10 ∷ no 9 ∷ no 11 ∷ [])))
+
+unfoldable pub nobodyInside : Table
+nobodyInside = withSubs entries (holding (heldBy nobody (no 10 ∷ no 9 ∷ no 11 ∷ [])))
+
+-- a task twice in the line; a lower priority in front of a higher one; a free place of the line that is not zero; one
+-- who waits and is not in the line
+unfoldable pub twiceInLine : Table
+twiceInLine = withSubs entries (holding (heldBy (no 4) (no 10 ∷ no 9 ∷ no 9 ∷ no 11 ∷ [])))
+
+unfoldable pub lowerFirst : Table
+lowerFirst = withSubs entries (holding (heldBy (no 4) (no 9 ∷ no 10 ∷ no 11 ∷ [])))
+
+unfoldable pub strayInLine : Table
+strayInLine = withSubs entries (holding (record { holder = no 4; line = lined (no 10 ∷ no 9 ∷ no 11 ∷ no 2 ∷ []); waiting = 3 }))
+
+unfoldable pub leftOut : Table
+leftOut = withSubs entries (holding (heldBy (no 4) (no 10 ∷ no 9 ∷ [])))
+
 -- the word with a bit too many, and with a bit missing
 unfoldable pub wrongLight : Table
 wrongLight = withQueue entries (no 2 ∷ no 1 ∷ []) (lit + 2 ^ 3)
@@ -142,7 +183,7 @@ unfoldable pub lightOut : Table
 lightOut = withQueue entries (no 2 ∷ no 1 ∷ []) (2 ^ 5)
 
 -- ---- what the check finds of each
--- the ten tests, in the order of the rules; refused, and by the test at place i alone
+-- the eleven tests, in the order of the rules; refused, and by the test at place i alone
 abbrev pub tests : Table → List Bool
 tests t =
     numbersRight (t .tasks) (t .rest)
@@ -154,15 +195,16 @@ tests t =
     ∷ waitersRight (t .tasks) (t .rest)
     ∷ dormantRight (t .tasks)
     ∷ poolRight (t .rest)
+    ∷ subsRight (t .tasks) (t .rest)
     ∷ levelsRight t
     ∷ []
 
 abbrev pub OnlyBy : ℕ → Table → Type 0
-OnlyBy i t = (isWellFormed t ≡ false) × (tests t ≡ set (replicate 10 true) i false)
+OnlyBy i t = (isWellFormed t ≡ false) × (tests t ≡ set (replicate 11 true) i false)
 
 pub record Broken : Type 0 where
   pub kept : isWellFormed sound ≡ true
-  pub numbers : OnlyBy 0 noGranule × OnlyBy 0 entryBeyond
+  pub numbers : OnlyBy 0 noGranule × OnlyBy 0 entryBeyond × OnlyBy 0 waitsForEight
   pub queue : OnlyBy 1 outOfOrder × OnlyBy 1 twiceReady
   pub times : OnlyBy 2 pauseOver × OnlyBy 2 alarmFar
   pub started : OnlyBy 3 lateStart
@@ -171,4 +213,5 @@ pub record Broken : Type 0 where
   pub waiters : OnlyBy 6 namedTwice × OnlyBy 6 unnamed × OnlyBy 6 ownWaiter
   pub dormant : OnlyBy 7 sleepTalk
   pub pool : OnlyBy 8 strayPlace
-  pub levels : OnlyBy 9 wrongLight × OnlyBy 9 lightOut
+  pub subprograms : OnlyBy 9 sleepingHolder × OnlyBy 9 nobodyInside × OnlyBy 9 twiceInLine × OnlyBy 9 lowerFirst × OnlyBy 9 strayInLine × OnlyBy 9 leftOut
+  pub levels : OnlyBy 10 wrongLight × OnlyBy 10 lightOut

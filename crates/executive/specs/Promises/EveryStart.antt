@@ -68,6 +68,8 @@ turnOf t call.Tick = other
 turnOf t (call.Granule g) = other
 turnOf t (call.Task p m) = other
 turnOf t call.End = other
+turnOf t (call.Enter m) = other
+turnOf t (call.Exit m) = other
 
 -- of a record's bytes: a refused one is nothing to the book
 unfoldable pub turnIn : Table → List ℕ → Turn

@@ -7,6 +7,7 @@ use mathlib.Core.List.{List, [], _∷_}
 use lib.ListN.{length, getD}
 use Rattle.records.specs.declared.TaskNo.{TaskNo}
 use Rattle.records.specs.declared.FlagNo.{FlagNo}
+use Rattle.records.specs.declared.SubNo.{SubNo}
 use Rattle.records.specs.declared.Kind.{Kind}
 use Rattle.records.specs.declared.Kind.the-variants as kind
 use Rattle.records.specs.declared.Call.{Call}
@@ -14,8 +15,9 @@ use Rattle.records.specs.declared.Call.the-variants as call
 use Rattle.records.specs.Kinds.{lengthOf}
 use Rattle.executive.specs.declared.State.the-variants.{Dormant}
 use Rattle.executive.specs.declared.Table.{Table}
-use Rattle.executive.specs.Numbers.{lastUnit, mostQueued, endOfTime}
+use Rattle.executive.specs.Numbers.{lastUnit, lastSub, mostQueued, endOfTime}
 use Rattle.executive.specs.Places.{never}
+use Rattle.executive.specs.Subprograms.{subAt}
 use Rattle.executive.specs.Plans.{caller, stateAt}
 use Rattle.executive.specs.WellFormed.{WellFormed}
 use Rattle.executive.specs.Refusals.{kindOfRecord, callIn}
@@ -29,7 +31,7 @@ abbrev pub NoCall : Kind → Type 0
 NoCall k = (k ≡ kind.Unknown) ⊎ ((k ≡ kind.Granule) ⊎ ((k ≡ kind.Task) ⊎ (k ≡ kind.End)))
 
 -- ---- 6: task not 1 to the task count; flag over 31; unit over 5 in 02 or 0B; operation over 2; mode over 1; mask 0;
--- in 01 both bits 7 and 6 (02); in 04 any of bits 6..4; in 05 both bits 6 and 5
+-- in 01 both bits 7 and 6 (02); in 04 any of bits 6..4; in 05 both bits 6 and 5; subprogram over 7 in 06 or 07 (02)
 abbrev pub NoTask : Table → TaskNo → Type 0
 NoTask t k = (k .0 ≡ 0) ⊎ (t .rest .count < k .0)
 
@@ -47,6 +49,39 @@ BadBody t call.Tick = ⊥
 BadBody t (call.Granule g) = ⊥
 BadBody t (call.Task p m) = ⊥
 BadBody t call.End = ⊥
+BadBody t (call.Enter m) = lastSub < m .0
+BadBody t (call.Exit m) = lastSub < m .0
+
+-- ---- 13 to 15 (02): the call is a 06 or a 07 of which something is said; a 00 or a 01
+pub record IsSub (kind : SubNo → Call) (P : SubNo → Type 0) (c : Call) : Type 0 where
+  pub subprogram : SubNo
+  pub call : c ≡ kind subprogram
+  pub said : P subprogram
+
+pub record IsRestart (c : Call) : Type 0 where
+  pub parameter : ℕ
+  pub count : ℕ
+  pub call : c ≡ call.Restart parameter count
+
+-- the caller holds subprogram m
+abbrev pub Holds : Table → ℕ → Type 0
+Holds t m = caller t .0 ≡ subAt (t .rest) m .holder .0
+
+-- 06 of one that the caller holds; 07 of one that it does not hold
+abbrev pub HoldsIt : Table → Call → Type 0
+HoldsIt t = IsSub (λ m. call.Enter m) (λ m. Holds t (m .0))
+
+abbrev pub HoldsNot : Table → Call → Type 0
+HoldsNot t = IsSub (λ m. call.Exit m) (λ m. Holds t (m .0) → ⊥)
+
+-- 00 or 01 while it holds one of them
+pub record HoldsOne (t : Table) : Type 0 where
+  pub number : ℕ
+  pub there : number < length (t .rest .subs)
+  pub held : Holds t number
+
+abbrev pub HoldsAny : Table → Call → Type 0
+HoldsAny t c = ((c ≡ call.Terminate) ⊎ IsRestart c) × HoldsOne t
 
 -- ---- 7 to 9: the call is a 05, or a 0B, of which something is said
 pub record IsQueue (P : ℕ → TaskNo → Type 0) (c : Call) : Type 0 where
@@ -91,6 +126,9 @@ cases t s =
     ∷ case 3 (length s ≢ lengthOf (kindOfRecord s))
     ∷ case 5 ((callIn s ≢ call.Tick) × (t .ready ≡ 0))
     ∷ case 6 (BadBody t (callIn s))
+    ∷ case 13 (HoldsIt t (callIn s))
+    ∷ case 14 (HoldsNot t (callIn s))
+    ∷ case 15 (HoldsAny t (callIn s))
     ∷ case 7 (NamesCaller t (callIn s))
     ∷ case 9 (AlarmRunning t (callIn s))
     ∷ case 8 (PoolFull t (callIn s))

@@ -2,6 +2,7 @@
 -- over, and nothing elsewhere.
 use Prim.Native.Nat.{ℕ, _+_, _*_, _/_, _%_, _≤_, _<_}
 use mathlib.Core.Path.{_≡_}
+use mathlib.Core.Bool.{false}
 use mathlib.Core.Logic.{_↔_, _≢_}
 use mathlib.Core.List.{List, [], _∷_}
 use Rattle.records.specs.declared.Call.the-variants as call
@@ -12,6 +13,7 @@ use Rattle.executive.specs.declared.Outcome.{Outcome}
 use Rattle.executive.specs.Numbers.{lastUnit}
 use Rattle.executive.specs.Places.{taskAt}
 use Rattle.executive.specs.Clock.{interval}
+use Rattle.executive.specs.Subprograms.{holdsAnyOf}
 use Rattle.executive.specs.Plans.{caller}
 use Rattle.executive.specs.WellFormed.{WellFormed}
 use Rattle.executive.specs.Refusals.{callIn}
@@ -60,7 +62,9 @@ abbrev pub catchingUp : Outcome
 catchingUp = stepOf late (restart 0x02 1)
 
 pub record Skipping : Type 0 where
-  pub next : (t : Table) (p n : ℕ) → WellFormed t → 0 < t .ready → p < 256 → n < 256 → Skip p n → DueNext t p n (stepOf t (0x01 ∷ p ∷ n ∷ []))
+  -- of a caller that holds no subprogram (02: one that does is refused, 15)
+  pub next : (t : Table) (p n : ℕ) → WellFormed t → 0 < t .ready → holdsAnyOf (caller t) (t .rest .subs) ≡ false → p < 256 → n < 256 → Skip p n
+      → DueNext t p n (stepOf t (0x01 ∷ p ∷ n ∷ []))
   pub only : (start now every a b j k : ℕ) → 0 < every → NextOnGrid start now every a j → NextOnGrid start now every b k → (a ≡ b) × (j ≡ k)
   pub elsewhere : (t : Table) (s : List ℕ) → stepOf t s .answer .skipped ≢ 0 → Skips t s
   pub accident : (scheduled 1 late ≡ 2000) × (state 1 (skipping .table) ≡ Due (record { 0 = 28803000 })) × (skipping .answer .skipped ≡ 28800)

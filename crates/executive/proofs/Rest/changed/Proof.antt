@@ -14,6 +14,15 @@ without-requires c κs = (c .before .before .before .pre .0, rw (c .before .chan
 advance-requires : tie.Need-advance-requires
 advance-requires c κs = rw (c .before .change4 .given .1) at (c .before .before .before .pre .1)
 
+with-holder-requires : tie.Need-with-holder-requires
+with-holder-requires c κs = rw (c .before .change5 .given .1) at (c .before .before .before .pre .1)
+
+with-waiter-requires : tie.Need-with-waiter-requires
+with-waiter-requires c κs = rw (c .before .change6 .given .1) at (c .before .before .before .pre .1)
+
+handed-on-requires : tie.Need-handed-on-requires
+handed-on-requires c κs = rw (c .before .change7 .given .1) at (c .before .before .before .pre .1)
+
 returns : tie.Need-returns
 returns c = simp (c .enum-told .given .1)
 
@@ -32,6 +41,15 @@ returns-5 c = simp (c .before .before .change3 .given .1, c .without .ensures)
 returns-6 : tie.Need-returns-6
 returns-6 c = simp (c .before .before .change4 .given .1, c .advance .ensures)
 
+returns-7 : tie.Need-returns-7
+returns-7 c = simp (c .before .before .change5 .given .1, c .with-holder .ensures)
+
+returns-8 : tie.Need-returns-8
+returns-8 c = simp (c .before .before .change6 .given .1, c .with-waiter .ensures)
+
+returns-9 : tie.Need-returns-9
+returns-9 c = simp (c .before .before .change7 .given .1, c .handed-on .ensures)
+
 pub changed-spec : {M : Type 1} → statement M
 changed-spec =
     tie.close
@@ -47,9 +65,18 @@ changed-spec =
     without-requires
     (λ c. search needs)
     advance-requires
+    (λ c. search needs)
+    with-holder-requires
+    (λ c. search needs)
+    with-waiter-requires
+    (λ c. search needs)
+    handed-on-requires
     returns
     returns-2
     returns-3
     returns-4
     returns-5
-    returns-6)
+    returns-6
+    returns-7
+    returns-8
+    returns-9)

@@ -1,10 +1,10 @@
 use Rattle.executive.proofs.Lists.Tests.{and-false-left, and-true-left}
-use Rattle.executive.specs.Check.{inPasses, allButQueue}
+use Rattle.executive.specs.Check.{inBounds, inPasses, allButQueue}
 use mathlib.Core.Path.{_≡_, sym, _∙_}
 use borrow.Author.Tests.{not-true, not-false}
-use mathlib.Core.Bool.{Bool}
+use mathlib.Core.Bool.{Bool, true}
 use lib.ListN.{length, length-map}
-use Rattle.executive.proofs.check.RuleByRule.{bounds-get}
+use Rattle.executive.proofs.check.RuleByRule.{Bounds, bounds-get}
 use Rattle.executive.proofs.check.Passes.{sized}
 use borrow.Author.Needs.{needs}
 use Rattle.executive.proofs.check.all_but_queue.Statement.{statement}
@@ -16,7 +16,13 @@ of-size s =
     let r = s .args .rest in
     let l1 : length (r .alarms) ≡ 32 = sym (length-map (r .alarms) _) ∙ s .good .1 .0 .1 .1 .1 .1 .1 .1 .0 .1 .0 .1 in
     let l2 : length (r .pool) ≡ 32 = sym (length-map (r .pool) _) ∙ s .good .1 .0 .1 .1 .1 .1 .1 .1 .1 .0 .1 .0 .1 in
-    sized (s .args .tasks) r (s .good .0 .1 .0 .1) l1 l2
+    let l3 : length (r .subs) ≡ 8 = sym (length-map (r .subs) _) ∙ s .good .1 .0 .1 .1 .1 .1 .1 .1 .1 .1 .1 .0 .1 .0 .1 in
+    sized (s .args .tasks) r (s .good .0 .1 .0 .1) l1 l2 l3
+
+-- the counts, where they are in bounds
+of-bounds : (s : tie.Start) → inBounds (s .args .rest .count) (s .args .rest .granule) (s .args .rest .clock) (s .args .rest .queued) ≡ true
+    → Bounds (s .args .rest .count) (s .args .rest .granule) (s .args .rest .clock) (s .args .rest .queued)
+of-bounds s = bounds-get (s .args .rest .count) (s .args .rest .granule) (s .args .rest .clock) (s .args .rest .queued)
 
 in-bounds-requires : tie.Need-in-bounds-requires
 in-bounds-requires c κs = search needs
@@ -41,8 +47,7 @@ cast-blank-past c = search needs
 blank-past-requires : tie.Need-blank-past-requires
 blank-past-requires c κs =
     let a = c .before .before in
-    let r = a .before .before .before .args .rest in
-    bounds-get (r .count) (r .granule) (r .clock) (r .queued) (sym (a .before .in-bounds .ensures) ∙ not-false _ (a .if1 .left)) .count .1
+    of-bounds (a .before .before .before) (sym (a .before .in-bounds .ensures) ∙ not-false _ (a .if1 .left)) .count .1
 
 returns-3 : tie.Need-returns-3
 unfolding inPasses
@@ -75,14 +80,13 @@ cast-pool-right c = search needs
 pool-right-requires : tie.Need-pool-right-requires
 pool-right-requires c κs =
     let a = c .before .before .before .before .before .before .before .before .before in
-    let r = a .before .before .before .args .rest in
-    let w = bounds-get (r .count) (r .granule) (r .clock) (r .queued) (sym (a .before .in-bounds .ensures) ∙ not-false _ (a .if1 .left)) in
+    let w = of-bounds (a .before .before .before) (sym (a .before .in-bounds .ensures) ∙ not-false _ (a .if1 .left)) in
     (w .queued, w .count .1)
 
 returns-5 : tie.Need-returns-5
 unfolding inPasses
 returns-5 c =
-    let e = c .before .before .before in
+    let e = c .before .before .before .before in
     let d = e .before .before .before in
     let b = d .before .before in
     let a = b .before .before in
@@ -90,7 +94,28 @@ returns-5 c =
     (and-true-left _ _ _ (sym (a .before .in-bounds .ensures) ∙ not-false _ (a .if1 .left))
     (and-true-left _ _ _ (sym (b .before .entries-right .ensures) ∙ not-false _ (b .if2 .left))
     (and-true-left _ _ _ (sym (d .before .blank-past .ensures) ∙ not-false _ (d .if3 .left))
-    (and-true-left _ _ _ (sym (e .before .all-alarms .ensures) ∙ not-false _ (e .if4 .left)) (c .pool-right .ensures)))))
+    (and-true-left _ _ _ (sym (e .before .all-alarms .ensures) ∙ not-false _ (e .if4 .left))
+    (and-false-left _ _ (sym (c .before .pool-right .ensures) ∙ not-true _ (c .if5 .taken)))))))
+
+subs-right-requires : tie.Need-subs-right-requires
+subs-right-requires c κs =
+    let a = c .before .before .before .before .before .before .before .before .before .before .before .before in
+    of-bounds (a .before .before .before) (sym (a .before .in-bounds .ensures) ∙ not-false _ (a .if1 .left)) .count .1
+
+returns-6 : tie.Need-returns-6
+unfolding inPasses
+returns-6 c =
+    let f = c .before .before in
+    let e = f .before .before .before .before in
+    let d = e .before .before .before in
+    let b = d .before .before in
+    let a = b .before .before in
+    of-size (a .before .before .before)
+    (and-true-left _ _ _ (sym (a .before .in-bounds .ensures) ∙ not-false _ (a .if1 .left))
+    (and-true-left _ _ _ (sym (b .before .entries-right .ensures) ∙ not-false _ (b .if2 .left))
+    (and-true-left _ _ _ (sym (d .before .blank-past .ensures) ∙ not-false _ (d .if3 .left))
+    (and-true-left _ _ _ (sym (e .before .all-alarms .ensures) ∙ not-false _ (e .if4 .left))
+    (and-true-left _ _ _ (sym (f .before .pool-right .ensures) ∙ not-false _ (f .if5 .left)) (c .subs-right .ensures))))))
 
 pub all-but-queue-spec : {M : Type 1} → statement M
 all-but-queue-spec =
@@ -107,4 +132,6 @@ all-but-queue-spec =
     returns-4
     cast-pool-right
     pool-right-requires
-    returns-5)
+    returns-5
+    subs-right-requires
+    returns-6)

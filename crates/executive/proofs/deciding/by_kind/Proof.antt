@@ -5,10 +5,10 @@ use Rattle.executive.proofs.deciding.by_kind.Statement.{statement}
 use Rattle.executive.proofs.deciding.by_kind.Tie as tie
 
 terminate-requires : tie.Need-terminate-requires
-terminate-requires c κs = c .before .before .before .before .pre .queued
+terminate-requires c κs = c .before .before .before .before .before .before .pre .queued
 
 restart-requires : tie.Need-restart-requires
-restart-requires c κs = (rw (c .task-at .ensures) (c .before .before .before .before .before .pre .started), c .before .before .before .before .before .pre .clock)
+restart-requires c κs = (rw (c .before .before .task-at .ensures) (c .before .before .before .before .before .before .before .pre .started), c .before .before .before .before .before .before .before .pre .clock)
 
 pause-requires : tie.Need-pause-requires
 pause-requires c κs = c .before .before .before .before .pre .clock
@@ -16,16 +16,19 @@ pause-requires c κs = c .before .before .before .before .pre .clock
 alarm-requires : tie.Need-alarm-requires
 alarm-requires c κs = c .before .before .before .before .before .before .pre .clock
 
+enter-requires : tie.Need-enter-requires
+enter-requires c κs = rw (c .sub-at .ensures) (c .before .before .before .before .before .before .pre .waiting _)
+
 tick-requires : tie.Need-tick-requires
 tick-requires c κs = (c .before .before .before .before .pre .clock, c .before .before .before .before .pre .unmet)
 
 returns : tie.Need-returns
 unfolding decided
-returns c = rw (c .terminate .ensures, c .before .before .enum-told .given .1) refl
+returns c = rw (c .terminate .ensures, c .before .holds-any .ensures, c .before .before .before .before .enum-told .given .1) refl
 
 returns-2 : tie.Need-returns-2
 unfolding decided
-returns-2 c = rw (c .restart .ensures, c .before .task-at .ensures, c .before .before .before .call .given .1) refl
+returns-2 c = rw (c .restart .ensures, c .before .holds-any2 .ensures, c .before .before .before .task-at .ensures, c .before .before .before .before .before .call .given .1) refl
 
 returns-3 : tie.Need-returns-3
 unfolding decided
@@ -71,13 +74,23 @@ returns-13 : tie.Need-returns-13
 unfolding decided
 returns-13 c = rw (c .no-call3 .ensures, c .before .enum-told5 .given .1) refl
 
+returns-14 : tie.Need-returns-14
+unfolding decided
+returns-14 c = rw (c .enter .ensures, c .before .sub-at .ensures, c .before .before .before .before .call9 .given .1) refl
+
+returns-15 : tie.Need-returns-15
+unfolding decided
+returns-15 c = rw (c .exit .ensures, c .before .sub-at2 .ensures, c .before .before .before .before .call10 .given .1) refl
+
 pub by-kind-spec : {M : Type 1} → statement M
 by-kind-spec =
     tie.close
     (tie.spec
     (λ c. search needs)
+    (λ c κs. search needs)
     terminate-requires
     (λ c. search needs)
+    (λ c κs. search needs)
     (λ c κs. search needs)
     restart-requires
     (λ c. search needs)
@@ -106,6 +119,12 @@ by-kind-spec =
     (λ c κs. search needs)
     (λ c. search needs)
     (λ c κs. search needs)
+    (λ c. search needs)
+    (λ c κs. search needs)
+    enter-requires
+    (λ c. search needs)
+    (λ c κs. search needs)
+    (λ c κs. search needs)
     returns
     returns-2
     returns-3
@@ -118,4 +137,6 @@ by-kind-spec =
     returns-10
     returns-11
     returns-12
-    returns-13)
+    returns-13
+    returns-14
+    returns-15)

@@ -1,8 +1,19 @@
 use Rattle.executive.proofs.Lists.Tests.{and-false-left, and-true-left, both-false}
-use mathlib.Core.Path.{sym, _∙_}
+use mathlib.Core.Path.{_≡_, sym, _∙_}
+use mathlib.Core.Bool.{Bool}
+use lib.ListN.{take}
+use Rattle.executive.specs.Lists.{upTo}
+use Rattle.executive.specs.States.{ready, isAs, isReady}
+use Rattle.executive.specs.Check.{exactAt}
+use Rattle.executive.proofs.check.Passes.{ready-exact}
 use borrow.Author.Tests.{not-true, not-false, le-leb, lt-leb}
 use Rattle.executive.proofs.queue_check.line_right.Statement.{statement}
 use Rattle.executive.proofs.queue_check.line_right.Tie as tie
+
+-- the line of those whose state is of the ready kind, and waits for no number, is that of the ready
+exact-of : (s : tie.Start) {b : Bool} → upTo (exactAt (isAs ready 0) (s .args .tasks) (take (s .args .ready) (s .args .queue))) (s .args .count) ≡ b
+    → upTo (exactAt isReady (s .args .tasks) (take (s .args .ready) (s .args .queue))) (s .args .count) ≡ b
+exact-of s e = sym (ready-exact (s .args .tasks) (take (s .args .ready) (s .args .queue)) (s .args .count)) ∙ e
 
 returns : tie.Need-returns
 returns c = and-false-left _ _ (lt-leb _ _ (c .if1 .taken))
@@ -33,7 +44,7 @@ returns-4 c =
     and-true-left _ _ _ (le-leb _ _ (b .before .if1 .left))
     (and-true-left _ _ _ (le-leb _ _ (b .if2 .left))
     (and-true-left _ _ _ (sym (d .before .descends .ensures) ∙ not-false _ (d .if3 .left))
-    (and-true-left _ _ _ (sym (c .before .before .all-exact .ensures) ∙ c .before .if4 .taken) (c .blank-from .ensures))))
+    (and-true-left _ _ _ (exact-of (b .before .before) (sym (c .before .before .all-exact .ensures) ∙ c .before .if4 .taken)) (c .blank-from .ensures))))
 
 returns-5 : tie.Need-returns-5
 returns-5 c =
@@ -43,7 +54,7 @@ returns-5 c =
     (and-true-left _ _ _ (le-leb _ _ (b .before .if1 .left))
     (and-true-left _ _ _ (le-leb _ _ (b .if2 .left))
     (and-true-left _ _ _ (sym (d .before .descends .ensures) ∙ not-false _ (d .if3 .left))
-    (and-false-left _ _ (sym (c .before .all-exact .ensures) ∙ c .if4 .left)))))
+    (and-false-left _ _ (exact-of (b .before .before) (sym (c .before .all-exact .ensures) ∙ c .if4 .left))))))
 
 pub line-right-spec : {M : Type 1} → statement M
 line-right-spec =

@@ -1,4 +1,5 @@
 use borrow.Author.Tests.{le-leb, lt-leb}
+use borrow.Author.Needs.{needs}
 use Rattle.executive.proofs.rules.entry_in_range.Statement.{statement}
 use Rattle.executive.proofs.rules.entry_in_range.Tie as tie
 
@@ -9,7 +10,12 @@ returns-2 : tie.Need-returns-2
 returns-2 c = rw (le-leb _ _ (c .before .before .if1 .left), lt-leb _ _ (c .if2 .taken))
 
 returns-3 : tie.Need-returns-3
-returns-3 c = rw (le-leb _ _ (c .before .before .before .if1 .left), le-leb _ _ (c .before .if2 .left))
+returns-3 c = rw (le-leb _ _ (c .before .before .before .before .if1 .left), le-leb _ _ (c .before .before .if2 .left), lt-leb _ _ (c .if3 .taken))
+
+returns-4 : tie.Need-returns-4
+returns-4 c =
+    let b = c .before in
+    rw (le-leb _ _ (b .before .before .before .before .if1 .left), le-leb _ _ (b .before .before .if2 .left), le-leb _ _ (b .if3 .left), c .awaits-in-range .ensures)
 
 pub entry-in-range-spec : {M : Type 1} → statement M
-entry-in-range-spec = tie.close (tie.spec returns returns-2 returns-3)
+entry-in-range-spec = tie.close (tie.spec returns returns-2 returns-3 (λ c κs. search needs) returns-4)

@@ -1,0 +1,2 @@
+-- The laws of the controlled subprograms.
+pub mod InLine
