@@ -55,3 +55,9 @@ ahead-items ts k (x ∷ xs) = decide (eqb k (x .0)) (λ e. rw e refl) (λ e. rw 
 pub cause-at : (t : Table) (k : ℕ) {e : Task} {s : State} {c : Cause} → e ≡ taskAt (t .tasks) k → e .state ≡ s → c ≡ causeIn t k s → c ≡ causeOf t k
 unfolding causeOf
 cause-at t k e f h = h ∙ ap (causeIn t k) (sym f ∙ ap (λ (x : Task). x .state) e)
+
+-- ---- an element that there is, whatever stands past the last
+pub getD-within : {A : Type 0} (xs : List A) (i : ℕ) (d e : A) → i < length xs → getD xs i d ≡ getD xs i e
+getD-within [] i d e h = absurd (omega arith)
+getD-within (x ∷ xs) zero d e h = refl
+getD-within (x ∷ xs) (suc i) d e h = getD-within xs i d e (omega arith)

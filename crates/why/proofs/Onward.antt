@@ -52,6 +52,7 @@ module _ {A : Type 0} (part : Reasons → A) (t : Table) (a : A) where
   keep-link : (go : TaskNo → Reasons) (l : On) → ((j : TaskNo) → part (go j) ≡ a) → part (byLink go t l) ≡ a
   keep-link go (on.Request i) f = f _
   keep-link go (on.Run j) f = f j
+  keep-link go (on.Held m) f = f _
 
   keep-cause : (go : On → Reasons) (c : Cause) (p : Reasons) → ((l : On) → part (go l) ≡ a) → part p ≡ a → part (byCause go c p) ≡ a
   keep-cause go cause.Dormant p f e = e
@@ -63,6 +64,7 @@ module _ {A : Type 0} (part : Reasons → A) (t : Table) (a : A) where
   keep-cause go (cause.Start i j) p f e = f _
   keep-cause go (cause.EndOfRequest i j) p f e = f _
   keep-cause go (cause.EndOfRun j) p f e = f _
+  keep-cause go (cause.Subprogram m j) p f e = f _
 
   either : (b : Bool) (x y : Reasons) → part x ≡ a → part y ≡ a → part (cond b x y) ≡ a
   either true x y e f = e

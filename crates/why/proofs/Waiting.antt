@@ -5,23 +5,29 @@ use mathlib.Core.Logic.{_⊎_, inl, inr}
 use mathlib.Core.Bool.{true, false}
 use mathlib.Core.List.{List, [], _∷_}
 use native.Mathlib.Omega.{arith}
-use borrow.Author.Tests.{ltb-true, ltb-false, leb-true, leb-false, lt-ltb}
+use borrow.Author.Tests.{ltb-true, ltb-false, leb-true, leb-false, lt-ltb, eq-eqb}
 use lib.Dec.{ltb, leb}
-use lib.ListN.{length, getD}
+use lib.ListN.{length, getD, take}
 use Rattle.records.specs.declared.TaskNo.{TaskNo}
+use Rattle.records.specs.declared.SubNo.{SubNo}
+use Rattle.executive.specs.declared.State.the-variants as state
 use Rattle.executive.specs.declared.Task.{Task}
 use Rattle.executive.specs.declared.Request.{Request}
+use Rattle.executive.specs.declared.Sub.{Sub}
 use Rattle.executive.specs.declared.Table.{Table}
 use Rattle.executive.specs.Lists.{one, sumOf}
 use Rattle.executive.specs.Places.{noTask, noRequest, taskAt}
 use Rattle.executive.specs.Pool.{requests}
-use Rattle.executive.specs.States.{dormant, is}
-use Rattle.executive.specs.WellFormed.{WellFormed}
+use Rattle.executive.specs.States.{dormant, awaitedOf, is, waitsFor}
+use Rattle.executive.specs.Queue.{count}
+use Rattle.executive.specs.Table.{items}
+use Rattle.executive.specs.Subprograms.{subAt, lineOf}
+use Rattle.executive.specs.WellFormed.{WellFormed, Line}
 use Rattle.why.specs.declared.Cause.{Cause}
 use Rattle.why.specs.declared.Cause.the-variants as cause
 use Rattle.why.specs.declared.Reasons.{Reasons}
 use Rattle.why.specs.declared.On.{On}
-use Rattle.why.specs.Causes.{causeOf, NamedBy, Holds, Names, WaitsOn}
+use Rattle.why.specs.Causes.{stateAt, holderAt, causeOf, NamedBy, Holds, Names, WaitsOn}
 use Rattle.why.specs.Paths.{byLink, byCause}
 use Rattle.why.proofs.Searching.{decide}
 use Rattle.why.proofs.Causing.{target-is}
@@ -38,6 +44,7 @@ named (cause.Flags m x) = 0
 named (cause.Start p j) = j .0
 named (cause.EndOfRequest p j) = j .0
 named (cause.EndOfRun j) = j .0
+named (cause.Subprogram m j) = j .0
 
 abbrev pub onto : Table → ℕ → ℕ
 onto t k = named (causeOf t k)
@@ -57,6 +64,7 @@ names-named (cause.Flags m x) j n = absurd n
 names-named (cause.Start p i) j n = n
 names-named (cause.EndOfRequest p i) j n = n
 names-named (cause.EndOfRun i) j n = n
+names-named (cause.Subprogram m i) j n = n
 
 named-names : (c : Cause) → 0 < named c → Names c (named c)
 named-names cause.Dormant h = absurd (omega arith)
@@ -68,6 +76,7 @@ named-names (cause.Flags m x) h = absurd (omega arith)
 named-names (cause.Start p i) h = refl
 named-names (cause.EndOfRequest p i) h = refl
 named-names (cause.EndOfRun i) h = refl
+named-names (cause.Subprogram m i) h = refl
 
 -- no element adds to a sum that is 0
 none-adds : {A : Type 0} (f : A → ℕ) (d : A) (l : List A) (i : ℕ) → sumOf f l ≡ 0 → i < length l → f (getD l i d) ≡ 0
@@ -75,6 +84,16 @@ unfolding sumOf
 none-adds f d [] i e h = absurd (omega arith)
 none-adds f d (x ∷ xs) zero e h = omega arith
 none-adds f d (x ∷ xs) (suc i) e h = none-adds f d xs i (omega arith) (omega arith)
+
+-- whoever waits for a subprogram stands in its line, so that it is not free
+has-holder : (s : Sub) (ts : List Task) (k : ℕ) (m : SubNo) → (s .holder .0 ≡ 0 → s .waiting ≡ 0) → Line (waitsFor (m .0)) ts (lineOf s)
+    → taskAt ts k .state ≡ state.AwaitSub m → 0 < s .holder .0
+unfolding count items
+has-holder s ts k m free l e =
+    nought (s .holder .0) (λ z.
+    let a : one (waitsFor (m .0) (taskAt ts k .state)) ≡ 1 = ap (λ x. one (waitsFor (m .0) x)) e ∙ ap one (eq-eqb (m .0) (m .0) refl) in
+    let b : count k (items ts (lineOf s)) ≡ 0 = ap (λ n. count k (items ts (take n (s .line)))) (free z) in
+    absurd (omega (arith, a, b, l .exact k)))
 
 -- ---- in a well-formed table
 module _ (t : Table) (w : WellFormed t) where
@@ -119,6 +138,16 @@ module _ (t : Table) (w : WellFormed t) where
           (λ h. absurd (omega (arith, sym e ∙ ap (λ (x : Task). x .«end_waiter» .0) (w .numbers .beyond j (leb-false j (t .rest .count) h))))),
     )
 
+    -- the holder of a subprogram that k waits for
+    holder-within : (m : SubNo) (j : TaskNo) → stateAt t k ≡ state.AwaitSub m → holderAt (m .0) (t .rest .subs) ≡ j → Within (j .0)
+    holder-within m j e f =
+        let a : awaitedOf (stateAt t k) ≤ 7 = w .numbers .inside k (rw e refl) in
+        let b : m .0 ≤ 7 = rw e at a in
+        let l : Line (waitsFor (m .0)) (t .tasks) (lineOf (subAt (t .rest) (m .0))) = w .subprograms .lines (m .0) (omega arith) in
+        let h : 0 < subAt (t .rest) (m .0) .holder .0 = has-holder (subAt (t .rest) (m .0)) (t .tasks) k m (w .subprograms .free (m .0)) l e in
+        let g : subAt (t .rest) (m .0) .holder .0 ≡ j .0 = ap (λ (x : TaskNo). x .0) f in
+        (omega arith, omega (arith, w .numbers .holders (m .0)))
+
     -- the cause c, which holds, names nobody and ends the path, or names a task of the table, and the path goes on there
     pub leads : (c : Cause) → Holds t k c
         → ((named c ≡ 0) × ((go : On → Reasons) (p : Reasons) → byCause go c p ≡ p))
@@ -134,6 +163,7 @@ module _ (t : Table) (w : WellFormed t) where
     leads (cause.EndOfRequest p j) h =
         inr (request-within _ k p j (h .1), λ go q. ap go (sym (target-is (requests (t .rest)) p (h .1 .from)) ∙ h .1 .target))
     leads (cause.EndOfRun j) h = inr (run-within (j .0) (h .1), λ go p. refl)
+    leads (cause.Subprogram m j) h = inr (holder-within m j (h .0) (h .1), λ go p. ap go (h .1))
 
     -- ---- waiting is by the one cause
     within-of : (c : Cause) → Holds t k c → (j : ℕ) → Names c j → Within j
@@ -146,6 +176,7 @@ module _ (t : Table) (w : WellFormed t) where
     within-of (cause.Start p i) h j n = rw (← n) (request-within _ k p i (h .1))
     within-of (cause.EndOfRequest p i) h j n = rw (← n) (request-within _ k p i (h .1))
     within-of (cause.EndOfRun i) h j n = rw (← n) (run-within (i .0) (h .1))
+    within-of (cause.Subprogram m i) h j n = rw (← n) (holder-within m i (h .0) (h .1))
 
     pub waits-onto : (j : ℕ) → WaitsOn t k j → (onto t k ≡ j) × Within j
     waits-onto j x = (

@@ -8,10 +8,12 @@ use lib.Bits.{bitAnd}
 use lib.Dec.{eqb, leb}
 use lib.ListN.{length, getD}
 use Rattle.records.specs.declared.TaskNo.{TaskNo}
+use Rattle.records.specs.declared.SubNo.{SubNo}
 use Rattle.executive.specs.declared.State.{State}
 use Rattle.executive.specs.declared.State.the-variants as state
 use Rattle.executive.specs.declared.Task.{Task}
 use Rattle.executive.specs.declared.Request.{Request}
+use Rattle.executive.specs.declared.Sub.{Sub}
 use Rattle.executive.specs.declared.Table.{Table}
 use Rattle.executive.specs.Numbers.{mostTasks, mostQueued}
 use Rattle.executive.specs.Lists.{nextOf}
@@ -19,6 +21,7 @@ use Rattle.executive.specs.Queue.{ahead, activeOf}
 use Rattle.executive.specs.Places.{nobody, noRequest, taskAt}
 use Rattle.executive.specs.Pool.{requests}
 use Rattle.executive.specs.Table.{view}
+use Rattle.executive.specs.Subprograms.{noSub}
 use Rattle.executive.specs.Promises.InWords.{Bit}
 use Rattle.why.specs.declared.Cause.{Cause}
 use Rattle.why.specs.declared.Cause.the-variants as cause
@@ -52,6 +55,10 @@ unfoldable pub targetAt : ℕ → List Request → TaskNo
 targetAt zero rs = nobody
 targetAt (suc i) rs = getD rs i noRequest .target
 
+-- the holder of subprogram m
+abbrev pub holderAt : ℕ → List Sub → TaskNo
+holderAt m ss = getD ss m noSub .holder
+
 -- the flags of a mask that are not set
 abbrev pub missing : ℕ → ℕ → ℕ
 missing flags mask = mask - bitAnd mask flags
@@ -68,6 +75,9 @@ endCause k ts rs =
     cond (leb (namedAt false k rs) (length rs)) (cause.EndOfRequest (namedAt false k rs) (targetAt (namedAt false k rs) rs))
     (cause.EndOfRun (record { 0 = runAt k ts }))
 
+abbrev pub subCause : SubNo → List Sub → Cause
+subCause m ss = cause.Subprogram m (holderAt (m .0) ss)
+
 abbrev pub causeIn : Table → ℕ → State → Cause
 causeIn t k state.Dormant = cause.Dormant
 causeIn t k state.Ready = readyCause (ahead k (view t))
@@ -76,6 +86,7 @@ causeIn t k (state.Due at) = cause.Due at
 causeIn t k (state.Flags m mask) = cause.Flags m (missing (t .rest .flags) mask)
 causeIn t k state.AwaitStart = startCause k (requests (t .rest))
 causeIn t k state.AwaitEnd = endCause k (t .tasks) (requests (t .rest))
+causeIn t k (state.AwaitSub m) = subCause m (t .rest .subs)
 
 unfoldable pub causeOf : Table → ℕ → Cause
 causeOf t k = causeIn t k (stateAt t k)
@@ -103,6 +114,7 @@ Holds t k (cause.Flags m x) = (mask : ℕ) × ((stateAt t k ≡ state.Flags m ma
 Holds t k (cause.Start p j) = (stateAt t k ≡ state.AwaitStart) × NamedBy (λ r. r .«start_waiter») (requests (t .rest)) k p j
 Holds t k (cause.EndOfRequest p j) = (stateAt t k ≡ state.AwaitEnd) × NamedBy (λ r. r .«end_waiter») (requests (t .rest)) k p j
 Holds t k (cause.EndOfRun j) = (stateAt t k ≡ state.AwaitEnd) × (taskAt (t .tasks) (j .0) .«end_waiter» .0 ≡ k)
+Holds t k (cause.Subprogram m j) = (stateAt t k ≡ state.AwaitSub m) × (holderAt (m .0) (t .rest .subs) ≡ j)
 
 -- the cause names task j
 abbrev pub Names : Cause → ℕ → Type 0
@@ -115,6 +127,7 @@ Names (cause.Flags m x) j = ⊥
 Names (cause.Start p i) j = i .0 ≡ j
 Names (cause.EndOfRequest p i) j = i .0 ≡ j
 Names (cause.EndOfRun i) j = i .0 ≡ j
+Names (cause.Subprogram m i) j = i .0 ≡ j
 
 -- some cause that names j holds of k
 abbrev pub WaitsOn : Table → ℕ → ℕ → Type 0

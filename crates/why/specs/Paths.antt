@@ -18,7 +18,7 @@ use Rattle.why.specs.declared.Step.{Step}
 use Rattle.why.specs.declared.Reasons.{Reasons}
 use Rattle.why.specs.declared.On.{On}
 use Rattle.why.specs.declared.On.the-variants as on
-use Rattle.why.specs.Causes.{targetAt, causeOf}
+use Rattle.why.specs.Causes.{targetAt, holderAt, causeOf}
 
 abbrev pub noStep : Step
 noStep = record { task = nobody; cause = cause.Dormant }
@@ -52,6 +52,7 @@ unmet p = mostTasks - p .length
 abbrev pub byLink : (TaskNo → Reasons) → Table → On → Reasons
 byLink go t (on.Request i) = go (targetAt i (requests (t .rest)))
 byLink go t (on.Run k) = go k
+byLink go t (on.Held m) = go (holderAt (m .0) (t .rest .subs))
 
 abbrev pub byCause : (On → Reasons) → Cause → Reasons → Reasons
 byCause go cause.Dormant p = p
@@ -63,6 +64,7 @@ byCause go (cause.Flags m x) p = p
 byCause go (cause.Start i k) p = go (on.Request i)
 byCause go (cause.EndOfRequest i k) p = go (on.Request i)
 byCause go (cause.EndOfRun k) p = go (on.Run k)
+byCause go (cause.Subprogram m k) p = go (on.Held m)
 
 -- the path p goes on at task k, with so many tasks not met yet: a task that has been met closes a ring
 unfoldable pub taskPath : ℕ → Table → TaskNo → Reasons → Reasons

@@ -83,6 +83,14 @@ runOnWords = 39 ∷ 115 ∷ 32 ∷ 114 ∷ 117 ∷ 110 ∷ 44 ∷ 32 ∷ 111 ∷
 abbrev pub runWords : List ℕ
 runWords = 39 ∷ 115 ∷ 32 ∷ 114 ∷ 117 ∷ 110 ∷ []
 
+-- subprogram
+abbrev pub subprogramWord : List ℕ
+subprogramWord = 115 ∷ 117 ∷ 98 ∷ 112 ∷ 114 ∷ 111 ∷ 103 ∷ 114 ∷ 97 ∷ 109 ∷ 32 ∷ []
+
+-- , held by task
+abbrev pub heldWords : List ℕ
+heldWords = 44 ∷ 32 ∷ 104 ∷ 101 ∷ 108 ∷ 100 ∷ 32 ∷ 98 ∷ 121 ∷ 32 ∷ 116 ∷ 97 ∷ 115 ∷ 107 ∷ 32 ∷ []
+
 -- ring
 abbrev pub ringWord : List ℕ
 ringWord = 114 ∷ 105 ∷ 110 ∷ 103 ∷ []
@@ -118,6 +126,7 @@ causeText (cause.Flags m x) = modeWords m ++ bitsOf x flagCount
 causeText (cause.Start p j) = saidOf (waitsWords ++ requestWord) p beginWords ++ decimalOf (j .0)
 causeText (cause.EndOfRequest p j) = saidOf (waitsWords ++ (endOfWords ++ requestWord)) p runOnWords ++ decimalOf (j .0)
 causeText (cause.EndOfRun j) = saidOf (waitsWords ++ (endOfWords ++ taskWord)) (j .0) runWords
+causeText (cause.Subprogram m j) = saidOf (waitsWords ++ subprogramWord) (m .0) heldWords ++ decimalOf (j .0)
 
 -- the line of a step, and those of some steps
 unfoldable pub stepLine : Step → List ℕ

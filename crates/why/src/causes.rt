@@ -1,15 +1,18 @@
-// Why a task is not running: its state and, where it waits for another, the request or the run that names it.
+// Why a task is not running: its state and, where it waits for another, the request or the run that names it, or the
+// subprogram that the other holds.
 use crate::Cause;
 use executive::Request;
 use executive::State;
+use executive::Sub;
 use executive::Table;
 use executive::Task;
 use executive::places;
+use records::SubNo;
 use records::TaskNo;
 ghost use mathlib.Core.Path.{_≡_};
 ghost use Prim.Native.Nat.{_≤_};
 ghost use lib.ListN.{take};
-ghost use Rattle.why.specs.Causes.{Sized, aheadIn, waiterOf, namedAt, runAt, targetAt, missing, readyCause, startCause, endCause, causeOf};
+ghost use Rattle.why.specs.Causes.{Sized, aheadIn, waiterOf, namedAt, runAt, targetAt, holderAt, missing, readyCause, startCause, endCause, subCause, causeOf};
 
 // How many in the queue stand ahead of a task.
 fn ahead(queue: [TaskNo; 16], ready: u8, k: TaskNo) -> u8
@@ -83,6 +86,17 @@ pub(crate) fn target_at(pool: [Request; 32], queued: u8, place: u8) -> TaskNo
     q.target
 }
 
+// The holder of a subprogram; nobody where it is free, and where there is none of that number.
+pub(crate) fn holder_at(subs: [Sub; 8], m: SubNo) -> TaskNo
+    ensures { λ r. ⌜ r ≡ holderAt (m .0) subs ⌝ }
+{
+    if 7 < m.0 {
+        return TaskNo(0);
+    }
+    let s = subs[m.0 as usize];
+    s.holder
+}
+
 // The flags of a mask that are not set.
 fn missing_of(flags: u32, mask: u32) -> u32
     ensures { λ r. ⌜ r ≡ missing flags mask ⌝ }
@@ -126,6 +140,14 @@ fn by_end(tasks: [Task; 16], pool: [Request; 32], queued: u8, k: TaskNo) -> Caus
     Cause::EndOfRequest(p, j)
 }
 
+// A task that waits for a subprogram.
+fn by_sub(subs: [Sub; 8], m: SubNo) -> Cause
+    ensures { λ r. ⌜ r ≡ subCause m subs ⌝ }
+{
+    let j = holder_at(subs, m);
+    Cause::Subprogram(m, j)
+}
+
 // Why a task is not running, or that it is.
 pub(crate) fn cause_of(t: Table, k: TaskNo) -> Cause
     requires { ⌜ Sized t ⌝ }
@@ -145,5 +167,9 @@ pub(crate) fn cause_of(t: Table, k: TaskNo) -> Cause
         State::Flags(mode, mask) => Cause::Flags(mode, missing_of(t.rest.flags, mask)),
         State::AwaitStart => by_start(pool, queued, k),
         State::AwaitEnd => by_end(tasks, pool, queued, k),
+        State::AwaitSub(m) => {
+            let subs = t.rest.subs;
+            by_sub(subs, m)
+        }
     }
 }

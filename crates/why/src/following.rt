@@ -112,6 +112,7 @@ fn follow_task(t: Table, k: TaskNo, path: Reasons) -> Reasons
         Cause::Start(p, _) => follow_link(t, On::Request(p), on),
         Cause::EndOfRequest(p, _) => follow_link(t, On::Request(p), on),
         Cause::EndOfRun(j) => follow_link(t, On::Run(j), on),
+        Cause::Subprogram(m, _) => follow_link(t, On::Held(m), on),
     }
 }
 
@@ -127,6 +128,11 @@ fn follow_link(t: Table, on: On, path: Reasons) -> Reasons
             follow_task(t, k, path)
         }
         On::Run(k) => follow_task(t, k, path),
+        On::Held(m) => {
+            let subs = t.rest.subs;
+            let k = causes::holder_at(subs, m);
+            follow_task(t, k, path)
+        }
     }
 }
 

@@ -1,6 +1,7 @@
 // Why a task is not running: each task's cause, and the path from a task to whom it waits for, with its ring.
 use executive::Millis;
 use executive::Mode;
+use records::SubNo;
 use records::TaskNo;
 
 mod causes;
@@ -10,7 +11,8 @@ pub mod telling;
 
 // Why a task is not running, or that it is: Ready behind how many; Paused and Due until when; Flags with those that are
 // missing; Start and EndOfRequest with the request's place among the queued ones, from 1, and its task; EndOfRun with
-// the task whose run is waited for. Dormant stands first: a blank step is a dormant task's.
+// the task whose run is waited for; Subprogram with its number and its holder. Dormant stands first: a blank step is a
+// dormant task's.
 pub enum Cause {
     Dormant,
     Active,
@@ -21,6 +23,7 @@ pub enum Cause {
     Start(u8, TaskNo),
     EndOfRequest(u8, TaskNo),
     EndOfRun(TaskNo),
+    Subprogram(SubNo, TaskNo),
 }
 
 // A task on the path, and why it is not running.
@@ -39,8 +42,9 @@ pub struct Reasons {
     pub ring: u8,
 }
 
-// What a task waits for: the queued request at a place, from 1, or a task's run.
+// What a task waits for: the queued request at a place, from 1, a task's run, or a subprogram that is held.
 enum On {
     Request(u8),
     Run(TaskNo),
+    Held(SubNo),
 }

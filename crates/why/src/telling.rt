@@ -120,6 +120,16 @@ fn cause_text(out: &mut [u8], at: usize, cause: Cause) -> usize
             j.0 as u64,
             b"'s run",
         ),
+        Cause::Subprogram(m, j) => {
+            let a = said(
+                out,
+                at,
+                b" waits for subprogram ",
+                m.0 as u64,
+                b", held by task ",
+            );
+            number(out, a, j.0 as u64)
+        }
     }
 }
 

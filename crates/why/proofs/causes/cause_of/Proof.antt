@@ -42,6 +42,11 @@ returns-7 c =
     let a = c .before .before .before .before .before .before .before .args in
     cause-at (a .t) (a .k .0) (c .before .before .before .task-at .ensures) (c .before .enum-told4 .given .1) (c .by-end .ensures)
 
+returns-8 : tie.Need-returns-8
+returns-8 c =
+    let a = c .before .before .before .before .before .before .before .before .before .args in
+    cause-at (a .t) (a .k .0) (c .before .before .before .before .before .task-at .ensures) (c .before .before .before .s4 .given .1) (c .by-sub .ensures)
+
 pub cause-of-spec : {M : Type 1} → statement M
 cause-of-spec =
     tie.close
@@ -58,10 +63,13 @@ cause-of-spec =
     (λ c κs. search needs)
     (λ c. search needs)
     (λ c κs. search needs)
+    (λ c. search needs)
+    (λ c κs. search needs)
     returns
     returns-2
     returns-3
     returns-4
     returns-5
     returns-6
-    returns-7)
+    returns-7
+    returns-8)

@@ -18,6 +18,7 @@ use Rattle.why.proofs.following.follow_task.Kinds as follow-task-kinds
 use Rattle.why.proofs.following.+follow_link+follow_task.Lts-follow_task as follow-task-lts
 use Rattle.why.proofs.causes.cause_of.Reads as cause-of-reads
 use Rattle.why.proofs.causes.target_at.Reads as target-at-reads
+use Rattle.why.proofs.causes.holder_at.Reads as holder-at-reads
 use Rattle.why.proofs.following.met_at.Reads as met-at-reads
 use Rattle.why.proofs.following.with_ring.Reads as with-ring-reads
 use Rattle.why.proofs.following.with_step.Reads as with-step-reads
@@ -71,6 +72,8 @@ follow-link-enum-known-on : (t : ℕ) → follow-link-lts.Need-enum-known-on (
   target-at-reads.Learnt,
   follow-task-below t,
   follow-task.Post,
+  holder-at-reads.Asked,
+  holder-at-reads.Learnt,
 ) (follow-link-at t) follow-link.Post
 follow-link-enum-known-on t c = search needs
 
@@ -79,6 +82,8 @@ follow-link-target-at-requires : (t : ℕ) → follow-link-lts.Need-target-at-re
   target-at-reads.Learnt,
   follow-task-below t,
   follow-task.Post,
+  holder-at-reads.Asked,
+  holder-at-reads.Learnt,
 ) (follow-link-at t) follow-link.Post
 follow-link-target-at-requires t c κs = search needs
 
@@ -87,6 +92,8 @@ follow-link-follow-task-requires : (t : ℕ) → follow-link-lts.Need-follow-tas
   target-at-reads.Learnt,
   follow-task-below t,
   follow-task.Post,
+  holder-at-reads.Asked,
+  holder-at-reads.Learnt,
 ) (follow-link-at t) follow-link.Post
 follow-link-follow-task-requires t c κs = (omega arith, c .before .before .before .before .before .pre .1)
 
@@ -95,6 +102,8 @@ follow-link-enum-known-on-2 : (t : ℕ) → follow-link-lts.Need-enum-known-on-2
   target-at-reads.Learnt,
   follow-task-below t,
   follow-task.Post,
+  holder-at-reads.Asked,
+  holder-at-reads.Learnt,
 ) (follow-link-at t) follow-link.Post
 follow-link-enum-known-on-2 t c = search needs
 
@@ -103,14 +112,48 @@ follow-link-follow-task-requires-2 : (t : ℕ) → follow-link-lts.Need-follow-t
   target-at-reads.Learnt,
   follow-task-below t,
   follow-task.Post,
+  holder-at-reads.Asked,
+  holder-at-reads.Learnt,
 ) (follow-link-at t) follow-link.Post
 follow-link-follow-task-requires-2 t c κs = (omega arith, c .before .before .before .pre .1)
+
+follow-link-enum-known-on-3 : (t : ℕ) → follow-link-lts.Need-enum-known-on-3 (
+  target-at-reads.Asked,
+  target-at-reads.Learnt,
+  follow-task-below t,
+  follow-task.Post,
+  holder-at-reads.Asked,
+  holder-at-reads.Learnt,
+) (follow-link-at t) follow-link.Post
+follow-link-enum-known-on-3 t c = search needs
+
+follow-link-holder-at-requires : (t : ℕ) → follow-link-lts.Need-holder-at-requires (
+  target-at-reads.Asked,
+  target-at-reads.Learnt,
+  follow-task-below t,
+  follow-task.Post,
+  holder-at-reads.Asked,
+  holder-at-reads.Learnt,
+) (follow-link-at t) follow-link.Post
+follow-link-holder-at-requires t c κs = search needs
+
+follow-link-follow-task-requires-3 : (t : ℕ) → follow-link-lts.Need-follow-task-requires-3 (
+  target-at-reads.Asked,
+  target-at-reads.Learnt,
+  follow-task-below t,
+  follow-task.Post,
+  holder-at-reads.Asked,
+  holder-at-reads.Learnt,
+) (follow-link-at t) follow-link.Post
+follow-link-follow-task-requires-3 t c κs = (omega arith, c .before .before .before .before .before .pre .1)
 
 follow-link-returns : (t : ℕ) → follow-link-lts.Need-returns (
   target-at-reads.Asked,
   target-at-reads.Learnt,
   follow-task-below t,
   follow-task.Post,
+  holder-at-reads.Asked,
+  holder-at-reads.Learnt,
 ) (follow-link-at t) follow-link.Post
 follow-link-returns t c = c .follow-task .ensures ∙ ap (λ j. taskPath (unmet (c .before .before .before .before .before .before .args .path)) (c .before .before .before .before .before .before .args .t) j (c .before .before .before .before .before .before .args .path)) (c .before .target-at .ensures) ∙ ap (λ l. linkPath (unmet (c .before .before .before .before .before .before .args .path)) (c .before .before .before .before .before .before .args .t) l (c .before .before .before .before .before .before .args .path)) (sym (c .before .before .before .before .on .given .1))
 
@@ -119,8 +162,24 @@ follow-link-returns-2 : (t : ℕ) → follow-link-lts.Need-returns-2 (
   target-at-reads.Learnt,
   follow-task-below t,
   follow-task.Post,
+  holder-at-reads.Asked,
+  holder-at-reads.Learnt,
 ) (follow-link-at t) follow-link.Post
 follow-link-returns-2 t c = c .follow-task2 .ensures ∙ ap (λ l. linkPath (unmet (c .before .before .before .before .args .path)) (c .before .before .before .before .args .t) l (c .before .before .before .before .args .path)) (sym (c .before .before .on2 .given .1))
+
+follow-link-returns-3 : (t : ℕ) → follow-link-lts.Need-returns-3 (
+  target-at-reads.Asked,
+  target-at-reads.Learnt,
+  follow-task-below t,
+  follow-task.Post,
+  holder-at-reads.Asked,
+  holder-at-reads.Learnt,
+) (follow-link-at t) follow-link.Post
+follow-link-returns-3 t c =
+    let a = c .before .before .before .before .before .before .args in
+    c .follow-task3 .ensures
+    ∙ ap (λ j. taskPath (unmet (a .path)) (a .t) j (a .path)) (c .before .holder-at .ensures)
+    ∙ ap (λ l. linkPath (unmet (a .path)) (a .t) l (a .path)) (sym (c .before .before .before .before .on3 .given .1))
 
 follow-task-met-at-requires : (t : ℕ) → follow-task-lts.Need-met-at-requires (
   met-at-reads.Asked,
@@ -386,6 +445,36 @@ follow-task-follow-link-requires-3 t c κs =
     let m = ap (λ (x : Reasons). x .length) (c .before .before .before .with-step .ensures) in
     (omega (arith, m), (c .before .before .before .before .before .before .before .before .before .before .before .pre .1 .0, omega (arith, m)))
 
+follow-task-enum-known-cause-4 : (t : ℕ) → follow-task-lts.Need-enum-known-cause-4 (
+  met-at-reads.Asked,
+  met-at-reads.Learnt,
+  with-ring-reads.Asked,
+  with-ring-reads.Learnt,
+  cause-of-reads.Asked,
+  cause-of-reads.Learnt,
+  with-step-reads.Asked,
+  with-step-reads.Learnt,
+  follow-link-below t,
+  follow-link.Post,
+) (follow-task-at t) follow-task.Post
+follow-task-enum-known-cause-4 t c = search needs
+
+follow-task-follow-link-requires-4 : (t : ℕ) → follow-task-lts.Need-follow-link-requires-4 (
+  met-at-reads.Asked,
+  met-at-reads.Learnt,
+  with-ring-reads.Asked,
+  with-ring-reads.Learnt,
+  cause-of-reads.Asked,
+  cause-of-reads.Learnt,
+  with-step-reads.Asked,
+  with-step-reads.Learnt,
+  follow-link-below t,
+  follow-link.Post,
+) (follow-task-at t) follow-task.Post
+follow-task-follow-link-requires-4 t c κs =
+    let m = ap (λ (x : Reasons). x .length) (c .before .before .before .with-step .ensures) in
+    (omega (arith, m), (c .before .before .before .before .before .before .before .before .before .before .before .pre .1 .0, omega (arith, m)))
+
 follow-task-returns-3 : (t : ℕ) → follow-task-lts.Need-returns-3 (
   met-at-reads.Asked,
   met-at-reads.Learnt,
@@ -512,12 +601,28 @@ follow-task-returns-11 : (t : ℕ) → follow-task-lts.Need-returns-11 (
 ) (follow-task-at t) follow-task.Post
 follow-task-returns-11 t c = met-first t (c .before .before .before .before) (c .before .before .cause3 .given .1) (c .follow-link3 .ensures)
 
+follow-task-returns-12 : (t : ℕ) → follow-task-lts.Need-returns-12 (
+  met-at-reads.Asked,
+  met-at-reads.Learnt,
+  with-ring-reads.Asked,
+  with-ring-reads.Learnt,
+  cause-of-reads.Asked,
+  cause-of-reads.Learnt,
+  with-step-reads.Asked,
+  with-step-reads.Learnt,
+  follow-link-below t,
+  follow-link.Post,
+) (follow-task-at t) follow-task.Post
+follow-task-returns-12 t c = met-first t (c .before .before .before .before) (c .before .before .cause4 .given .1) (c .follow-link4 .ensures)
+
 pub +follow-link+follow-task-spec : {M : Type 1} → statement M
 +follow-link+follow-task-spec = close μ-follow-link μ-follow-task (λ t. follow-link-lts.spec (
   target-at-reads.Asked,
   target-at-reads.Learnt,
   follow-task-below t,
   follow-task.Post,
+  holder-at-reads.Asked,
+  holder-at-reads.Learnt,
 )
     (follow-link-at t)
     follow-link.Post
@@ -526,8 +631,12 @@ pub +follow-link+follow-task-spec : {M : Type 1} → statement M
     (follow-link-follow-task-requires t)
     (follow-link-enum-known-on-2 t)
     (follow-link-follow-task-requires-2 t)
+    (follow-link-enum-known-on-3 t)
+    (follow-link-holder-at-requires t)
+    (follow-link-follow-task-requires-3 t)
     (follow-link-returns t)
-    (follow-link-returns-2 t))
+    (follow-link-returns-2 t)
+    (follow-link-returns-3 t))
     λ t. follow-task-lts.spec (
       met-at-reads.Asked,
       met-at-reads.Learnt,
@@ -560,6 +669,8 @@ pub +follow-link+follow-task-spec : {M : Type 1} → statement M
     (follow-task-follow-link-requires-2 t)
     (follow-task-enum-known-cause-3 t)
     (follow-task-follow-link-requires-3 t)
+    (follow-task-enum-known-cause-4 t)
+    (follow-task-follow-link-requires-4 t)
     (follow-task-returns-3 t)
     (follow-task-returns-4 t)
     (follow-task-returns-5 t)
@@ -569,3 +680,4 @@ pub +follow-link+follow-task-spec : {M : Type 1} → statement M
     (follow-task-returns-9 t)
     (follow-task-returns-10 t)
     (follow-task-returns-11 t)
+    (follow-task-returns-12 t)

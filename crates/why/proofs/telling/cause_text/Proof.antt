@@ -70,6 +70,13 @@ returns-9 c =
     let at-cause7 = at-said5 .before .before .before .before .before .before in
     rw (at-cause7 .cause7 .given .1) (at-said5 .said5 .ensures .0, omega (arith, at-said5 .said5 .ensures .1))
 
+returns-10 : tie.Need-returns-10
+returns-10 c =
+    let at-number3 = c .before .before in
+    let at-said6 = at-number3 .before .before .before .before .before in
+    let at-cause8 = at-said6 .before .before .before .before .before .before in
+    rw (at-cause8 .cause8 .given .1) (then (at-said6 .said6 .ensures .0) (at-number3 .number3 .ensures .0), omega (arith, at-said6 .said6 .ensures .1, at-number3 .number3 .ensures .1))
+
 pub cause-text-spec : {M : Type 1} → statement M
 cause-text-spec =
     tie.close
@@ -115,6 +122,13 @@ cause-text-spec =
     (λ c. search needs)
     (λ c κs. search needs)
     (λ c. search needs)
+    (λ c. search needs)
+    (λ c. search needs)
+    (λ c. search needs)
+    (λ c κs. search needs)
+    (λ c. search needs)
+    (λ c κs. search needs)
+    (λ c. search needs)
     returns
     (λ c. search needs)
     returns-2
@@ -131,4 +145,6 @@ cause-text-spec =
     (λ c. search needs)
     returns-8
     (λ c. search needs)
-    returns-9)
+    returns-9
+    (λ c. search needs)
+    returns-10)
