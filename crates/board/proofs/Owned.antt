@@ -23,6 +23,8 @@ use Rattle.executive.proofs.Task.{the-type as task-type}
 use Rattle.executive.proofs.Task.Laws.{the-laws as task-laws}
 use Rattle.executive.proofs.Request.{the-type as request-type}
 use Rattle.executive.proofs.Request.Laws.{the-laws as request-laws}
+use Rattle.executive.proofs.Sub.{the-type as sub-type}
+use Rattle.executive.proofs.Sub.Laws.{the-laws as sub-laws}
 use Rattle.executive.proofs.Rest.{the-type as rest-type}
 use Rattle.executive.proofs.Rest.Laws.{the-laws as rest-laws}
 use Rattle.executive.proofs.Table.{the-type as table-type}
@@ -36,31 +38,36 @@ use Rattle.records.specs.Numbers.{Fits}
 use Rattle.executive.specs.declared.Millis.{Millis}
 use Rattle.executive.specs.declared.Mode.the-variants.{Any, All}
 use Rattle.executive.specs.declared.State.{State}
-use Rattle.executive.specs.declared.State.the-variants.{Dormant, Ready, Paused, Due, Flags, AwaitStart, AwaitEnd}
+use Rattle.executive.specs.declared.State.the-variants.{Dormant, Ready, Paused, Due, Flags, AwaitStart, AwaitEnd, AwaitSub}
 use Rattle.executive.specs.declared.Task.{Task}
 use Rattle.executive.specs.declared.Request.{Request}
+use Rattle.executive.specs.declared.Sub.{Sub}
 use Rattle.executive.specs.declared.Table.{Table}
 use Rattle.executive.specs.declared.Outcome.{Outcome}
 use Rattle.executive.specs.declared.Fresh.{Fresh}
 use Rattle.board.specs.Blocks.{Each}
-use Rattle.board.specs.Image.{taskWidths, placeWidths, alarmWidths, requestWidths, taskNumbers, placeNumbers, alarmNumbers, requestNumbers, FitsTable}
-use Rattle.board.proofs.Trips.{FitsState}
+use Rattle.board.specs.Image.{taskWidths, placeWidths, alarmWidths, requestWidths, awaitedWidths, taskNumbers, placeNumbers, alarmNumbers, requestNumbers, awaitedNumbers, FitsSub, FitsTable}
+use Rattle.board.proofs.Trips.{FitsState, line-sizes}
 
 state-owned : (x : State) (vs : List Val) → Is (enum-row state-type) x vs → FitsState x
-state-owned Dormant vs q = (omega arith, (omega arith, (omega arith, tt)))
-state-owned Ready vs q = (omega arith, (omega arith, (omega arith, tt)))
-state-owned (Paused at) vs q = let f = enum-owed state-type state-laws (Paused at) vs q in (omega arith, (omega arith, (omega arith, tt)))
-state-owned (Due at) vs q = let f = enum-owed state-type state-laws (Due at) vs q in (omega arith, (omega arith, (omega arith, tt)))
-state-owned (Flags Any mask) vs q = let f = enum-owed state-type state-laws (Flags Any mask) vs q in (omega arith, (omega arith, (omega arith, tt)))
-state-owned (Flags All mask) vs q = let f = enum-owed state-type state-laws (Flags All mask) vs q in (omega arith, (omega arith, (omega arith, tt)))
-state-owned AwaitStart vs q = (omega arith, (omega arith, (omega arith, tt)))
-state-owned AwaitEnd vs q = (omega arith, (omega arith, (omega arith, tt)))
+state-owned Dormant vs q = (omega arith, (omega arith, (omega arith, (omega arith, tt))))
+state-owned Ready vs q = (omega arith, (omega arith, (omega arith, (omega arith, tt))))
+state-owned (Paused at) vs q = let f = enum-owed state-type state-laws (Paused at) vs q in (omega arith, (omega arith, (omega arith, (omega arith, tt))))
+state-owned (Due at) vs q = let f = enum-owed state-type state-laws (Due at) vs q in (omega arith, (omega arith, (omega arith, (omega arith, tt))))
+state-owned (Flags Any mask) vs q = let f = enum-owed state-type state-laws (Flags Any mask) vs q in (omega arith, (omega arith, (omega arith, (omega arith, tt))))
+state-owned (Flags All mask) vs q = let f = enum-owed state-type state-laws (Flags All mask) vs q in (omega arith, (omega arith, (omega arith, (omega arith, tt))))
+state-owned AwaitStart vs q = (omega arith, (omega arith, (omega arith, (omega arith, tt))))
+state-owned AwaitEnd vs q = (omega arith, (omega arith, (omega arith, (omega arith, tt))))
+state-owned (AwaitSub m) vs q = let f = enum-owed state-type state-laws (AwaitSub m) vs q in (omega arith, (omega arith, (omega arith, (omega arith, tt))))
 
 task-owned : (e : Task) (vs : List Val) → Is (row task-type) e vs → Fits taskWidths (taskNumbers e)
 task-owned e vs q =
     let f = owed task-type task-laws e vs q in
     let s = state-owned (e .state) _ (f .1 .1 .1 .1 .0) in
     (omega arith, (s .0, (s .1 .0, (s .1 .1 .0, (omega arith, (omega arith, (omega arith, (omega arith, tt))))))))
+
+awaited-owned : (e : Task) (vs : List Val) → Is (row task-type) e vs → Fits awaitedWidths (awaitedNumbers e)
+awaited-owned e vs q = let f = owed task-type task-laws e vs q in state-owned (e .state) _ (f .1 .1 .1 .1 .0) .1 .1 .1
 
 request-owned : (r : Request) (vs : List Val) → Is (row request-type) r vs → Fits requestWidths (requestNumbers r)
 request-owned r vs q = let f = owed request-type request-laws r vs q in (omega arith, (omega arith, (omega arith, (omega arith, (omega arith, tt)))))
@@ -81,6 +88,12 @@ module _ (F : Field) (P : F .Value → Type 0) (known : (x : F .Value) (vs : Lis
   array-owned : (n : ℕ) (xs : List (F .Value)) (vs : List Val) → Is (Array (F .row) n) (map (F .into) xs) vs → (length xs ≡ n) × Each P xs
   array-owned n xs vs q = (sym (length-map xs (F .into)) ∙ q .1 .0 .1, each-owned xs (q .0) (q .1 .1))
 
+sub-owned : (x : Sub) (vs : List Val) → Is (row sub-type) x vs → FitsSub x
+sub-owned x vs q =
+    let f = owed sub-type sub-laws x vs q in
+    let ks = array-owned (field task-no-type) (λ k. Fits placeWidths (placeNumbers k)) place-owned 16 (x .line) _ (f .1 .0) in
+    record { numbers = (omega arith, (omega arith, tt)); size = ks .0; line = ks .1 }
+
 pub table-owned : (t : Table) (vs : List Val) → Is (row table-type) t vs → FitsTable t
 table-owned t vs q =
     let f = owed table-type table-laws t vs q in
@@ -89,14 +102,18 @@ table-owned t vs q =
     let qs = array-owned (field task-no-type) (λ k. Fits placeWidths (placeNumbers k)) place-owned 16 (t .queue) _ (f .1 .0) in
     let al = array-owned (field millis-type) (λ a. Fits alarmWidths (alarmNumbers a)) alarm-owned 32 (t .rest .alarms) _ (g .1 .1 .1 .1 .0) in
     let rs = array-owned (field request-type) (λ r. Fits requestWidths (requestNumbers r)) request-owned 32 (t .rest .pool) _ (g .1 .1 .1 .1 .1 .0) in
+    let ws = array-owned (field task-type) (λ e. Fits awaitedWidths (awaitedNumbers e)) awaited-owned 16 (t .tasks) _ (f .0) in
+    let ss = array-owned (field sub-type) FitsSub sub-owned 8 (t .rest .subs) _ (g .1 .1 .1 .1 .1 .1 .1 .0) in
     record {
-      sizes = record { tasks = ts .0; queue = qs .0; alarms = al .0; pool = rs .0 };
+      sizes = record { tasks = ts .0; queue = qs .0; alarms = al .0; pool = rs .0; subs = ss .0; lines = line-sizes (t .rest .subs) (ss .1) };
       tasks = ts .1;
       queue = qs .1;
       head = (omega arith, (omega arith, (omega arith, (omega arith, (omega arith, (omega arith, tt))))));
       alarms = al .1;
       pool = rs .1;
       levels = (omega arith, tt);
+      awaited = ws .1;
+      subs = ss .1;
     }
 
 pub outcome-owned : (x : Outcome) (vs : List Val) → Is (row outcome-type) x vs → FitsTable (x .table)

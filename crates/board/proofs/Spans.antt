@@ -8,7 +8,7 @@ use native.Mathlib.Numerals.{add-one}
 use lib.ListN.{length, getD, take, drop, set, length-append, take-append-drop, drop-of-length-le}
 use lib.Seq.{take-at, drop-at, drop-drop, length-take-le, take-set-le, set-split, take-suc, take-suc-set, take-all}
 use Rattle.records.specs.Numbers.{bytesIn}
-use Rattle.board.specs.Blocks.{row, blocks, written}
+use Rattle.board.specs.Blocks.{row, blocks, Each, written}
 use Rattle.board.proofs.Digits.{length-bytes, bytes-last}
 
 -- ---- bytes written over a part of a buffer
@@ -73,12 +73,40 @@ put-turn o at (suc j) n p h k =
     rw (z, bytes-last j n k)
     (ap (λ m. written (set o (at + m) (n % 256)) at (bytesIn j (n / 256))) (sym l) ∙ before o at (bytesIn j (n / 256)) (n % 256) (omega arith))
 
--- ---- a row of equal blocks: f makes w bytes of each element
-module _ {A : Type 0} (f : A → List ℕ) (w : ℕ) (size : (x : A) → length (f x) ≡ w) where
-  pub length-row : (xs : List A) → length (row f xs) ≡ length xs * w
+-- ---- what holds of each element
+module _ {A : Type 0} (P : A → Type 0) where
+  pub each-all : ((x : A) → P x) → (xs : List A) → Each P xs
+  each-all h [] = tt
+  each-all h (x ∷ xs) = (h x, each-all h xs)
+
+  pub each-more : (i : ℕ) (xs : List A) (d : A) → Each P (take i xs) → P (getD xs i d) → i < length xs → Each P (take (suc i) xs)
+  each-more i [] d h k l = absurd (not-suc-le-zero l)
+  each-more zero (x ∷ xs) d h k l = (k, tt)
+  each-more (suc i) (x ∷ xs) d h k l = (h .0, each-more i xs d (h .1) k (le-of-suc-le-suc l))
+
+  -- of each element, and of what stands past the last
+  pub each-or : (d : A) → P d → (xs : List A) → Each P xs → (i : ℕ) → P (getD xs i d)
+  each-or d k [] h i = k
+  each-or d k (x ∷ xs) h zero = h .0
+  each-or d k (x ∷ xs) h (suc i) = each-or d k xs (h .1) i
+
+  pub each-of : (d : A) (xs : List A) → ((i : ℕ) → P (getD xs i d)) → Each P xs
+  each-of d [] h = tt
+  each-of d (x ∷ xs) h = (h 0, each-of d xs (λ i. h (suc i)))
+
+pub each-so : {A : Type 0} (P Q : A → Type 0) → ((x : A) → P x → Q x) → (xs : List A) → Each P xs → Each Q xs
+each-so P Q f [] h = tt
+each-so P Q f (x ∷ xs) h = (f x (h .0), each-so P Q f xs (h .1))
+
+-- ---- a row of equal blocks: f makes w bytes of each of some elements
+module _ {A : Type 0} (f : A → List ℕ) (w : ℕ) where
+  abbrev pub Wide : A → Type 0
+  Wide x = length (f x) ≡ w
+
+  pub row-length : (xs : List A) → Each Wide xs → length (row f xs) ≡ length xs * w
   unfolding row
-  length-row [] = sym (zero-mul w)
-  length-row (x ∷ xs) = length-append (f x) (row f xs) ∙ rw (size x, length-row xs, suc-mul (length xs) w) (add-comm w (length xs * w))
+  row-length [] h = sym (zero-mul w)
+  row-length (x ∷ xs) h = length-append (f x) (row f xs) ∙ rw (h .0, row-length xs (h .1), suc-mul (length xs) w) (add-comm w (length xs * w))
 
   row-more : (xs : List A) (i : ℕ) (d : A) → i < length xs → row f (take (suc i) xs) ≡ row f (take i xs) ++ f (getD xs i d)
   unfolding row
@@ -87,23 +115,38 @@ module _ {A : Type 0} (f : A → List ℕ) (w : ℕ) (size : (x : A) → length 
   row-more (x ∷ xs) (suc i) d h = ap (λ l. f x ++ l) (row-more xs i d (le-of-suc-le-suc h)) ∙ sym (append-assoc (f x) (row f (take i xs)) (f (getD xs i d)))
 
   -- one block more is written, from `base` on
-  pub row-turn : (o q r : List ℕ) (xs : List A) (base i at : ℕ) (d : A)
+  pub row-turned : (o q r : List ℕ) (xs : List A) (base i at : ℕ) (d : A) → Each Wide (take i xs) → Wide (getD xs i d)
       → q ≡ written o base (row f (take i xs)) → at ≡ base + i * w → r ≡ written q at (f (getD xs i d))
       → i < length xs → base + i * w + w ≤ length o → r ≡ written o base (row f (take (i + 1) xs))
-  row-turn o q r xs base i at d eq ea er h k =
-      let l : length (row f (take i xs)) ≡ i * w = length-row (take i xs) ∙ ap (λ n. n * w) (length-take-le i xs (omega arith)) in
-      let z : length (f (getD xs i d)) ≡ w = size (getD xs i d) in
+  row-turned o q r xs base i at d g z eq ea er h k =
+      let l : length (row f (take i xs)) ≡ i * w = row-length (take i xs) g ∙ ap (λ n. n * w) (length-take-le i xs (omega arith)) in
       er ∙ ap (λ p. written p at (f (getD xs i d))) eq
       ∙ ap (λ n. written (written o base (row f (take i xs))) n (f (getD xs i d))) (ea ∙ ap (λ n. base + n) (sym l))
       ∙ written-then o base (row f (take i xs)) (f (getD xs i d)) (omega arith)
       ∙ ap (written o base) (sym (row-more xs i d h) ∙ ap (λ n. row f (take n xs)) (sym (add-one i)))
 
-  pub row-start : (o : List ℕ) (xs : List A) (base : ℕ) → o ≡ written o base (row f (take 0 xs))
+  pub row-begun : (o : List ℕ) (xs : List A) (base : ℕ) → o ≡ written o base (row f (take 0 xs))
   unfolding row
-  row-start o xs base = sym (written-none o base)
+  row-begun o xs base = sym (written-none o base)
+
+  pub row-done : (o q : List ℕ) (xs : List A) (base i : ℕ) → q ≡ written o base (row f (take i xs)) → length xs ≤ i → q ≡ written o base (row f xs)
+  row-done o q xs base i e h = e ∙ ap (λ l. written o base (row f l)) (take-all i xs h)
+
+-- the same where f makes w bytes of any element
+module _ {A : Type 0} (f : A → List ℕ) (w : ℕ) (size : (x : A) → length (f x) ≡ w) where
+  pub length-row : (xs : List A) → length (row f xs) ≡ length xs * w
+  length-row xs = row-length f w xs (each-all (Wide f w) size xs)
+
+  pub row-turn : (o q r : List ℕ) (xs : List A) (base i at : ℕ) (d : A)
+      → q ≡ written o base (row f (take i xs)) → at ≡ base + i * w → r ≡ written q at (f (getD xs i d))
+      → i < length xs → base + i * w + w ≤ length o → r ≡ written o base (row f (take (i + 1) xs))
+  row-turn o q r xs base i at d = row-turned f w o q r xs base i at d (each-all (Wide f w) size (take i xs)) (size (getD xs i d))
+
+  pub row-start : (o : List ℕ) (xs : List A) (base : ℕ) → o ≡ written o base (row f (take 0 xs))
+  row-start = row-begun f w
 
   pub row-end : (o q : List ℕ) (xs : List A) (base i : ℕ) → q ≡ written o base (row f (take i xs)) → length xs ≤ i → q ≡ written o base (row f xs)
-  row-end o q xs base i e h = e ∙ ap (λ l. written o base (row f l)) (take-all i xs h)
+  row-end = row-done f w
 
 -- ---- equal blocks that are read: f reads one at a place, the next is w places on
 module _ {A : Type 0} (f : ℕ → A) (w : ℕ) where
@@ -133,3 +176,15 @@ module _ {A : Type 0} (f : ℕ → A) (w : ℕ) where
   block-end n at i q l e h =
       let m : length (blocks f w n at) ≡ n = length-blocks n at in
       sym (take-all i q (omega arith)) ∙ e ∙ take-all i (blocks f w n at) (omega arith)
+
+  -- elements that are each read where they stand
+  blocks-read : (xs : List A) (d : A) (at : ℕ) → ((i : ℕ) → i < length xs → f (at + i * w) ≡ getD xs i d) → blocks f w (length xs) at ≡ xs
+  unfolding blocks
+  blocks-read [] d at h = refl
+  blocks-read (x ∷ xs) d at h =
+      let e : f at ≡ x = ap f (sym (ap (λ k. at + k) (zero-mul w) ∙ add-zero at)) ∙ h 0 (omega arith) in
+      let more : (i : ℕ) → i < length xs → f (at + w + i * w) ≡ getD xs i d = λ i k. ap f (rw (suc-mul i w) (omega arith)) ∙ h (suc i) (omega arith) in
+      ap (λ (y : A). y ∷ blocks f w (length xs) (at + w)) e ∙ ap (λ l. x ∷ l) (blocks-read xs d (at + w) more)
+
+  pub blocks-are : (xs : List A) (d : A) (n at : ℕ) → length xs ≡ n → ((i : ℕ) → i < n → f (at + i * w) ≡ getD xs i d) → blocks f w n at ≡ xs
+  blocks-are xs d n at l h = ap (λ m. blocks f w m at) (sym l) ∙ blocks-read xs d at (λ i k. h i (omega arith))

@@ -1,33 +1,79 @@
 -- The round trips of the image: storing and loading gives the same table, loading and storing the same bytes.
 use Prim.Native.Nat.{ℕ, zero, suc, _+_, _*_, _^_, _<_}
-use mathlib.Core.Path.{_≡_, refl, sym, ap, _∙_}
+use mathlib.Core.Path.{_≡_, refl, sym, ap, ap₂, _∙_}
 use mathlib.Core.Bool.{Bool, true, false, cond}
-use mathlib.Core.List.{List, [], _∷_, _++_, append-nil, append-assoc}
+use mathlib.Core.List.{List, [], _∷_, _++_, append-assoc}
 use native.Mathlib.Omega.{arith}
 use native.Mathlib.Nat.{add-zero}
 use lib.Dec.{eqb}
 use lib.ListN.{length, getD, drop, length-append}
 use borrow.Author.Tests.{eq-eqb, ne-eqb, eqb-true}
-use Rattle.records.specs.Numbers.{Bytes, numberFrom, numberOf, part, cut, Fits}
+use Rattle.records.specs.declared.TaskNo.{TaskNo}
+use Rattle.records.specs.Numbers.{Bytes, numberFrom, numberOf, part, lay, cut, Fits}
 use Rattle.executive.specs.declared.Millis.{Millis}
 use Rattle.executive.specs.declared.State.{State}
 use Rattle.executive.specs.declared.Task.{Task}
+use Rattle.executive.specs.declared.Sub.{Sub}
 use Rattle.executive.specs.declared.Table.{Table}
-use Rattle.executive.specs.States.{dormant, ready, paused, due, awaitAny, awaitAll, awaitStart, awaitEnd, stateKind, timeOf, maskOf, stateOf}
+use Rattle.executive.specs.States.{dormant, ready, paused, due, awaitAny, awaitAll, awaitStart, awaitEnd, awaitSub, stateKind, timeOf, maskOf, awaitedOf, stateOf}
+use Rattle.executive.specs.Lists.{pad}
+use Rattle.executive.specs.Places.{nobody, never as no-time, noTask, noRequest}
+use Rattle.executive.specs.Subprograms.{noSub}
 use Rattle.executive.specs.WellFormed.{Sizes}
 use Rattle.executive.proofs.Assured.{states-told}
 use Rattle.board.specs.Blocks.{row, blocks, Each, written, same}
-use Rattle.board.specs.Image.{taskWidths, placeWidths, headWidths, alarmWidths, requestWidths, levelsWidths, taskNumbers, placeNumbers, headNumbers, alarmNumbers, requestNumbers, levelsNumbers, taskOf, placeOf, alarmOf, requestOf, taskBytes, placeBytes, headBytes, alarmBytes, requestBytes, levelsBytes, taskFrom, placeFrom, alarmFrom, requestFrom, tableOf, queueAt, headAt, alarmsAt, poolAt, levelsAt, imageLength, imageOf, loadOf, isImageOf, isImage, FitsTable}
+use Rattle.board.specs.Image.{taskWidths, placeWidths, headWidths, alarmWidths, requestWidths, levelsWidths, awaitedWidths, subWidths}
+use Rattle.board.specs.Image.{taskNumbers, placeNumbers, headNumbers, alarmNumbers, requestNumbers, levelsNumbers, awaitedNumbers, subNumbers}
+use Rattle.board.specs.Image.{taskOf, placeOf, alarmOf, requestOf, subOf, tableOf, taskBytes, placeBytes, headBytes, alarmBytes, requestBytes, levelsBytes, awaitedBytes, subBytes}
+use Rattle.board.specs.Image.{taskFrom, placeFrom, alarmFrom, requestFrom, lineFrom, subFrom, queueAt, headAt, alarmsAt, poolAt, levelsAt, awaitedAt, subsAt, imageLength, taskLength, subLength}
+use Rattle.board.specs.Image.{imageOf, loadOf, isImageOf, isImage, FitsSub, FitsTable}
 use Rattle.board.proofs.Digits.{digit-fits}
-use Rattle.board.proofs.Spans.{length-row, length-blocks}
+use Rattle.board.proofs.Spans.{each-or, each-of, each-so, Wide, row-length, length-row, length-blocks, blocks-are}
 use Rattle.board.proofs.Alike.{decide, never, same-self, same-true, same-turn, same-differ}
-use Rattle.board.proofs.Images.{put-all, cut-lay, blocks-back}
+use Rattle.board.proofs.Images.{Filled, fill, filled, At, at-start, at-next, at-end, at-length, at-parted, cut-at, element-back, row-back, blocks-back}
 
 -- ---- a block's value is that of its numbers
-task-back : (e : Task) → taskOf (taskNumbers e) ≡ e
+task-back : (e : Task) → taskOf (taskNumbers e) (awaitedNumbers e) ≡ e
 task-back e = λ i. record { own = e .own; state = states-told .back (e .state) i; priority = e .priority; argument = e .argument; start = e .start; «end_waiter» = e .«end_waiter» }
 
--- ---- the parts of the image
+line-back : (ks : List TaskNo) → Each (λ k. Fits placeWidths (placeNumbers k)) ks → length ks ≡ 16 → (s r : List ℕ) (n : ℕ) → At s n (row placeBytes ks ++ r) → lineFrom s n ≡ ks
+line-back ks h l s r n z = blocks-back placeWidths placeNumbers placeOf (λ x. refl) 1 (λ x. refl) ks nobody s r 16 n h l z
+
+pub sub-length : (x : Sub) → length (x .line) ≡ 16 → length (subBytes x) ≡ subLength
+sub-length x l =
+    let m : length (row placeBytes (x .line)) ≡ 16 = length-row placeBytes 1 (λ k. refl) (x .line) ∙ ap (λ n. n * 1) l in
+    length-append (lay subWidths (subNumbers x)) (row placeBytes (x .line)) ∙ ap (λ n. 2 + n) m
+
+sub-back : (x : Sub) → FitsSub x → (s r : List ℕ) (n : ℕ) → At s n (subBytes x ++ r) → subFrom s n ≡ x
+sub-back x f s r n z =
+    let y = at-parted s (lay subWidths (subNumbers x)) (row placeBytes (x .line)) r n z in
+    let a : cut subWidths n s ≡ subNumbers x = cut-at subWidths (subNumbers x) (row placeBytes (x .line) ++ r) s n y (f .numbers) in
+    let b : lineFrom s (n + 2) ≡ x .line =
+    line-back (x .line) (f .line) (f .size) s r (n + 2) (at-next s (lay subWidths (subNumbers x)) (row placeBytes (x .line) ++ r) n 2 y refl) in
+    λ i. subOf (a i) (b i)
+
+-- ---- the parts of the image, each with all that stand behind it
+abbrev fromAwaited : Table → List ℕ
+fromAwaited t = row awaitedBytes (t .tasks) ++ row subBytes (t .rest .subs)
+
+abbrev fromLevels : Table → List ℕ
+fromLevels t = levelsBytes t ++ fromAwaited t
+
+abbrev fromPool : Table → List ℕ
+fromPool t = row requestBytes (t .rest .pool) ++ fromLevels t
+
+abbrev fromAlarms : Table → List ℕ
+fromAlarms t = row alarmBytes (t .rest .alarms) ++ fromPool t
+
+abbrev fromHead : Table → List ℕ
+fromHead t = headBytes t ++ fromAlarms t
+
+abbrev fromQueue : Table → List ℕ
+fromQueue t = row placeBytes (t .queue) ++ fromHead t
+
+abbrev fromTasks : Table → List ℕ
+fromTasks t = row taskBytes (t .tasks) ++ fromQueue t
+
 module _ (t : Table) (z : Sizes t) where
   tasks-length : length (row taskBytes (t .tasks)) ≡ 416
   tasks-length = length-row taskBytes 26 (λ x. refl) (t .tasks) ∙ ap (λ n. n * 26) (z .tasks)
@@ -41,73 +87,102 @@ module _ (t : Table) (z : Sizes t) where
   pool-length : length (row requestBytes (t .rest .pool)) ≡ 192
   pool-length = length-row requestBytes 6 (λ x. refl) (t .rest .pool) ∙ ap (λ n. n * 6) (z .pool)
 
-  -- what six writes leave, each where the image has its part
-  pub image-made : (o : List ℕ) {p q r s u v : List ℕ} → p ≡ written o 0 (row taskBytes (t .tasks)) → q ≡ written p queueAt (row placeBytes (t .queue))
-      → r ≡ written q headAt (headBytes t) → s ≡ written r alarmsAt (row alarmBytes (t .rest .alarms)) → u ≡ written s poolAt (row requestBytes (t .rest .pool))
-      → v ≡ written u levelsAt (levelsBytes t) → length o ≡ imageLength → v ≡ imageOf t
-  unfolding imageOf
-  image-made o ep eq er es eu ev n =
-      let a = tasks-length in
-      let b = queue-length in
-      let d = alarms-length in
-      let e = pool-length in
-      put-all o (row taskBytes (t .tasks)) (row placeBytes (t .queue)) (headBytes t) (row alarmBytes (t .rest .alarms)) (row requestBytes (t .rest .pool)) (levelsBytes t)
-      queueAt headAt alarmsAt poolAt levelsAt ep eq er es eu ev a (omega arith) refl (omega arith) (omega arith) (omega arith)
+  awaited-length : length (row awaitedBytes (t .tasks)) ≡ 16
+  awaited-length = length-row awaitedBytes 1 (λ x. refl) (t .tasks) ∙ ap (λ n. n * 1) (z .tasks)
 
-  pub image-length : length (imageOf t) ≡ imageLength
+  subs-length : length (row subBytes (t .rest .subs)) ≡ 144
+  subs-length =
+      row-length subBytes subLength (t .rest .subs)
+      (each-so (λ x. length (x .line) ≡ 16) (Wide subBytes subLength) sub-length (t .rest .subs) (each-of (λ x. length (x .line) ≡ 16) noSub (t .rest .subs) (z .lines)))
+      ∙ ap (λ n. n * subLength) (z .subs)
+
+  -- what eight writes leave, each where the image has its part
+  pub image-made : (o p q r s u v x y : List ℕ) → length o ≡ imageLength → p ≡ written o 0 (row taskBytes (t .tasks)) → q ≡ written p queueAt (row placeBytes (t .queue))
+      → r ≡ written q headAt (headBytes t) → s ≡ written r alarmsAt (row alarmBytes (t .rest .alarms)) → u ≡ written s poolAt (row requestBytes (t .rest .pool))
+      → v ≡ written u levelsAt (levelsBytes t) → x ≡ written v awaitedAt (row awaitedBytes (t .tasks)) → y ≡ written x subsAt (row subBytes (t .rest .subs)) → y ≡ imageOf t
   unfolding imageOf
-  image-length =
+  image-made o p q r s u v x y n ep eq er es eu ev ex ey =
       let a = row taskBytes (t .tasks) in
       let b = row placeBytes (t .queue) in
       let c = headBytes t in
       let d = row alarmBytes (t .rest .alarms) in
       let e = row requestBytes (t .rest .pool) in
       let f = levelsBytes t in
-      let la = tasks-length in
-      let lb = queue-length in
-      let ld = alarms-length in
-      let le = pool-length in
-      length-append a (b ++ (c ++ (d ++ (e ++ f)))) ∙ rw (length-append b (c ++ (d ++ (e ++ f))), length-append c (d ++ (e ++ f)), length-append d (e ++ f), length-append e f) (omega arith)
+      let g = row awaitedBytes (t .tasks) in
+      let h = row subBytes (t .rest .subs) in
+      let fa : Filled o p a queueAt = record { bytes = ep; long = tasks-length } in
+      let fb = fill o p q a b queueAt 16 fa eq queue-length (omega arith) in
+      let fc = fill o q r (a ++ b) c headAt 16 fb er refl (omega arith) in
+      let fd = fill o r s ((a ++ b) ++ c) d alarmsAt 256 fc es alarms-length (omega arith) in
+      let fe = fill o s u (((a ++ b) ++ c) ++ d) e poolAt 192 fd eu pool-length (omega arith) in
+      let ff = fill o u v ((((a ++ b) ++ c) ++ d) ++ e) f levelsAt 2 fe ev refl (omega arith) in
+      let fg = fill o v x (((((a ++ b) ++ c) ++ d) ++ e) ++ f) g awaitedAt 16 ff ex awaited-length (omega arith) in
+      let fh = fill o x y ((((((a ++ b) ++ c) ++ d) ++ e) ++ f) ++ g) h subsAt 144 fg ey subs-length (omega arith) in
+      filled o y (((((((a ++ b) ++ c) ++ d) ++ e) ++ f) ++ g) ++ h) imageLength fh n ∙ simp append-assoc
+
+  -- where each part stands
+  at-tasks : At (imageOf t) 0 (fromTasks t)
+  unfolding imageOf
+  at-tasks = at-start (fromTasks t)
+
+  at-queue : At (imageOf t) queueAt (fromQueue t)
+  at-queue = at-next (imageOf t) (row taskBytes (t .tasks)) (fromQueue t) 0 queueAt at-tasks tasks-length
+
+  at-head : At (imageOf t) headAt (fromHead t)
+  at-head = at-next (imageOf t) (row placeBytes (t .queue)) (fromHead t) queueAt 16 at-queue queue-length
+
+  at-alarms : At (imageOf t) alarmsAt (fromAlarms t)
+  at-alarms = at-next (imageOf t) (headBytes t) (fromAlarms t) headAt 16 at-head refl
+
+  at-pool : At (imageOf t) poolAt (fromPool t)
+  at-pool = at-next (imageOf t) (row alarmBytes (t .rest .alarms)) (fromPool t) alarmsAt 256 at-alarms alarms-length
+
+  at-levels : At (imageOf t) levelsAt (fromLevels t)
+  at-levels = at-next (imageOf t) (row requestBytes (t .rest .pool)) (fromLevels t) poolAt 192 at-pool pool-length
+
+  at-awaited : At (imageOf t) awaitedAt (fromAwaited t)
+  at-awaited = at-next (imageOf t) (levelsBytes t) (fromAwaited t) levelsAt 2 at-levels refl
+
+  at-subs : At (imageOf t) subsAt (row subBytes (t .rest .subs))
+  at-subs = at-next (imageOf t) (row awaitedBytes (t .tasks)) (row subBytes (t .rest .subs)) awaitedAt 16 at-awaited awaited-length
+
+  pub image-length : length (imageOf t) ≡ imageLength
+  image-length = at-length (imageOf t) (row subBytes (t .rest .subs)) subsAt at-subs ∙ ap (λ n. subsAt + n) subs-length
 
 -- ---- storing and loading
 module _ (t : Table) (f : FitsTable t) where
+  -- a task, from its entry and from the number that its state waits for
+  task-at : (i : ℕ) → i < 16 → taskFrom (imageOf t) (0 + i * 1) ≡ getD (t .tasks) i noTask
+  task-at i l =
+      let s = imageOf t in
+      let n = f .sizes .tasks in
+      let a : cut taskWidths (0 + i * taskLength) s ≡ taskNumbers (getD (t .tasks) i noTask) =
+      element-back taskBytes taskLength (λ e. Fits taskWidths (taskNumbers e)) (λ e h. refl) (λ u k. cut taskWidths k u) taskNumbers
+      (λ e h u r k z. cut-at taskWidths (taskNumbers e) r u k z h) (t .tasks) noTask s (fromQueue t) 0 i (f .tasks) (at-tasks t (f .sizes)) (omega arith) in
+      let b : cut awaitedWidths (awaitedAt + i * 1) s ≡ awaitedNumbers (getD (t .tasks) i noTask) =
+      element-back awaitedBytes 1 (λ e. Fits awaitedWidths (awaitedNumbers e)) (λ e h. refl) (λ u k. cut awaitedWidths k u) awaitedNumbers
+      (λ e h u r k z. cut-at awaitedWidths (awaitedNumbers e) r u k z h) (t .tasks) noTask s (row subBytes (t .rest .subs)) awaitedAt i (f .awaited) (at-awaited t (f .sizes)) (omega arith) in
+      let x : (0 + i * 1) * taskLength ≡ 0 + i * taskLength = omega arith in
+      let y : awaitedAt + (0 + i * 1) ≡ awaitedAt + i * 1 = omega arith in
+      ap₂ taskOf (ap (λ k. cut taskWidths k s) x ∙ a) (ap (λ k. cut awaitedWidths k s) y ∙ b) ∙ task-back (getD (t .tasks) i noTask)
+
   pub load-store : loadOf (imageOf t) ≡ t
-  unfolding loadOf imageOf
+  unfolding loadOf
   load-store =
-      let a = row taskBytes (t .tasks) in
-      let b = row placeBytes (t .queue) in
-      let c = headBytes t in
-      let d = row alarmBytes (t .rest .alarms) in
-      let e = row requestBytes (t .rest .pool) in
-      let g = levelsBytes t in
-      let s = a ++ (b ++ (c ++ (d ++ (e ++ g)))) in
-      let la : length a ≡ 416 = tasks-length t (f .sizes) in
-      let lb : length b ≡ 16 = queue-length t (f .sizes) in
-      let ld : length d ≡ 256 = alarms-length t (f .sizes) in
-      let le : length e ≡ 192 = pool-length t (f .sizes) in
-      let lab : length (a ++ b) ≡ 432 = length-append a b ∙ omega arith in
-      let labc : length ((a ++ b) ++ c) ≡ 448 = length-append (a ++ b) c ∙ omega arith in
-      let labcd : length (((a ++ b) ++ c) ++ d) ≡ 704 = length-append ((a ++ b) ++ c) d ∙ omega arith in
-      let labcde : length ((((a ++ b) ++ c) ++ d) ++ e) ≡ 896 = length-append (((a ++ b) ++ c) ++ d) e ∙ omega arith in
-      let sh : s ≡ (a ++ b) ++ (c ++ (d ++ (e ++ g))) = simp append-assoc in
-      let sa : s ≡ ((a ++ b) ++ c) ++ (d ++ (e ++ g)) = simp append-assoc in
-      let sp : s ≡ (((a ++ b) ++ c) ++ d) ++ (e ++ g) = simp append-assoc in
-      let sg : s ≡ ((((a ++ b) ++ c) ++ d) ++ e) ++ (g ++ []) = simp (append-assoc, append-nil) in
-      let eh : cut headWidths headAt s ≡ headNumbers t =
-      ap (λ n. cut headWidths n s) (sym lab) ∙ ap (cut headWidths (length (a ++ b))) sh ∙ cut-lay headWidths (headNumbers t) (a ++ b) (d ++ (e ++ g)) (f .head) in
-      let et : blocks (taskFrom s) 26 16 0 ≡ t .tasks =
-      blocks-back taskWidths taskNumbers taskOf task-back 26 (λ x. refl) (t .tasks) [] (b ++ (c ++ (d ++ (e ++ g)))) s 16 0 (f .tasks) refl (f .sizes .tasks) refl in
-      let eq : blocks (placeFrom s) 1 16 queueAt ≡ t .queue =
-      blocks-back placeWidths placeNumbers placeOf (λ x. refl) 1 (λ x. refl) (t .queue) a (c ++ (d ++ (e ++ g))) s 16 queueAt (f .queue) refl (f .sizes .queue) la in
+      let s = imageOf t in
+      let z = f .sizes in
+      let eh : cut headWidths headAt s ≡ headNumbers t = cut-at headWidths (headNumbers t) (fromAlarms t) s headAt (at-head t z) (f .head) in
+      let et : blocks (taskFrom s) 1 16 0 ≡ t .tasks = blocks-are (taskFrom s) 1 (t .tasks) noTask 16 0 (z .tasks) task-at in
+      let eq : lineFrom s queueAt ≡ t .queue = line-back (t .queue) (f .queue) (z .queue) s (fromHead t) queueAt (at-queue t z) in
       let ea : blocks (alarmFrom s) 8 32 alarmsAt ≡ t .rest .alarms =
-      blocks-back alarmWidths alarmNumbers alarmOf (λ x. refl) 8 (λ x. refl) (t .rest .alarms) ((a ++ b) ++ c) (e ++ g) s 32 alarmsAt (f .alarms) sa (f .sizes .alarms) labc in
+      blocks-back alarmWidths alarmNumbers alarmOf (λ x. refl) 8 (λ x. refl) (t .rest .alarms) no-time s (fromPool t) 32 alarmsAt (f .alarms) (z .alarms) (at-alarms t z) in
       let ep : blocks (requestFrom s) 6 32 poolAt ≡ t .rest .pool =
-      blocks-back requestWidths requestNumbers requestOf (λ x. refl) 6 (λ x. refl) (t .rest .pool) (((a ++ b) ++ c) ++ d) g s 32 poolAt (f .pool) sp (f .sizes .pool) labcd in
-      let eg : cut levelsWidths levelsAt s ≡ levelsNumbers t =
-      ap (λ n. cut levelsWidths n s) (sym labcde)
-      ∙ ap (cut levelsWidths (length ((((a ++ b) ++ c) ++ d) ++ e))) sg
-      ∙ cut-lay levelsWidths (levelsNumbers t) ((((a ++ b) ++ c) ++ d) ++ e) [] (f .levels) in
-      λ i. tableOf (eh i) (et i) (eq i) (ea i) (ep i) (eg i)
+      blocks-back requestWidths requestNumbers requestOf (λ x. refl) 6 (λ x. refl) (t .rest .pool) noRequest s (fromLevels t) 32 poolAt (f .pool) (z .pool) (at-pool t z) in
+      let eg : cut levelsWidths levelsAt s ≡ levelsNumbers t = cut-at levelsWidths (levelsNumbers t) (fromAwaited t) s levelsAt (at-levels t z) (f .levels) in
+      let es : blocks (subFrom s) subLength 8 subsAt ≡ t .rest .subs =
+      row-back subBytes subLength FitsSub (λ x h. sub-length x (h .size)) subFrom sub-back (t .rest .subs) noSub s [] 8 subsAt (f .subs) (z .subs)
+      (at-end s (row subBytes (t .rest .subs)) subsAt (at-subs t z)) in
+      λ i. tableOf (eh i) (et i) (eq i) (ea i) (ep i) (eg i) (es i)
 
 -- ---- what an image is
 module _ (s : List ℕ) (t : Table) where
@@ -178,43 +253,77 @@ each-block P f g w zero at = tt
 each-block P f g w (suc n) at = (g at, each-block P f g w n (at + w))
 
 abbrev pub FitsState : State → Type 0
-FitsState x = Fits (1 ∷ 8 ∷ 4 ∷ []) (stateKind x ∷ timeOf x .0 ∷ maskOf x ∷ [])
+FitsState x = Fits (1 ∷ 8 ∷ 4 ∷ 1 ∷ []) (stateKind x ∷ timeOf x .0 ∷ maskOf x ∷ awaitedOf x ∷ [])
 
 either : (b : Bool) (x y : State) → FitsState x → FitsState y → FitsState (cond b x y)
 either true x y f g = f
 either false x y f g = g
 
-state-fits : (a : ℕ) (b : Millis) (c : ℕ) → b .0 < 256 ^ 8 → c < 256 ^ 4 → FitsState (stateOf a b c)
+-- a state that holds no number
+small : Fits (8 ∷ 4 ∷ 1 ∷ []) (0 ∷ 0 ∷ 0 ∷ [])
+small = (omega arith, (omega arith, (omega arith, tt)))
+
+state-fits : (a : ℕ) (b : Millis) (c d : ℕ) → b .0 < 256 ^ 8 → c < 256 ^ 4 → d < 256 ^ 1 → FitsState (stateOf a b c d)
 unfolding stateOf
-state-fits a b c f g =
-    either (eqb a dormant) _ _ (omega arith, (omega arith, (omega arith, tt)))
-    (either (eqb a ready) _ _ (omega arith, (omega arith, (omega arith, tt)))
-    (either (eqb a paused) _ _ (omega arith, (f, (omega arith, tt)))
-    (either (eqb a due) _ _ (omega arith, (f, (omega arith, tt)))
-    (either (eqb a awaitAny) _ _ (omega arith, (omega arith, (g, tt)))
-    (either (eqb a awaitAll) _ _ (omega arith, (omega arith, (g, tt)))
-    (either (eqb a awaitStart) _ _ (omega arith, (omega arith, (omega arith, tt)))
-    (either (eqb a awaitEnd) _ _ (omega arith, (omega arith, (omega arith, tt))) (omega arith, (omega arith, (omega arith, tt))))))))))
+state-fits a b c d f g h =
+    either (eqb a dormant) _ _ (omega arith, small)
+    (either (eqb a ready) _ _ (omega arith, small)
+    (either (eqb a paused) _ _ (omega arith, (f, (omega arith, (omega arith, tt))))
+    (either (eqb a due) _ _ (omega arith, (f, (omega arith, (omega arith, tt))))
+    (either (eqb a awaitAny) _ _ (omega arith, (omega arith, (g, (omega arith, tt))))
+    (either (eqb a awaitAll) _ _ (omega arith, (omega arith, (g, (omega arith, tt))))
+    (either (eqb a awaitStart) _ _ (omega arith, small)
+    (either (eqb a awaitEnd) _ _ (omega arith, small)
+    (either (eqb a awaitSub) _ _ (omega arith, (omega arith, (omega arith, (h, tt)))) (omega arith, small)))))))))
+
+-- what the state of the i-th task holds
+read-fits : (s : List ℕ) → Bytes s → (i : ℕ) → FitsState (taskFrom s i .state)
+read-fits s h i =
+    let c = cut-fits s h taskWidths (i * taskLength) in
+    let d = cut-fits s h awaitedWidths (awaitedAt + i) in
+    let at = i * taskLength in
+    state-fits (numberOf (part 1 (at + 1) s)) (record { 0 = numberOf (part 8 (at + 1 + 1) s) }) (numberOf (part 4 (at + 1 + 1 + 8) s)) (numberOf (part 1 (awaitedAt + i) s))
+    (c .1 .1 .0) (c .1 .1 .1 .0) (d .0)
 
 task-fits : (s : List ℕ) → Bytes s → (i : ℕ) → Fits taskWidths (taskNumbers (taskFrom s i))
 task-fits s h i =
-    let c = cut-fits s h taskWidths i in
-    let n = state-fits (numberOf (part 1 (i + 1) s)) (record { 0 = numberOf (part 8 (i + 1 + 1) s) }) (numberOf (part 4 (i + 1 + 1 + 8) s)) (c .1 .1 .0) (c .1 .1 .1 .0) in
+    let c = cut-fits s h taskWidths (i * taskLength) in
+    let n = read-fits s h i in
     (c .0, (n .0, (n .1 .0, (n .1 .1 .0, c .1 .1 .1 .1))))
+
+awaited-fits : (s : List ℕ) → Bytes s → (i : ℕ) → Fits awaitedWidths (awaitedNumbers (taskFrom s i))
+awaited-fits s h i = read-fits s h i .1 .1 .1
+
+line-fits : (s : List ℕ) → Bytes s → (at : ℕ) → Each (λ k. Fits placeWidths (placeNumbers k)) (lineFrom s at)
+line-fits s h at = each-block (λ k. Fits placeWidths (placeNumbers k)) (placeFrom s) (cut-fits s h placeWidths) 1 16 at
+
+sub-fits : (s : List ℕ) → Bytes s → (at : ℕ) → FitsSub (subFrom s at)
+sub-fits s h at = record { numbers = cut-fits s h subWidths at; size = length-blocks (placeFrom s) 1 16 (at + 2); line = line-fits s h (at + 2) }
+
+-- each line of subprograms that fit is as long as it must be
+pub line-sizes : (ss : List Sub) → Each FitsSub ss → (m : ℕ) → length (getD ss m noSub .line) ≡ 16
+unfolding pad
+line-sizes ss h = each-or (λ x. length (x .line) ≡ 16) noSub refl ss (each-so FitsSub (λ x. length (x .line) ≡ 16) (λ x f. f .size) ss h)
 
 pub load-fits : (s : List ℕ) → Bytes s → FitsTable (loadOf s)
 unfolding loadOf
-load-fits s h = record {
-  sizes = record {
-    tasks = length-blocks (taskFrom s) 26 16 0;
-    queue = length-blocks (placeFrom s) 1 16 queueAt;
-    alarms = length-blocks (alarmFrom s) 8 32 alarmsAt;
-    pool = length-blocks (requestFrom s) 6 32 poolAt;
-  };
-  tasks = each-block (λ e. Fits taskWidths (taskNumbers e)) (taskFrom s) (task-fits s h) 26 16 0;
-  queue = each-block (λ k. Fits placeWidths (placeNumbers k)) (placeFrom s) (cut-fits s h placeWidths) 1 16 queueAt;
-  head = cut-fits s h headWidths headAt;
-  alarms = each-block (λ a. Fits alarmWidths (alarmNumbers a)) (alarmFrom s) (cut-fits s h alarmWidths) 8 32 alarmsAt;
-  pool = each-block (λ r. Fits requestWidths (requestNumbers r)) (requestFrom s) (cut-fits s h requestWidths) 6 32 poolAt;
-  levels = cut-fits s h levelsWidths levelsAt;
-}
+load-fits s h =
+    let ss = each-block FitsSub (subFrom s) (sub-fits s h) subLength 8 subsAt in
+    record {
+      sizes = record {
+        tasks = length-blocks (taskFrom s) 1 16 0;
+        queue = length-blocks (placeFrom s) 1 16 queueAt;
+        alarms = length-blocks (alarmFrom s) 8 32 alarmsAt;
+        pool = length-blocks (requestFrom s) 6 32 poolAt;
+        subs = length-blocks (subFrom s) subLength 8 subsAt;
+        lines = line-sizes (blocks (subFrom s) subLength 8 subsAt) ss;
+      };
+      tasks = each-block (λ e. Fits taskWidths (taskNumbers e)) (taskFrom s) (task-fits s h) 1 16 0;
+      queue = line-fits s h queueAt;
+      head = cut-fits s h headWidths headAt;
+      alarms = each-block (λ a. Fits alarmWidths (alarmNumbers a)) (alarmFrom s) (cut-fits s h alarmWidths) 8 32 alarmsAt;
+      pool = each-block (λ r. Fits requestWidths (requestNumbers r)) (requestFrom s) (cut-fits s h requestWidths) 6 32 poolAt;
+      levels = cut-fits s h levelsWidths levelsAt;
+      awaited = each-block (λ e. Fits awaitedWidths (awaitedNumbers e)) (taskFrom s) (awaited-fits s h) 1 16 0;
+      subs = ss;
+    }

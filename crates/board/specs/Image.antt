@@ -1,5 +1,5 @@
--- The image of a table: 898 bytes, numbers big-endian. docs/TABLE.md has the layout in words.
-use Prim.Native.Nat.{ℕ, _+_}
+-- The image of a table: 1,058 bytes, numbers big-endian. docs/TABLE.md has the layout in words.
+use Prim.Native.Nat.{ℕ, _+_, _*_}
 use mathlib.Core.Path.{_≡_}
 use mathlib.Core.Bool.{Bool, false, cond}
 use mathlib.Core.List.{List, [], _∷_, _++_}
@@ -10,8 +10,9 @@ use Rattle.records.specs.Numbers.{lay, cut, Fits}
 use Rattle.executive.specs.declared.Millis.{Millis}
 use Rattle.executive.specs.declared.Task.{Task}
 use Rattle.executive.specs.declared.Request.{Request}
+use Rattle.executive.specs.declared.Sub.{Sub}
 use Rattle.executive.specs.declared.Table.{Table}
-use Rattle.executive.specs.States.{stateKind, timeOf, maskOf, stateOf}
+use Rattle.executive.specs.States.{stateKind, timeOf, maskOf, awaitedOf, stateOf}
 use Rattle.executive.specs.WellFormed.{Sizes}
 use Rattle.board.specs.Blocks.{row, blocks, Each, same}
 
@@ -39,15 +40,27 @@ requestWidths = 1 ∷ 1 ∷ 2 ∷ 1 ∷ 1 ∷ []
 abbrev pub levelsWidths : List ℕ
 levelsWidths = 2 ∷ []
 
+-- the number that a task's state waits for
+abbrev pub awaitedWidths : List ℕ
+awaitedWidths = 1 ∷ []
+
+-- of a subprogram the holder and how many wait; its line, place by place, stands behind them
+abbrev pub subWidths : List ℕ
+subWidths = 1 ∷ 1 ∷ []
+
 -- ---- the numbers of each block, and the block's value from its numbers
 abbrev pub taskNumbers : Task → List ℕ
 taskNumbers e =
     e .own ∷ stateKind (e .state) ∷ timeOf (e .state) .0 ∷ maskOf (e .state) ∷ e .priority ∷ e .argument ∷ e .start .0 ∷ e .«end_waiter» .0 ∷ []
 
-abbrev pub taskOf : List ℕ → Task
-taskOf xs = record {
+-- a task is made of its entry's numbers and, apart from them, the number that its state waits for
+abbrev pub awaitedNumbers : Task → List ℕ
+awaitedNumbers e = awaitedOf (e .state) ∷ []
+
+abbrev pub taskOf : List ℕ → List ℕ → Task
+taskOf xs ys = record {
   own = getD xs 0 0;
-  state = stateOf (getD xs 1 0) (record { 0 = getD xs 2 0 }) (getD xs 3 0);
+  state = stateOf (getD xs 1 0) (record { 0 = getD xs 2 0 }) (getD xs 3 0) (getD ys 0 0);
   priority = getD xs 4 0;
   argument = getD xs 5 0;
   start = record { 0 = getD xs 6 0 };
@@ -84,6 +97,12 @@ requestOf xs = record {
 abbrev pub levelsNumbers : Table → List ℕ
 levelsNumbers t = t .levels ∷ []
 
+abbrev pub subNumbers : Sub → List ℕ
+subNumbers s = s .holder .0 ∷ s .waiting ∷ []
+
+abbrev pub subOf : List ℕ → List TaskNo → Sub
+subOf xs ks = record { holder = record { 0 = getD xs 0 0 }; line = ks; waiting = getD xs 1 0 }
+
 -- ---- the image: where each part begins, and how long it all is. A part that comes later stands behind those before it
 abbrev pub queueAt : ℕ
 queueAt = 416
@@ -100,8 +119,21 @@ poolAt = 704
 abbrev pub levelsAt : ℕ
 levelsAt = 896
 
+abbrev pub awaitedAt : ℕ
+awaitedAt = 898
+
+abbrev pub subsAt : ℕ
+subsAt = 914
+
 abbrev pub imageLength : ℕ
-imageLength = 898
+imageLength = 1058
+
+-- how long a task's entry is, and a subprogram
+abbrev pub taskLength : ℕ
+taskLength = 26
+
+abbrev pub subLength : ℕ
+subLength = 18
 
 abbrev pub taskBytes : Task → List ℕ
 taskBytes e = lay taskWidths (taskNumbers e)
@@ -121,6 +153,12 @@ requestBytes r = lay requestWidths (requestNumbers r)
 abbrev pub levelsBytes : Table → List ℕ
 levelsBytes t = lay levelsWidths (levelsNumbers t)
 
+abbrev pub awaitedBytes : Task → List ℕ
+awaitedBytes e = lay awaitedWidths (awaitedNumbers e)
+
+abbrev pub subBytes : Sub → List ℕ
+subBytes s = lay subWidths (subNumbers s) ++ row placeBytes (s .line)
+
 unfoldable pub imageOf : Table → List ℕ
 imageOf t =
     row taskBytes (t .tasks)
@@ -128,7 +166,9 @@ imageOf t =
     ++ (headBytes t
     ++ (row alarmBytes (t .rest .alarms)
     ++ (row requestBytes (t .rest .pool)
-    ++ levelsBytes t))))
+    ++ (levelsBytes t
+    ++ (row awaitedBytes (t .tasks)
+    ++ row subBytes (t .rest .subs)))))))
 
 -- the board's own number, judged before any other: a buffer that is to be written to has not the length it needs
 abbrev pub noRoom : ℕ
@@ -147,8 +187,9 @@ pub record Stores (t : Table) (o p : List ℕ) (n : ℕ) : Type 0 where
   pub image : p ≡ storeBytes t o
 
 -- ---- the table of any bytes; those past the end read as 0
+-- the task whose entry is the i-th
 abbrev pub taskFrom : List ℕ → ℕ → Task
-taskFrom s at = taskOf (cut taskWidths at s)
+taskFrom s i = taskOf (cut taskWidths (i * taskLength) s) (cut awaitedWidths (awaitedAt + i) s)
 
 abbrev pub placeFrom : List ℕ → ℕ → TaskNo
 placeFrom s at = placeOf (cut placeWidths at s)
@@ -159,9 +200,16 @@ alarmFrom s at = alarmOf (cut alarmWidths at s)
 abbrev pub requestFrom : List ℕ → ℕ → Request
 requestFrom s at = requestOf (cut requestWidths at s)
 
--- the table of the head's numbers, the four arrays and the word
-abbrev pub tableOf : List ℕ → List Task → List TaskNo → List Millis → List Request → List ℕ → Table
-tableOf xs ts q al rs ws = record {
+-- the sixteen places of a line
+abbrev pub lineFrom : List ℕ → ℕ → List TaskNo
+lineFrom s at = blocks (placeFrom s) 1 16 at
+
+abbrev pub subFrom : List ℕ → ℕ → Sub
+subFrom s at = subOf (cut subWidths at s) (lineFrom s (at + 2))
+
+-- the table of the head's numbers, the five arrays and the word
+abbrev pub tableOf : List ℕ → List Task → List TaskNo → List Millis → List Request → List ℕ → List Sub → Table
+tableOf xs ts q al rs ws ss = record {
   tasks = ts;
   queue = q;
   ready = getD xs 0 0;
@@ -174,17 +222,19 @@ tableOf xs ts q al rs ws = record {
     alarms = al;
     pool = rs;
     queued = getD xs 3 0;
+    subs = ss;
   };
 }
 
 unfoldable pub loadOf : List ℕ → Table
 loadOf s =
     tableOf (cut headWidths headAt s)
-    (blocks (taskFrom s) 26 16 0)
-    (blocks (placeFrom s) 1 16 queueAt)
+    (blocks (taskFrom s) 1 16 0)
+    (lineFrom s queueAt)
     (blocks (alarmFrom s) 8 32 alarmsAt)
     (blocks (requestFrom s) 6 32 poolAt)
     (cut levelsWidths levelsAt s)
+    (blocks (subFrom s) subLength 8 subsAt)
 
 -- the contracts: t is the table of the bytes s; storing t and loading it gives u
 abbrev pub Loads : List ℕ → Table → Type 0
@@ -201,6 +251,11 @@ abbrev pub isImage : List ℕ → Bool
 isImage s = isImageOf s (loadOf s)
 
 -- ---- every number fits its width, and every array has its length: so it is of each table that code holds
+pub record FitsSub (s : Sub) : Type 0 where
+  pub numbers : Fits subWidths (subNumbers s)
+  pub size : length (s .line) ≡ 16
+  pub line : Each (λ k. Fits placeWidths (placeNumbers k)) (s .line)
+
 pub record FitsTable (t : Table) : Type 0 where
   pub sizes : Sizes t
   pub tasks : Each (λ e. Fits taskWidths (taskNumbers e)) (t .tasks)
@@ -209,3 +264,5 @@ pub record FitsTable (t : Table) : Type 0 where
   pub alarms : Each (λ a. Fits alarmWidths (alarmNumbers a)) (t .rest .alarms)
   pub pool : Each (λ r. Fits requestWidths (requestNumbers r)) (t .rest .pool)
   pub levels : Fits levelsWidths (levelsNumbers t)
+  pub awaited : Each (λ e. Fits awaitedWidths (awaitedNumbers e)) (t .tasks)
+  pub subs : Each FitsSub (t .rest .subs)

@@ -19,11 +19,22 @@ pub mod storing;
 // other number.
 pub(crate) const NO_ROOM: u8 = 30;
 
-// The length of an image in bytes.
-pub(crate) const IMAGE: usize = 898;
+// Where the parts of an image begin: the tasks' entries at 0, then the queue, the numbers that stand alone from 432 on, the
+// alarms, the pool, the word of the ready levels, the numbers that the tasks' states wait for, the subprograms.
+pub(crate) const QUEUE: usize = 416;
 
-// Where the word of the ready levels stands in an image.
+pub(crate) const ALARMS: usize = 448;
+
+pub(crate) const POOL: usize = 704;
+
 pub(crate) const LEVELS: usize = 896;
+
+pub(crate) const AWAITED: usize = 898;
+
+pub(crate) const SUBS: usize = 914;
+
+// The length of an image in bytes.
+pub(crate) const IMAGE: usize = 1058;
 
 // What the lamp reads where nothing is shown: no priority.
 const LAMP_DARK: u8 = 16;

@@ -1,23 +1,30 @@
 // Loading: from the bytes of an image to the table. Any bytes load; those past the end read as 0.
+use crate::ALARMS;
+use crate::AWAITED;
 use crate::LEVELS;
+use crate::POOL;
+use crate::QUEUE;
+use crate::SUBS;
 use crate::numbers;
 use executive::Millis;
 use executive::Mode;
 use executive::Request;
 use executive::Rest;
 use executive::State;
+use executive::Sub;
 use executive::Table;
 use executive::Task;
+use records::SubNo;
 use records::TaskNo;
 ghost use mathlib.Core.Path.{_≡_};
 ghost use Prim.Native.Nat.{_≤_};
 ghost use Rattle.executive.specs.States.{stateOf};
 ghost use Rattle.board.specs.Blocks.{blocks};
-ghost use Rattle.board.specs.Image.{taskFrom, placeFrom, alarmFrom, requestFrom, queueAt, alarmsAt, poolAt, Loads};
+ghost use Rattle.board.specs.Image.{taskFrom, lineFrom, alarmFrom, requestFrom, subFrom, alarmsAt, poolAt, subsAt, subLength, Loads};
 
-// The state of a kind, a time and a mask. A byte that is no kind gives a wait that no well-formed table holds.
-fn state_of(kind: u8, time: Millis, mask: u32) -> State
-    ensures { λ r. ⌜ r ≡ stateOf kind time mask ⌝ }
+// The state of a kind, a time, a mask and a number. A byte that is no kind gives a wait that no well-formed table holds.
+fn state_of(kind: u8, time: Millis, mask: u32, number: u8) -> State
+    ensures { λ r. ⌜ r ≡ stateOf kind time mask number ⌝ }
 {
     match kind {
         0 => State::Dormant,
@@ -28,15 +35,17 @@ fn state_of(kind: u8, time: Millis, mask: u32) -> State
         5 => State::Flags(Mode::All, mask),
         6 => State::AwaitStart,
         7 => State::AwaitEnd,
+        8 => State::AwaitSub(SubNo(number)),
         _ => State::Flags(Mode::Any, 0),
     }
 }
 
-// The task's entry at a place.
-fn task_in(bytes: &[u8], at: usize) -> Task
-    requires { ⌜ at ≤ 800 ⌝ }
-    ensures { λ r. ⌜ r ≡ taskFrom (now (bytes .entry)) at ⌝ }
+// The task whose entry is the i-th.
+fn task_in(bytes: &[u8], i: usize) -> Task
+    requires { ⌜ i ≤ 16 ⌝ }
+    ensures { λ r. ⌜ r ≡ taskFrom (now (bytes .entry)) i ⌝ }
 {
+    let at = i * 26;
     let own = numbers::byte_in(bytes, at);
     let kind_at = at + 1;
     let kind = numbers::byte_in(bytes, kind_at);
@@ -51,9 +60,10 @@ fn task_in(bytes: &[u8], at: usize) -> Task
     let start_at = argument_at + 2;
     let start = numbers::long_in(bytes, start_at);
     let end_waiter = numbers::byte_in(bytes, start_at + 8);
+    let awaited = numbers::byte_in(bytes, AWAITED + i);
     Task {
         own,
-        state: state_of(kind, Millis(time), mask),
+        state: state_of(kind, Millis(time), mask, awaited),
         priority,
         argument,
         start: Millis(start),
@@ -84,28 +94,30 @@ fn request_in(bytes: &[u8], at: usize) -> Request
 }
 
 fn tasks_in(bytes: &[u8]) -> [Task; 16]
-    ensures { λ r. ⌜ r ≡ blocks (taskFrom (now (bytes .entry))) 26 16 0 ⌝ }
+    ensures { λ r. ⌜ r ≡ blocks (taskFrom (now (bytes .entry))) 1 16 0 ⌝ }
 {
     let first = task_in(bytes, 0);
     let mut tasks = [first; 16];
     let mut i: usize = 0;
     while i < 16 {
-        tasks[i] = task_in(bytes, i * 26);
+        tasks[i] = task_in(bytes, i);
         i += 1;
     }
     tasks
 }
 
-fn queue_in(bytes: &[u8]) -> [TaskNo; 16]
-    ensures { λ r. ⌜ r ≡ blocks (placeFrom (now (bytes .entry))) 1 16 queueAt ⌝ }
+// The sixteen places of a line: of the queue, of a subprogram.
+fn line_in(bytes: &[u8], at: usize) -> [TaskNo; 16]
+    requires { ⌜ at ≤ 1042 ⌝ }
+    ensures { λ r. ⌜ r ≡ lineFrom (now (bytes .entry)) at ⌝ }
 {
-    let mut queue = [TaskNo(0); 16];
+    let mut line = [TaskNo(0); 16];
     let mut i: usize = 0;
     while i < 16 {
-        queue[i] = TaskNo(numbers::byte_in(bytes, 416 + i));
+        line[i] = TaskNo(numbers::byte_in(bytes, at + i));
         i += 1;
     }
-    queue
+    line
 }
 
 fn alarms_in(bytes: &[u8]) -> [Millis; 32]
@@ -114,7 +126,7 @@ fn alarms_in(bytes: &[u8]) -> [Millis; 32]
     let mut alarms = [Millis(0); 32];
     let mut i: usize = 0;
     while i < 32 {
-        alarms[i] = Millis(numbers::long_in(bytes, 448 + i * 8));
+        alarms[i] = Millis(numbers::long_in(bytes, ALARMS + i * 8));
         i += 1;
     }
     alarms
@@ -123,14 +135,42 @@ fn alarms_in(bytes: &[u8]) -> [Millis; 32]
 fn pool_in(bytes: &[u8]) -> [Request; 32]
     ensures { λ r. ⌜ r ≡ blocks (requestFrom (now (bytes .entry))) 6 32 poolAt ⌝ }
 {
-    let first = request_in(bytes, 704);
+    let first = request_in(bytes, POOL);
     let mut pool = [first; 32];
     let mut i: usize = 0;
     while i < 32 {
-        pool[i] = request_in(bytes, 704 + i * 6);
+        pool[i] = request_in(bytes, POOL + i * 6);
         i += 1;
     }
     pool
+}
+
+// The subprogram at a place.
+fn sub_in(bytes: &[u8], at: usize) -> Sub
+    requires { ⌜ at ≤ 1040 ⌝ }
+    ensures { λ r. ⌜ r ≡ subFrom (now (bytes .entry)) at ⌝ }
+{
+    let holder = numbers::byte_in(bytes, at);
+    let waiting = numbers::byte_in(bytes, at + 1);
+    let line = line_in(bytes, at + 2);
+    Sub {
+        holder: TaskNo(holder),
+        line,
+        waiting,
+    }
+}
+
+fn subs_in(bytes: &[u8]) -> [Sub; 8]
+    ensures { λ r. ⌜ r ≡ blocks (subFrom (now (bytes .entry))) subLength 8 subsAt ⌝ }
+{
+    let first = sub_in(bytes, SUBS);
+    let mut subs = [first; 8];
+    let mut i: usize = 0;
+    while i < 8 {
+        subs[i] = sub_in(bytes, SUBS + i * 18);
+        i += 1;
+    }
+    subs
 }
 
 // The table of any bytes.
@@ -138,9 +178,10 @@ pub fn load(bytes: &[u8]) -> Table
     ensures { λ r. ⌜ Loads (now (bytes .entry)) r ⌝ }
 {
     let tasks = tasks_in(bytes);
-    let queue = queue_in(bytes);
+    let queue = line_in(bytes, QUEUE);
     let alarms = alarms_in(bytes);
     let pool = pool_in(bytes);
+    let subs = subs_in(bytes);
     let clock = numbers::long_in(bytes, 436);
     let rest = Rest {
         count: numbers::byte_in(bytes, 433),
@@ -150,6 +191,7 @@ pub fn load(bytes: &[u8]) -> Table
         alarms,
         pool,
         queued: numbers::byte_in(bytes, 435),
+        subs,
     };
     Table {
         tasks,

@@ -29,6 +29,7 @@ fn kind_of(cause: Cause) -> u8
         Cause::Start(_, _) => 6,
         Cause::EndOfRequest(_, _) => 7,
         Cause::EndOfRun(_) => 8,
+        Cause::Subprogram(_, _) => 9,
     }
 }
 
@@ -46,6 +47,7 @@ fn waited_on(cause: Cause) -> TaskNo
         Cause::Start(_, task) => task,
         Cause::EndOfRequest(_, task) => task,
         Cause::EndOfRun(task) => task,
+        Cause::Subprogram(_, task) => task,
     }
 }
 
@@ -59,7 +61,7 @@ fn mode_byte(mode: Mode) -> u8
     }
 }
 
-// How many are ahead, the mode of a wait for flags, or a request's place.
+// How many are ahead, the mode of a wait for flags, a request's place, or a subprogram's number.
 fn own_byte(cause: Cause) -> u8
     ensures { λ r. ⌜ r ≡ ownByte cause ⌝ }
 {
@@ -73,6 +75,7 @@ fn own_byte(cause: Cause) -> u8
         Cause::Start(place, _) => place,
         Cause::EndOfRequest(place, _) => place,
         Cause::EndOfRun(_) => 0,
+        Cause::Subprogram(m, _) => m.0,
     }
 }
 
@@ -90,6 +93,7 @@ fn until_of(cause: Cause) -> u64
         Cause::Start(_, _) => 0,
         Cause::EndOfRequest(_, _) => 0,
         Cause::EndOfRun(_) => 0,
+        Cause::Subprogram(_, _) => 0,
     }
 }
 

@@ -1,12 +1,18 @@
 // Storing: from a table to its image, in a lent buffer.
+use crate::ALARMS;
+use crate::AWAITED;
 use crate::IMAGE;
 use crate::LEVELS;
 use crate::NO_ROOM;
+use crate::POOL;
+use crate::QUEUE;
+use crate::SUBS;
 use crate::numbers;
 use executive::Millis;
 use executive::Request;
 use executive::Rest;
 use executive::State;
+use executive::Sub;
 use executive::Table;
 use executive::Task;
 use executive::states;
@@ -16,7 +22,7 @@ ghost use mathlib.Core.List.{[], _∷_};
 ghost use Prim.Native.Nat.{_+_, _≤_};
 ghost use lib.ListN.{length};
 ghost use Rattle.board.specs.Blocks.{row, written};
-ghost use Rattle.board.specs.Image.{taskBytes, placeBytes, alarmBytes, requestBytes, queueAt, headAt, alarmsAt, poolAt, imageLength, imageOf, Stores};
+ghost use Rattle.board.specs.Image.{taskBytes, placeBytes, alarmBytes, requestBytes, awaitedBytes, subBytes, headAt, alarmsAt, poolAt, awaitedAt, subsAt, imageLength, imageOf, Stores};
 ghost use Rattle.board.specs.Coding.{frontBytes, runBytes, headOf};
 
 // Writes two bytes from a place on.
@@ -110,13 +116,14 @@ fn put_tasks(out: &mut [u8], tasks: [Task; 16])
     }
 }
 
-fn put_queue(out: &mut [u8], queue: [TaskNo; 16])
-    requires { ⌜ length (now out) ≡ imageLength ⌝ }
-    ensures { λ _. ⌜ (length queue ≡ 16) × (now (out .exit) ≡ written (now (out .entry)) queueAt (row placeBytes queue)) ⌝ }
+// The sixteen places of a line: of the queue, of a subprogram.
+fn put_line(out: &mut [u8], at: usize, line: [TaskNo; 16])
+    requires { ⌜ at + 16 ≤ length (now out) ⌝ }
+    ensures { λ _. ⌜ (length line ≡ 16) × (now (out .exit) ≡ written (now (out .entry)) at (row placeBytes line)) ⌝ }
 {
     let mut i: usize = 0;
     while i < 16 {
-        put_place(out, 416 + i, queue[i]);
+        put_place(out, at + i, line[i]);
         i += 1;
     }
 }
@@ -127,7 +134,7 @@ fn put_alarms(out: &mut [u8], alarms: [Millis; 32])
 {
     let mut i: usize = 0;
     while i < 32 {
-        put_alarm(out, 448 + i * 8, alarms[i]);
+        put_alarm(out, ALARMS + i * 8, alarms[i]);
         i += 1;
     }
 }
@@ -138,7 +145,49 @@ fn put_pool(out: &mut [u8], pool: [Request; 32])
 {
     let mut i: usize = 0;
     while i < 32 {
-        put_request(out, 704 + i * 6, pool[i]);
+        put_request(out, POOL + i * 6, pool[i]);
+        i += 1;
+    }
+}
+
+// Writes the number that a task's state waits for.
+fn put_awaited(out: &mut [u8], at: usize, task: Task)
+    requires { ⌜ at + 1 ≤ length (now out) ⌝ }
+    ensures { λ _. ⌜ now (out .exit) ≡ written (now (out .entry)) at (awaitedBytes task) ⌝ }
+{
+    let state = task.state;
+    let number = states::awaited_of(state);
+    numbers::put(out, at, 1, number as u64);
+}
+
+fn put_all_awaited(out: &mut [u8], tasks: [Task; 16])
+    requires { ⌜ length (now out) ≡ imageLength ⌝ }
+    ensures { λ _. ⌜ now (out .exit) ≡ written (now (out .entry)) awaitedAt (row awaitedBytes tasks) ⌝ }
+{
+    let mut i: usize = 0;
+    while i < 16 {
+        put_awaited(out, AWAITED + i, tasks[i]);
+        i += 1;
+    }
+}
+
+// Writes a subprogram over 18 bytes.
+fn put_sub(out: &mut [u8], at: usize, sub: Sub)
+    requires { ⌜ at + 18 ≤ length (now out) ⌝ }
+    ensures { λ _. ⌜ (length (sub .line) ≡ 16) × (now (out .exit) ≡ written (now (out .entry)) at (subBytes sub)) ⌝ }
+{
+    put_both(out, at, sub.holder.0, sub.waiting);
+    let line = sub.line;
+    put_line(out, at + 2, line);
+}
+
+fn put_subs(out: &mut [u8], subs: [Sub; 8])
+    requires { ⌜ length (now out) ≡ imageLength ⌝ }
+    ensures { λ _. ⌜ now (out .exit) ≡ written (now (out .entry)) subsAt (row subBytes subs) ⌝ }
+{
+    let mut i: usize = 0;
+    while i < 8 {
+        put_sub(out, SUBS + i * 18, subs[i]);
         i += 1;
     }
 }
@@ -151,7 +200,7 @@ pub(crate) fn put_table(out: &mut [u8], table: Table)
     let tasks = table.tasks;
     put_tasks(out, tasks);
     let queue = table.queue;
-    put_queue(out, queue);
+    put_line(out, QUEUE, queue);
     let rest = table.rest;
     put_head(out, table.ready, rest);
     let alarms = rest.alarms;
@@ -159,6 +208,9 @@ pub(crate) fn put_table(out: &mut [u8], table: Table)
     let pool = rest.pool;
     put_pool(out, pool);
     numbers::put(out, LEVELS, 2, table.levels as u64);
+    put_all_awaited(out, tasks);
+    let subs = rest.subs;
+    put_subs(out, subs);
 }
 
 // Stores a table: 0 and its image in out, or 30 where out has not the image's length, and no byte is changed.

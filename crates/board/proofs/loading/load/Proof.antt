@@ -18,10 +18,11 @@ returns c =
       c .before .before .before .before .byte-in2 .ensures,
       c .before .before .before .before .before .byte-in .ensures,
       m .long-in .ensures,
-      m .before .pool-in .ensures,
-      m .before .before .alarms-in .ensures,
-      m .before .before .before .queue-in .ensures,
-      m .before .before .before .before .tasks-in .ensures,
+      m .before .subs-in .ensures,
+      m .before .before .pool-in .ensures,
+      m .before .before .before .alarms-in .ensures,
+      m .before .before .before .before .line-in .ensures,
+      m .before .before .before .before .before .tasks-in .ensures,
     )
     refl
 
@@ -29,6 +30,7 @@ pub load-spec : {M : Type 1} → statement M
 load-spec =
     tie.close
     (tie.spec
+    (λ c κs. search needs)
     (λ c κs. search needs)
     (λ c κs. search needs)
     (λ c κs. search needs)

@@ -8,14 +8,15 @@ returns : tie.Need-returns
 returns c =
     rw (
       c .state-of .ensures,
-      c .before .byte-in4 .ensures,
-      c .before .before .long-in2 .ensures,
-      c .before .before .before .pair-in .ensures,
-      c .before .before .before .before .byte-in3 .ensures,
-      c .before .before .before .before .before .word-in .ensures,
-      c .before .before .before .before .before .before .long-in .ensures,
-      c .before .before .before .before .before .before .before .byte-in2 .ensures,
-      c .before .before .before .before .before .before .before .before .byte-in .ensures,
+      c .before .byte-in5 .ensures,
+      c .before .before .byte-in4 .ensures,
+      c .before .before .before .long-in2 .ensures,
+      c .before .before .before .before .pair-in .ensures,
+      c .before .before .before .before .before .byte-in3 .ensures,
+      c .before .before .before .before .before .before .word-in .ensures,
+      c .before .before .before .before .before .before .before .long-in .ensures,
+      c .before .before .before .before .before .before .before .before .byte-in2 .ensures,
+      c .before .before .before .before .before .before .before .before .before .byte-in .ensures,
     )
     refl
 
@@ -23,6 +24,9 @@ pub task-in-spec : {M : Type 1} → statement M
 task-in-spec =
     tie.close
     (tie.spec
+    (λ c. search needs)
+    (λ c κs. search needs)
+    (λ c. search needs)
     (λ c κs. search needs)
     (λ c. search needs)
     (λ c κs. search needs)

@@ -1,4 +1,4 @@
--- `storing::put_queue` meets its contract. The invariant: the blocks up to i are written, and nothing else.
+-- `storing::put_line` meets its contract. The invariant: the blocks up to i are written, and nothing else.
 use Prim.Native.Nat.{_+_, _-_, _≤_}
 use mathlib.Core.Path.{_≡_, refl, _∙_}
 use native.Mathlib.Omega.{arith}
@@ -7,21 +7,21 @@ use denote.Ref.{now}
 use borrow.Author.Needs.{needs}
 use Rattle.executive.specs.Places.{nobody}
 use Rattle.board.specs.Blocks.{row, written}
-use Rattle.board.specs.Image.{placeBytes, queueAt}
+use Rattle.board.specs.Image.{placeBytes}
 use Rattle.board.proofs.Spans.{row-start, row-turn, row-end}
-use Rattle.board.proofs.storing.put_queue.Statement.{statement}
-use Rattle.board.proofs.storing.put_queue.Tie as tie
+use Rattle.board.proofs.storing.put_line.Statement.{statement}
+use Rattle.board.proofs.storing.put_line.Tie as tie
 
 abbrev Inv-loop : tie.InvT-loop
-Inv-loop out₀ queue i₀ out i = (i ≤ 16) × (length queue ≡ 16) × (length out ≡ length out₀) × (out ≡ written out₀ queueAt (row placeBytes (take i queue)))
+Inv-loop out₀ at line i₀ out i = (i ≤ 16) × (length line ≡ 16) × (length out ≡ length out₀) × (out ≡ written out₀ at (row placeBytes (take i line)))
 
 abbrev μ-loop : tie.MeasureT-loop
-μ-loop out₀ queue i₀ out i = 16 - i
+μ-loop out₀ at line i₀ out i = 16 - i
 
 loop-holds : tie.Need-loop-holds Inv-loop μ-loop
 loop-holds c =
     let a = c .before .args in
-    (omega arith, c .before .good .1 .0 .1 .0 .1, refl, row-start placeBytes 1 (λ x. refl) (now (a .out)) (a .t2) queueAt)
+    (omega arith, c .before .good .1 .1 .0 .1 .0 .1, refl, row-start placeBytes 1 (λ x. refl) (now (a .out)) (a .t3) (a .at))
 
 loop-again : tie.Need-loop-again Inv-loop μ-loop
 loop-again c =
@@ -31,17 +31,17 @@ loop-again c =
       omega arith,
       v .inv .1,
       r .kept .0 ∙ v .inv .2,
-      row-turn placeBytes 1 (λ x. refl) (now (a .out)) (v .out) (r .last .0) (a .t2) queueAt (v .i) (416 + v .i) nobody (v .inv .3) (omega arith) (r .ensures) (omega arith) (omega (arith, c .before .before .before .before .before .before .before .before .pre)),
+      row-turn placeBytes 1 (λ x. refl) (now (a .out)) (v .out) (r .last .0) (a .t3) (a .at) (v .i) (a .at + v .i) nobody (v .inv .3) (omega arith) (r .ensures) (omega arith) (omega (arith, c .before .before .before .before .before .before .before .before .pre)),
     )
 
 returns : tie.Need-returns Inv-loop μ-loop
 returns c =
     let a = c .before .before .before .args in
     let v = c .before .loop in
-    (v .inv .1, row-end placeBytes 1 (λ x. refl) (now (a .out)) (v .out) (a .t2) queueAt (v .i) (v .inv .3) (omega arith))
+    (v .inv .1, row-end placeBytes 1 (λ x. refl) (now (a .out)) (v .out) (a .t3) (a .at) (v .i) (v .inv .3) (omega arith))
 
-pub put-queue-spec : {M : Type 1} → statement M
-put-queue-spec =
+pub put-line-spec : {M : Type 1} → statement M
+put-line-spec =
     tie.close
     (tie.spec
     Inv-loop
