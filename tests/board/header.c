@@ -40,6 +40,8 @@ static void try_builders(void) {
     TRY("05", quermanic_put_queue(record, QUERMANIC_WAIT_FOR_END | 7, 2, 0x1234), "\x05\x47\x02\x12\x34");
     TRY("05 without argument", quermanic_put_queue(record, QUERMANIC_WAIT_FOR_START | QUERMANIC_NO_ARGUMENT, 2, 0),
         "\x05\x30\x02\x00\x00");
+    TRY("06", quermanic_put_enter(record, 7), "\x06\x07");
+    TRY("07", quermanic_put_exit(record, 0), "\x07\x00");
     TRY("09", quermanic_put_flag(record, QUERMANIC_SET, 31), "\x09\x01\x1F");
     TRY("0A", quermanic_put_wait(record, QUERMANIC_ALL, QUERMANIC_MASK_OF(31) | QUERMANIC_MASK_OF(0)),
         "\x0A\x01\x80\x00\x00\x01");
@@ -88,6 +90,13 @@ static void try_readers(void) {
     length = quermanic_put_restart(record, QUERMANIC_SKIP_MISSED, QUERMANIC_UNIT_10_MS, 10);
     tell("a restart", quermanic_step(image, room, record, length, answer, answer_room) == QUERMANIC_ACCEPTED);
     tell("two starts skipped", quermanic_skipped_of(answer) == 2);
+    tell("all subprograms are free", quermanic_holder_of(image, 0) == 0 && quermanic_holder_of(image, 7) == 0);
+    length = quermanic_put_start(record, 5, 2);
+    tell("nobody is active", quermanic_step(image, room, record, length, answer, answer_room) == QUERMANIC_IDLE);
+    quermanic_step(image, room, record, quermanic_put_tick(record), answer, answer_room);
+    length = quermanic_put_enter(record, 7);
+    tell("a subprogram", quermanic_step(image, room, record, length, answer, answer_room) == QUERMANIC_ACCEPTED);
+    tell("its holder", quermanic_holder_of(image, 7) == 1 && quermanic_holder_of(image, 6) == 0);
 }
 
 int main(void) {

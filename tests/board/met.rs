@@ -6,13 +6,13 @@ use model::why::{Reason, Why};
 use std::collections::BTreeMap;
 
 /// The numbers that must be met: by steps, and by the making of fresh tables.
-const OF_STEPS: [u8; 11] = [0, 1, 3, 4, 5, 6, 7, 8, 9, 10, 30];
+const OF_STEPS: [u8; 14] = [0, 1, 3, 4, 5, 6, 7, 8, 9, 10, 13, 14, 15, 30];
 const OF_FRESH: [u8; 3] = [0, 2, 30];
 /// The most ready tasks that a step can pass over: 1 to 15, by sixteen that enter an empty queue.
 const FARTHEST: u8 = 120;
 /// Those by questions why a task is not running, and the reasons.
 const OF_WHYS: [u8; 4] = [0, 1, 6, 30];
-const REASONS: [&str; 10] = [
+const REASONS: [&str; 11] = [
     "dormant",
     "active",
     "ready",
@@ -23,12 +23,13 @@ const REASONS: [&str; 10] = [
     "start of a request",
     "end of a request's run",
     "end of a run",
+    "subprogram",
 ];
 /// What waits for a time.
 const TIMED: [&str; 3] = ["paused task", "due task", "alarm"];
 /// The longest interval that is no day's: 255 hours.
 const HOURS: u64 = 918_000_000;
-const KINDS: [u8; 10] = [0x00, 0x01, 0x02, 0x03, 0x04, 0x05, 0x09, 0x0A, 0x0B, 0x80];
+const KINDS: [u8; 12] = [0x00, 0x01, 0x02, 0x03, 0x04, 0x05, 0x06, 0x07, 0x09, 0x0A, 0x0B, 0x80];
 
 #[derive(Default)]
 pub struct Met {
@@ -174,7 +175,7 @@ impl Met {
             && self.days.iter().all(|count| *count > 0)
             && OF_WHYS.iter().all(|n| self.whys.contains_key(n))
             && self.reasons.iter().all(|count| *count > 0)
-            && (2..=TASKS as u8).all(|many| self.rings.contains_key(&many))
+            && (1..=TASKS as u8).all(|many| self.rings.contains_key(&many))
             && self.led > 0
             && self.longest > 0
             && of(false) > 0
@@ -199,6 +200,7 @@ fn place_of(reason: Reason) -> usize {
         Reason::Start(..) => 7,
         Reason::EndOfRequest(..) => 8,
         Reason::EndOfRun(_) => 9,
+        Reason::Subprogram(..) => 10,
     }
 }
 

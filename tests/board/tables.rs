@@ -2,16 +2,28 @@
 
 use model::check::well_formed;
 use model::runs::Rng;
-use model::table::{Request, State, Table, Task, FLAGS, LAST_CLOCK, LONGEST, PLACES, TASKS};
+use model::table::{Request, State, Sub, Table, Task, FLAGS, LAST_CLOCK, LONGEST, PLACES, SUBS, TASKS};
 
 type Edit = fn(&mut Table, &mut Rng);
 
 /// Edits that mostly keep a table well formed.
-const EDITS: [Edit; 10] = [clock, forward, own, runs, flags, timed, waits, fill_pool, move_end, to_end];
+const EDITS: [Edit; 11] = [clock, forward, own, runs, flags, timed, waits, fill_pool, move_end, to_end, share];
 
 /// Edits that mostly break one rule, by as little as they can.
-const BREAKS: [Edit; 10] =
-    [bad_time, bad_alarm, bad_entry, bad_queue, bad_place, bad_link, two_waiters, bad_count, bad_clock, bad_levels];
+const BREAKS: [Edit; 12] = [
+    bad_time,
+    bad_alarm,
+    bad_entry,
+    bad_queue,
+    bad_place,
+    bad_link,
+    two_waiters,
+    bad_count,
+    bad_clock,
+    bad_levels,
+    bad_holder,
+    bad_line,
+];
 
 /// The table after an edit that keeps it well formed.
 pub fn edited(table: &Table, rng: &mut Rng) -> Table {
@@ -32,15 +44,16 @@ pub fn broken(table: &Table, rng: &mut Rng) -> Table {
     next
 }
 
-/// The table with some of its tasks waiting on one another, in a row: the last on one of those before it, so that they
-/// end in a ring, or on nobody. Waits of before are gone.
+/// The table with some of its tasks waiting on one another, in a row: the last on one of them, so that they end in a
+/// ring, or on nobody. Waits of before are gone.
 pub fn chained(table: &Table, rng: &mut Rng) -> Table {
     let mut next = *table;
     next.pool = Default::default();
     next.asked = 0;
+    next.subs = Default::default();
     for task in &mut next.tasks {
         task.end_waiter = 0;
-        if let State::WaitStart | State::WaitEnd = task.state {
+        if let State::WaitStart | State::WaitEnd | State::WaitSub(_) = task.state {
             *task = Task { own: task.own, ..Task::default() };
         }
     }
@@ -52,10 +65,8 @@ pub fn chained(table: &Table, rng: &mut Rng) -> Table {
         row.truncate(1 + rng.below(table.count as usize));
     }
     row.iter().for_each(|number| make_busy(&mut next, *number, rng));
-    if let [before @ .., _] = row.as_slice() {
-        if !before.is_empty() && !rng.one_in(3) {
-            row.push(rng.pick(before));
-        }
+    if !rng.one_in(3) {
+        row.push(rng.pick(&row));
     }
     for pair in row.windows(2) {
         make_wait(&mut next, pair[0], pair[1], rng);
@@ -76,12 +87,24 @@ fn make_busy(table: &mut Table, number: u8, rng: &mut Rng) {
     }
 }
 
-/// A task leaves whatever it does, and waits on another: for the start or the end of a request's run, or of its own.
+/// A task leaves whatever it does, and waits on another: for a subprogram that this one holds, for the start or the end
+/// of a request's run, or of its own. On itself it waits for a subprogram, or not at all.
 fn make_wait(table: &mut Table, waiter: u8, on: u8, rng: &mut Rng) {
+    let holds = |sub: &Sub| sub.holder == on || sub.holder == 0;
+    let held: Vec<usize> = (0..SUBS).filter(|place| holds(&table.subs[*place])).collect();
+    if waiter == on && held.is_empty() {
+        return;
+    }
     if let Some(place) = table.queue.iter().position(|ready| *ready == waiter) {
         table.queue.copy_within(place + 1.., place);
         table.queue[TASKS - 1] = 0;
         table.queued -= 1;
+    }
+    if waiter == on || !held.is_empty() && rng.one_in(3) {
+        let place = rng.pick(&held);
+        table.subs[place].holder = on;
+        stand_in(table, waiter, place);
+        return;
     }
     let start = rng.one_in(3);
     table.task_mut(waiter).state = if start { State::WaitStart } else { State::WaitEnd };
@@ -117,7 +140,7 @@ pub fn bad_record(record: &[u8], rng: &mut Rng) -> Vec<u8> {
         0 => bad.clear(),
         1 => bad.truncate(at),
         2 => bad.push(rng.byte()),
-        3 => bad[0] = rng.pick(&[0x06, 0x08, 0x0C, 0x3F, 0x40, 0x41, 0x42, 0x43, 0x81, 0xFF]),
+        3 => bad[0] = rng.pick(&[0x08, 0x0C, 0x0D, 0x3F, 0x40, 0x41, 0x42, 0x43, 0x81, 0xFF]),
         4 => bad[0] = rng.byte(),
         5 | 6 => bad[at] = rng.pick(&[0, 2, 3, 4, 5, 6, 0x10, 0x11, 0x1F, 0x20, 0x40, 0x60, 0x80]),
         _ => bad = (0..rng.below(9)).map(|_| rng.byte() & 0x0F).collect(),
@@ -142,6 +165,10 @@ fn mask(rng: &mut Rng) -> u32 {
 
 fn busy(table: &Table) -> Vec<u8> {
     (1..=table.count).filter(|&number| table.task(number).state != State::Dormant).collect()
+}
+
+fn dormant(table: &Table) -> Vec<u8> {
+    (1..=table.count).filter(|&number| table.task(number).state == State::Dormant).collect()
 }
 
 /// The clock is carried close to its end, or anywhere, and every time with it.
@@ -180,7 +207,7 @@ fn own(table: &mut Table, rng: &mut Rng) {
     }
 }
 
-/// Other priorities, arguments and scheduled starts, and the queue sorted again.
+/// Other priorities, arguments and scheduled starts, and the queue and the subprograms' lines sorted again.
 fn runs(table: &mut Table, rng: &mut Rng) {
     let clock = table.clock as usize;
     for number in busy(table) {
@@ -191,7 +218,10 @@ fn runs(table: &mut Table, rng: &mut Rng) {
         task.started = rng.pick(&[0, clock, any, any]) as u64;
     }
     let tasks = table.tasks;
-    table.queue[..table.queued as usize].sort_by_key(|&number| 15 - tasks[number as usize - 1].priority);
+    let lines = table.subs.iter_mut().map(|sub| &mut sub.line[..sub.waiting as usize]);
+    for line in lines.chain([&mut table.queue[..table.queued as usize]]) {
+        line.sort_by_key(|&number| 15 - tasks[number as usize - 1].priority);
+    }
 }
 
 /// Other flags, and other alarms.
@@ -267,6 +297,38 @@ fn to_end(table: &mut Table, _: &mut Rng) {
     }
 }
 
+/// A task that is in no queue waits in the line of a subprogram, behind its equals.
+fn stand_in(table: &mut Table, waiter: u8, place: usize) {
+    table.task_mut(waiter).state = State::WaitSub(place as u8);
+    let tasks = table.tasks;
+    let sub = &mut table.subs[place];
+    sub.line[sub.waiting as usize] = waiter;
+    sub.waiting += 1;
+    sub.line[..sub.waiting as usize].sort_by_key(|&number| 15 - tasks[number as usize - 1].priority);
+}
+
+/// Some subprograms have another holder, or none where nobody waits; some that waited for a time or for flags wait for
+/// a subprogram that is held.
+fn share(table: &mut Table, rng: &mut Rng) {
+    let busy = busy(table);
+    for _ in 0..1 + rng.below(3) {
+        let sub = &mut table.subs[rng.below(SUBS)];
+        if !busy.is_empty() {
+            sub.holder = if sub.waiting == 0 && rng.one_in(3) { 0 } else { rng.pick(&busy) };
+        }
+    }
+    let held: Vec<usize> = (0..SUBS).filter(|place| table.subs[*place].holder != 0).collect();
+    for number in busy {
+        let timed = matches!(
+            table.task(number).state,
+            State::Paused(_) | State::Due(_) | State::WaitAny(_) | State::WaitAll(_)
+        );
+        if timed && !held.is_empty() && rng.one_in(2) {
+            stand_in(table, number, rng.pick(&held));
+        }
+    }
+}
+
 /// The word of the ready levels with a bit too many, a bit missing, the bit of a task that is not ready, or none.
 fn bad_levels(table: &mut Table, rng: &mut Rng) {
     let task = table.tasks[rng.below(TASKS)];
@@ -319,14 +381,17 @@ fn bad_queue(table: &mut Table, rng: &mut Rng) {
 
 fn bad_place(table: &mut Table, rng: &mut Rng) {
     let place = rng.below((table.asked as usize + 2).min(PLACES));
+    let dormant = dormant(table);
     let request = &mut table.pool[place];
-    match rng.below(6) {
+    match rng.below(7) {
         0 => request.task = rng.below(18) as u8,
         1 => request.priority = 16,
         2 => request.argument ^= 1,
         3 => *request = Request::default(),
         4 => table.asked = table.asked.wrapping_sub(1),
-        _ => table.asked += 1,
+        5 => table.asked += 1,
+        _ if dormant.is_empty() => request.task = 0,
+        _ => request.task = rng.pick(&dormant),
     }
 }
 
@@ -350,6 +415,56 @@ fn two_waiters(table: &mut Table, _: &mut Rng) {
     let request = table.pool.iter_mut().find(|place| place.start_waiter != 0);
     if let (Some(waiter), Some(request)) = (waiter, request) {
         request.end_waiter = waiter;
+    }
+}
+
+/// The first subprogram with a line of so many, others aside, or the first of all.
+fn lined(table: &mut Table, least: u8) -> &mut Sub {
+    let place = table.subs.iter().position(|sub| sub.waiting >= least).unwrap_or(0);
+    &mut table.subs[place]
+}
+
+/// A subprogram with a holder that is dormant, is no task, or is missing where somebody waits.
+fn bad_holder(table: &mut Table, rng: &mut Rng) {
+    share(table, rng);
+    let dormant = dormant(table);
+    match rng.below(3) {
+        0 if !dormant.is_empty() => table.subs[rng.below(SUBS)].holder = rng.pick(&dormant),
+        1 => table.subs[rng.below(SUBS)].holder = table.count + rng.pick(&[1, 1, 16, 255 - table.count]),
+        _ => lined(table, 1).holder = 0,
+    }
+}
+
+/// A line with one in it twice, with two out of the order of priority, with one too many or too few, or with something
+/// behind it; a task that waits for no subprogram, or for one in whose line it does not stand.
+fn bad_line(table: &mut Table, rng: &mut Rng) {
+    share(table, rng);
+    let any = rng.below(table.count as usize);
+    let (number, far) = (any as u8 + 1, rng.below(TASKS));
+    match rng.below(8) {
+        0 => {
+            let sub = lined(table, 2);
+            sub.line[1] = sub.line[0];
+        }
+        1 => {
+            let sub = lined(table, 1);
+            sub.line[sub.waiting as usize % TASKS] = sub.line[0];
+            sub.waiting += 1;
+        }
+        2 => {
+            let sub = lined(table, 2);
+            sub.line.swap(0, (sub.waiting as usize).max(1) - 1);
+        }
+        3 => lined(table, 1).line[far] = number,
+        4 => lined(table, 1).waiting = rng.pick(&[0, 1, 2, 3, 16, 17]),
+        5 => lined(table, 1).line[TASKS - 1] = number,
+        6 => {
+            let waits = |task: &&mut Task| matches!(task.state, State::WaitSub(_));
+            if let Some(task) = table.tasks.iter_mut().find(waits) {
+                task.state = State::WaitSub(rng.pick(&[7, 8, 255]));
+            }
+        }
+        _ => table.tasks[any].state = State::WaitSub(rng.below(9) as u8),
     }
 }
 

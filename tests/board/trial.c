@@ -27,7 +27,7 @@ static const struct step listing[] = {
 };
 
 static const uint8_t tick[] = {0x80};
-static const uint8_t unknown[] = {0x06};
+static const uint8_t unknown[] = {0x08};
 
 static uint8_t image[QUERMANIC_IMAGE_LENGTH];
 static int failed = 0;
@@ -230,6 +230,51 @@ static void try_why(void) {
     tell("why of a damaged image: 1", why(whole, 3, room) == 1 && told[0] == 1 && all_are(0, 1));
 }
 
+/* Controlled subprograms: 2 holds subprogram 4 and pauses, 4, 3 and 1 wait for it, in this order; 1 has the highest
+ * priority, 3 and 4 are equal. Then the refusals, an image of before there were subprograms, and stray bytes. */
+static void try_subprograms(void) {
+    static const uint8_t four[] = {0x40, 1, 0x41, 8, 0, 0x41, 9, 1, 0x41, 7, 0, 0x41, 7, 1, 0x41, 1, 1, 0x42};
+    static const uint8_t enter[] = {0x06, 4}, leave[] = {0x07, 4}, end[] = {0x00}, again[] = {0x01, 0, 1};
+    static const uint8_t pause[] = {0x02, 0, 1};
+    const size_t whole = QUERMANIC_IMAGE_LENGTH;
+    uint8_t *sub = image + QUERMANIC_IMAGE_SUBPROGRAMS + 4 * QUERMANIC_SUBPROGRAM_LENGTH;
+    uint8_t *awaited = image + QUERMANIC_IMAGE_AWAITED;
+
+    quermanic_fresh(four, sizeof four, image, whole);
+    tell("entering a free one: 0, the caller goes on", goes_on(0, 0, enter, 2) && said[QUERMANIC_ANSWER_ACTIVE] == 2);
+    tell("its holder", sub[QUERMANIC_SUBPROGRAM_HOLDER] == 2 && sub[QUERMANIC_SUBPROGRAM_WAITING] == 0);
+    tell("entering it again: 13", goes_on(13, 0, enter, 2));
+    tell("leaving another: 14", goes_on(14, 0, (const uint8_t[]){0x07, 5}, 2));
+    tell("ending while holding: 15", goes_on(15, 0, end, 1) && goes_on(15, 0, again, 3));
+    tell("entering 8: 6, V", goes_on(6, 1, (const uint8_t[]){0x06, 8}, 2));
+    tell("leaving 8: 6, V", goes_on(6, 1, (const uint8_t[]){0x07, 8}, 2));
+    goes_on(0, 0, pause, 3);
+    tell("4 waits", goes_on(0, 0, enter, 2) && awaited[3] == 4 &&
+                        quermanic_state_of(image, 4) == QUERMANIC_STATE_WAITS_SUBPROGRAM);
+    tell("3 waits, started by 5", goes_on(0, 0, (const uint8_t[]){0x04, 7, 3}, 3) && goes_on(0, 0, enter, 2));
+    tell("1 waits, started by 5", goes_on(0, 0, (const uint8_t[]){0x04, 8, 1}, 3) && goes_on(0, 0, enter, 2));
+    tell("the line: 1, 4, 3", sub[QUERMANIC_SUBPROGRAM_WAITING] == 3 &&
+                                  memcmp(sub + QUERMANIC_SUBPROGRAM_LINE, "\1\4\3\0", 4) == 0);
+    tell("why of 3: subprogram 4, held by 2",
+         why(whole, 3, QUERMANIC_WHY_BYTES) == 0 && is_step(0, 3, QUERMANIC_CAUSE_SUBPROGRAM, 2, 4, 0) &&
+             is_step(1, 2, QUERMANIC_CAUSE_PAUSED, 0, 0, 1));
+    tell("leaving what another holds: 14", goes_on(14, 0, leave, 2));
+    goes_on(0, 0, tick, 1);
+    tell("2 leaves, and 1 holds it", goes_on(0, 0, leave, 2) && quermanic_holder_of(image, 4) == 1 &&
+                                         said[QUERMANIC_ANSWER_ACTIVE] == 2);
+    tell("1 is ready", quermanic_state_of(image, 1) == QUERMANIC_STATE_READY && awaited[0] == 0);
+    tell("the image is well formed", quermanic_check(image, whole) == 0);
+    tell("an image of before there were subprograms: 1", quermanic_check(image, QUERMANIC_IMAGE_AWAITED) == 1);
+    awaited[1] = 4;
+    tell("a number at a task that does not wait so: 1", quermanic_check(image, whole) == 1);
+    awaited[1] = 0;
+    awaited[2] = 8;
+    tell("a task that waits for 8: 1", quermanic_check(image, whole) == 1);
+    awaited[2] = 4;
+    sub[QUERMANIC_SUBPROGRAM_HOLDER] = 0;
+    tell("a line of a free one: 1", quermanic_check(image, whole) == 1);
+}
+
 /* The lamp and its word: after a fresh table, when idle, of other lengths, and with each bit of the word turned. */
 static void try_lamp(void) {
     static const uint8_t no_table[QUERMANIC_ANSWER_LENGTH] = {1, 0, 0, 0, 0};
@@ -261,6 +306,7 @@ int main(void) {
     try_skipping();
     try_walking();
     try_why();
+    try_subprograms();
     try_lamp();
     return failed;
 }

@@ -60,20 +60,23 @@ impl Trial<'_> {
         Ok(())
     }
 
-    /// The image that a board wrote before unit 5 was a day, and before there was the word of the ready levels, is refused;
-    /// with the word behind it (docs/EMBEDDING.md) it is well formed, and its steps go on.
+    /// The image that a board wrote before unit 5 was a day, and before there were the word of the ready levels and
+    /// subprograms, is refused; with the word and zeros behind it (docs/EMBEDDING.md) it is well formed, and its steps go
+    /// on.
     fn before_days(&mut self) -> Told {
         let text = include_str!("before-days.hex").lines();
         let bytes = text
             .filter(|line| !line.starts_with('#'))
             .flat_map(|line| line.split(' ').map(|byte| u8::from_str_radix(byte, 16).expect("a byte in hex")));
         let image: Vec<u8> = bytes.collect();
-        let (older, word) = image.split_at(WORD);
-        if self.library.check(older) != 1 {
-            return Err("an image without the word of the ready levels is taken".to_string());
+        let (older, later) = image.split_at(WORD);
+        let (word, subprograms) = later.split_at(2);
+        if self.library.check(older) != 1 || self.library.check(&image[..WORD + 2]) != 1 {
+            return Err("an image without the word of the ready levels, or without subprograms, is taken".to_string());
         }
-        if word != levels_of(older).to_be_bytes() || self.library.check(&image) != 0 {
-            return Err("the image of an older board, with its word, is refused".to_string());
+        let zeros = subprograms.iter().all(|byte| *byte == 0);
+        if word != levels_of(older).to_be_bytes() || !zeros || self.library.check(&image) != 0 {
+            return Err("the image of an older board, with its word and zeros, is refused".to_string());
         }
         self.image(&image, &[0x80])?;
         self.image(&image, &[0x00])?;
@@ -285,12 +288,16 @@ impl Trial<'_> {
     }
 }
 
-/// What the lamp shows of any bytes: the highest bit of the last two, where they have an image's length.
+/// What the lamp shows of any bytes: the highest bit of the word, where they have an image's length.
 fn shown(image: &[u8]) -> u32 {
-    match image {
-        [.., high, low] if image.len() == LENGTH => {
-            let word = u32::from(*high) << 8 | u32::from(*low);
-            word.checked_ilog2().unwrap_or(DARK)
+    match image.get(WORD..WORD + 2) {
+        Some([high, low]) if image.len() == LENGTH => {
+            let word = u16::from_be_bytes([*high, *low]);
+            if word == 0 {
+                DARK
+            } else {
+                15 - word.leading_zeros()
+            }
         }
         _ => DARK,
     }

@@ -4,7 +4,7 @@ use crate::bench::listing;
 use crate::check::well_formed;
 use crate::configuration::fresh;
 use crate::steps::step;
-use crate::table::{Answer, State, Table, Task, LAST_CLOCK, LONGEST};
+use crate::table::{Answer, State, Sub, Table, Task, LAST_CLOCK, LONGEST};
 use crate::why::{why, Reason, Why};
 
 /// The input of document 01's listing.
@@ -68,6 +68,10 @@ cards! {
     "broken tables give 1": broken_tables,
     "A2: a ring and what leads to it": ring_with_a_lead,
     "A2: flags that are missing": missing_flags,
+    "A4: three tasks at one routine": three_at_one_routine,
+    "A4: refusals": refusals_at_a_routine,
+    "A4: broken tables give 1": broken_lines,
+    "A4: a ring through a holder": ring_through_a_holder,
 }
 
 /// Prints of every card whether it holds; true if all do.
@@ -227,7 +231,7 @@ fn refusals_change_nothing() -> bool {
         (&[0, 0], 3),
         (&[0x40], 4),
         (&[0x42], 4),
-        (&[6], 4),
+        (&[8], 4),
         (&[5, 0x60, 1, 0], 3),
         (&[5, 0x60, 1, 0, 0], 6),
         (&[5, 0x40, 1, 0, 0], 7),
@@ -299,15 +303,18 @@ const BREAKS: [fn(&mut Table); 38] = [
     |t| t.levels = 0,
 ];
 
-/// On each broken table every step answers 1 and keeps it.
 fn broken_tables() -> bool {
-    let good = rich_table();
-    well_formed(&good)
-        && BREAKS.iter().enumerate().all(|(place, spoil)| {
-            let mut broken = good;
+    all_are_found(&rich_table(), &BREAKS)
+}
+
+/// On each broken table every step answers 1 and keeps it.
+fn all_are_found(good: &Table, breaks: &[fn(&mut Table)]) -> bool {
+    well_formed(good)
+        && breaks.iter().enumerate().all(|(place, spoil)| {
+            let mut broken = *good;
             spoil(&mut broken);
             let kept = broken;
-            let right = [&[][..], &[6], &[0x80]]
+            let right = [&[][..], &[8], &[0x80]]
                 .iter()
                 .all(|record| step(&mut broken, record) == Answer { number: 1, ..Answer::default() });
             if !right || broken != kept {
@@ -336,4 +343,106 @@ fn missing_flags() -> bool {
         && of(2) == [(2, Reason::AnyOf(0x81))]
         && of(3) == [(3, Reason::Active)]
         && of(4) == [(4, Reason::Ready(1))]
+}
+
+/// Task 1 holds subprogram 3 and pauses. Task 4 waits first, then 3 and 2, both of a higher priority: 3, 2, 4 get it.
+fn three_at_one_routine() -> bool {
+    let mut t = table(1, &[(9, 1), (7, 1), (7, 1), (5, 1)]);
+    let free = accepted(&mut t, &[&[6, 3]]);
+    let held = free == Answer { active: 1, ..Answer::default() } && t.subs[3].holder == 1 && t.queue[..2] == [1, 2];
+    accepted(&mut t, &[&[2, 0, 9], &[2, 0, 2], &[2, 0, 1], &[6, 3], &[0x80], &[6, 3], &[0x80]]);
+    let waits = accepted(&mut t, &[&[6, 3]]);
+    let lined = waits == Answer::default() && t.subs[3].line[..4] == [3, 2, 4, 0] && t.subs[3].waiting == 3;
+    accepted(&mut t, &[&[0x80][..]; 7]);
+    let handed = [(1, 3), (3, 2), (2, 4)].iter().all(|(leaver, next)| {
+        let answer = accepted(&mut t, &[&[7, 3]]);
+        let right = zvc(answer) == (0, false, false, false) && answer.active == *leaver;
+        let entered = t.subs[3].holder == *next && t.queue[..3] == [*leaver, *next, 0];
+        accepted(&mut t, &[&[0]]);
+        right && entered
+    });
+    accepted(&mut t, &[&[7, 3]]);
+    held && lined && handed && t.subs[3] == Sub::default() && t.queue[0] == 4
+}
+
+/// 6, then 13, 14 and 15, each with the table kept; a paused holder is none of these.
+fn refusals_at_a_routine() -> bool {
+    let mut t = table(1, &[(7, 1), (6, 1)]);
+    accepted(&mut t, &[&[6, 7]]);
+    let before = t;
+    let all: [(&[u8], u8); 14] = [
+        (&[6], 3),
+        (&[7, 0, 0], 3),
+        (&[6, 8], 6),
+        (&[7, 8], 6),
+        (&[6, 255], 6),
+        (&[7, 255], 6),
+        (&[6, 7], 13),
+        (&[7, 0], 14),
+        (&[0], 15),
+        (&[1, 0, 0], 15),
+        (&[1, 0x46, 1], 15),
+        (&[1, 0x87, 1], 15),
+        (&[1, 0xC0, 1], 6),
+        (&[5, 0xA0, 1, 0, 0], 7),
+    ];
+    let refused = all.iter().all(|(record, number)| {
+        let v = matches!(number, 6 | 7);
+        let answer = step(&mut t, record);
+        zvc(answer) == (*number, false, v, false) && answer.active == 1 && t == before
+    });
+    accepted(&mut t, &[&[2, 0, 1]]);
+    let others = step(&mut t, &[7, 7]).number;
+    accepted(&mut t, &[&[0]]);
+    refused && others == 14 && step(&mut t, &[7, 7]).number == 5 && step(&mut t, &[6, 8]).number == 5
+}
+
+/// Subprogram 2 is held by 1, which is paused; 2 and 3, of one priority, and 4 wait for it; 5 is active, 6 dormant.
+fn lined_table() -> Table {
+    let mut t = table(1, &[(9, 1), (7, 1), (7, 1), (5, 1), (4, 1), (7, 0)]);
+    accepted(&mut t, &[&[6, 2], &[2, 0, 9], &[6, 2], &[6, 2], &[6, 2]]);
+    t
+}
+
+/// The rule of the subprograms, broken once or more in the table with a line.
+const LINE_BREAKS: [fn(&mut Table); 16] = [
+    |t| t.subs[0].holder = 6,
+    |t| t.subs[0].holder = 7,
+    |t| t.subs[7].holder = 255,
+    |t| t.subs[2].holder = 0,
+    |t| t.subs[2].line[2] = 3,
+    |t| t.subs[2].line.swap(1, 2),
+    |t| t.subs[2].line[3] = 5,
+    |t| t.subs[2].line[15] = 1,
+    |t| t.subs[5].line[0] = 1,
+    |t| t.subs[2].waiting = 2,
+    |t| t.subs[2].waiting = 4,
+    |t| t.subs[2].waiting = 17,
+    |t| t.tasks[3].state = State::WaitSub(3),
+    |t| t.tasks[3].state = State::WaitSub(8),
+    |t| t.tasks[0].state = State::WaitSub(2),
+    |t| t.tasks[1].state = State::Paused(9),
+];
+
+/// Each of these gives 1; equals in another order, a task that waits for what it holds, and a holder in any state but
+/// dormant do not.
+fn broken_lines() -> bool {
+    let good = lined_table();
+    let mut turned = good;
+    turned.subs[2].line.swap(0, 1);
+    let mut itself = good;
+    itself.subs[2].holder = 4;
+    let mut due = good;
+    due.tasks[0].state = State::Due(due.clock + 1);
+    let wrong = Why { path: vec![(4, Reason::Subprogram(2, 4))], ring: 1, ..Why::default() };
+    all_are_found(&good, &LINE_BREAKS) && [turned, itself, due].iter().all(well_formed) && why(&itself, 4) == wrong
+}
+
+/// 2 holds subprogram 0 and waits for 1, which 1 holds; 1 waits for 0; 3 waits for 1 as well.
+fn ring_through_a_holder() -> bool {
+    let mut t = table(1, &[(7, 1), (8, 1), (6, 1)]);
+    accepted(&mut t, &[&[6, 0], &[2, 0, 1], &[6, 1], &[0x80], &[6, 1], &[6, 0], &[6, 1]]);
+    let ring = [(1, Reason::Subprogram(0, 2)), (2, Reason::Subprogram(1, 1))];
+    let led = Why { path: [&[(3, Reason::Subprogram(1, 1))], &ring[..]].concat(), ring: 2, ..Why::default() };
+    why(&t, 3) == led
 }

@@ -1,17 +1,18 @@
 //! The check of a table: every rule of document 01's sentence.
 
-use crate::table::{Request, State, Table, Task, LAST_CLOCK, LONGEST, PLACES, TASKS};
+use crate::table::{Request, State, Sub, Table, Task, LAST_CLOCK, LONGEST, PLACES, SUBS, TASKS};
 
 /// Whether a table keeps every rule, in the sentence's order; then document 02's.
 pub fn well_formed(table: &Table) -> bool {
     in_range(table)
-        && queue_is_right(table)
+        && line_is_right(table, &table.queue, table.queued, State::Ready)
         && times_are_ahead(table)
         && table.tasks.iter().all(|task| task.started <= table.clock)
         && waits_are_open(table)
         && table.pool[..table.asked as usize].iter().all(|request| table.task(request.task).state != State::Dormant)
         && links_match(table)
         && idle_entries_are_zero(table)
+        && (0..).zip(&table.subs).all(|(number, sub)| sub_is_right(table, number, sub))
         && table.levels == table.ready_levels()
 }
 
@@ -25,6 +26,12 @@ fn in_range(table: &Table) -> bool {
         && table.queued <= count
         && table.queue[..table.queued as usize].iter().all(|&number| is_task(number))
         && table.tasks.iter().all(|task| task.own <= 15 && task.priority <= 15 && task.end_waiter <= count)
+        && table.tasks.iter().all(|task| !matches!(task.state, State::WaitSub(number) if number as usize >= SUBS))
+        && table.subs.iter().all(|sub| {
+            sub.holder <= count
+                && sub.waiting <= count
+                && sub.line[..sub.waiting as usize].iter().all(|&number| is_task(number))
+        })
         && table.asked as usize <= PLACES
         && table.pool[..table.asked as usize].iter().all(|request| {
             is_task(request.task)
@@ -34,21 +41,29 @@ fn in_range(table: &Table) -> bool {
         })
 }
 
-/// The queue holds exactly the ready tasks, once each, in descending priority, zeros after them.
-fn queue_is_right(table: &Table) -> bool {
-    let (held, free) = table.queue.split_at(table.queued as usize);
+/// A line holds exactly the tasks of its state, once each, in descending priority, zeros after them: the ready queue
+/// those that are ready, a subprogram's those that wait for it.
+fn line_is_right(table: &Table, line: &[u8; TASKS], held: u8, state: State) -> bool {
+    let (held, free) = line.split_at(held as usize);
     let mut seen = 0u32;
     let mut last = 15;
     for &number in held {
         let task = table.task(number);
-        if task.state != State::Ready || seen >> number & 1 == 1 || task.priority > last {
+        if task.state != state || seen >> number & 1 == 1 || task.priority > last {
             return false;
         }
         seen |= 1 << number;
         last = task.priority;
     }
-    let ready = table.tasks.iter().filter(|task| task.state == State::Ready).count();
-    ready == held.len() && free.iter().all(|&number| number == 0)
+    let such = table.tasks.iter().filter(|task| task.state == state).count();
+    such == held.len() && free.iter().all(|&number| number == 0)
+}
+
+/// The holder of a subprogram is not dormant; none has waiters while free; its line is right.
+fn sub_is_right(table: &Table, number: u8, sub: &Sub) -> bool {
+    (sub.holder == 0 || table.task(sub.holder).state != State::Dormant)
+        && (sub.holder != 0 || sub.waiting == 0)
+        && line_is_right(table, &sub.line, sub.waiting, State::WaitSub(number))
 }
 
 /// Every stored pause, due and alarm time is after the clock, and not too far after it.

@@ -15,10 +15,13 @@ pub enum Fault {
     WakeByNumber,
     FlagsFirst,
     LampLags,
+    FirstComeFirstServed,
+    LeaverHolds,
+    HolderSleeps,
 }
 
 /// The faults that a listing shows, by name.
-pub const FAULTS: [(&str, Fault); 8] = [
+pub const FAULTS: [(&str, Fault); 11] = [
     ("equal-in-front", Fault::EqualInFront),
     ("drifting-catch-up", Fault::DriftingCatchUp),
     ("cancel-wakes-due", Fault::CancelWakesDue),
@@ -27,6 +30,9 @@ pub const FAULTS: [(&str, Fault); 8] = [
     ("start-twice", Fault::StartTwice),
     ("wake-by-number", Fault::WakeByNumber),
     ("flags-first", Fault::FlagsFirst),
+    ("first-come-first-served", Fault::FirstComeFirstServed),
+    ("leaver-holds", Fault::LeaverHolds),
+    ("holder-sleeps", Fault::HolderSleeps),
 ];
 
 /// Those that only a table's image shows.
@@ -37,6 +43,9 @@ impl Fault {
     pub fn step(self, table: &mut Table, record: &[u8]) -> Answer {
         let before = *table;
         let mut answer = step_unchecked(table, record);
+        if self == Fault::HolderSleeps && answer.number == 15 && record[0] == 0x00 {
+            answer = holder_sleeps(&before, table, record);
+        }
         if answer.number != 0 {
             return answer;
         }
@@ -49,7 +58,9 @@ impl Fault {
             Fault::StartTwice => start_twice(&before, table, record),
             Fault::WakeByNumber => wake_by(&before, table, record, |number, _| number),
             Fault::FlagsFirst => wake_by(&before, table, record, |number, state| (state.time(), number)),
-            Fault::LampLags => {}
+            Fault::FirstComeFirstServed => first_come_first_served(&before, table, record),
+            Fault::LeaverHolds => leaver_holds(&before, table, record),
+            Fault::LampLags | Fault::HolderSleeps => {}
         }
         // the word of the ready levels is that of the table then, or of the table before
         table.levels = if self == Fault::LampLags { before.levels } else { table.ready_levels() };
@@ -134,4 +145,32 @@ fn wake_by<K: Ord>(before: &Table, after: &mut Table, record: &[u8], key: impl F
     let mut queue = [kept, &woken].concat();
     queue.sort_by_key(|&number| 15 - after.task(number).priority);
     after.queue[..queue.len()].copy_from_slice(&queue);
+}
+
+/// Who waits for a subprogram stands behind all that waited before, whatever its priority.
+fn first_come_first_served(before: &Table, after: &mut Table, record: &[u8]) {
+    if let [0x06, number] = *record {
+        let (old, new) = (&before.subs[number as usize], &mut after.subs[number as usize]);
+        if new.waiting > old.waiting {
+            new.line = old.line;
+            new.line[old.waiting as usize] = before.queue[0];
+        }
+    }
+}
+
+/// Who leaves a subprogram stays its holder, also where the next one enters it.
+fn leaver_holds(before: &Table, after: &mut Table, record: &[u8]) {
+    if let [0x07, number] = *record {
+        after.subs[number as usize].holder = before.queue[0];
+    }
+}
+
+/// A run ends while its task holds subprograms, and a dormant task holds them.
+fn holder_sleeps(before: &Table, table: &mut Table, record: &[u8]) -> Answer {
+    for sub in table.subs.iter_mut().filter(|sub| sub.holder == before.queue[0]) {
+        sub.holder = 0;
+    }
+    let answer = step_unchecked(table, record);
+    table.subs = before.subs;
+    answer
 }

@@ -1,8 +1,8 @@
 //! The table's image by docs/TABLE.md, written apart from the proved code.
 
-use crate::table::{Request, State, Table, Task};
+use crate::table::{Request, State, Sub, Table, Task, TASKS};
 
-pub const LENGTH: usize = 898;
+pub const LENGTH: usize = 1_058;
 
 /// The image of a table.
 pub fn encode(table: &Table) -> Vec<u8> {
@@ -23,7 +23,20 @@ pub fn encode(table: &Table) -> Vec<u8> {
         image.extend_from_slice(&[request.start_waiter, request.end_waiter]);
     }
     image.extend_from_slice(&table.levels.to_be_bytes());
+    image.extend(table.tasks.iter().map(|task| awaited(task.state)));
+    for sub in &table.subs {
+        image.extend_from_slice(&[sub.holder, sub.waiting]);
+        image.extend_from_slice(&sub.line);
+    }
     image
+}
+
+/// The number that a state waits for: a subprogram's, else 0.
+fn awaited(state: State) -> u8 {
+    match state {
+        State::WaitSub(number) => number,
+        _ => 0,
+    }
 }
 
 fn encode_task(image: &mut Vec<u8>, task: &Task) {
@@ -36,6 +49,7 @@ fn encode_task(image: &mut Vec<u8>, task: &Task) {
         State::WaitAll(mask) => (5, 0, mask),
         State::WaitStart => (6, 0, 0),
         State::WaitEnd => (7, 0, 0),
+        State::WaitSub(_) => (8, 0, 0),
     };
     image.extend_from_slice(&[task.own, state]);
     image.extend_from_slice(&u64::to_be_bytes(time));
@@ -67,6 +81,18 @@ pub fn decode(image: &[u8]) -> Option<Table> {
         *place = decode_request(&mut bytes);
     }
     table.levels = u16::from_be_bytes(bytes.take());
+    let numbers: [u8; TASKS] = bytes.take();
+    for (task, number) in table.tasks.iter_mut().zip(numbers) {
+        if let State::WaitSub(awaited) = &mut task.state {
+            *awaited = number;
+        } else if number != 0 {
+            return None;
+        }
+    }
+    for sub in &mut table.subs {
+        let [holder, waiting] = bytes.take();
+        *sub = Sub { holder, waiting, line: bytes.take() };
+    }
     Some(table)
 }
 
@@ -83,6 +109,8 @@ fn decode_task(bytes: &mut Bytes) -> Option<Task> {
         (5, 0, mask) => State::WaitAll(mask),
         (6, 0, 0) => State::WaitStart,
         (7, 0, 0) => State::WaitEnd,
+        // its number stands behind the entries
+        (8, 0, 0) => State::WaitSub(0),
         _ => return None,
     };
     let [priority] = bytes.take();

@@ -1,9 +1,9 @@
-//! The refusals of document 01, in its order.
+//! The refusals of documents 01 and 02, in their order.
 
 use crate::records::body_length;
-use crate::table::{State, Table, LAST_CLOCK, PLACES};
+use crate::table::{State, Table, LAST_CLOCK, PLACES, SUBS};
 
-/// The refusal's number, in the order of document 01, or 0.
+/// The refusal's number, the first in the order, or 0.
 pub fn refusal(table: &Table, record: &[u8]) -> u8 {
     let (kind, body) = match record {
         [kind, body @ ..] => (*kind, body),
@@ -25,6 +25,9 @@ pub fn refusal(table: &Table, record: &[u8]) -> u8 {
         return 6;
     }
     match kind {
+        0x06 if table.subs[body[0] as usize].holder == table.queue[0] => 13,
+        0x07 if table.subs[body[0] as usize].holder != table.queue[0] => 14,
+        0x00 | 0x01 if table.holds_any(table.queue[0]) => 15,
         0x05 => refusal_of_start(table, body[0], body[1]),
         0x0B if table.alarms[body[2] as usize] != 0 => 9,
         _ => 0,
@@ -51,6 +54,7 @@ fn out_of_range(table: &Table, kind: u8, body: &[u8]) -> bool {
         0x03 => no_task(body[0]),
         0x04 => body[0] & 0x70 != 0 || no_task(body[1]),
         0x05 => body[0] & 0x60 == 0x60 || no_task(body[1]),
+        0x06 | 0x07 => body[0] as usize >= SUBS,
         0x09 => body[0] > 2 || body[1] > 31,
         0x0A => body[0] > 1 || body[1..] == [0; 4],
         0x0B => body[0] > 5 || body[2] > 31,

@@ -4,7 +4,7 @@ use crate::bench::LONGEST_INPUT;
 use crate::configuration::fresh_from_start;
 use crate::records::cut;
 use crate::steps::step;
-use crate::table::{State, Table, PLACES, TASKS, UNITS};
+use crate::table::{State, Table, PLACES, SUBS, TASKS, UNITS};
 
 /// A small generator of numbers (splitmix64).
 pub struct Rng(u64);
@@ -59,7 +59,7 @@ pub fn run(seed: u64, index: u64) -> Vec<u8> {
 }
 
 /// The ways a deep run goes on; each run draws its own weights for them.
-const AIMS: [fn(&mut Run, &mut Rng); 20] = [
+const AIMS: [fn(&mut Run, &mut Rng); 23] = [
     Run::tick,
     Run::terminate,
     Run::catch_up,
@@ -80,8 +80,13 @@ const AIMS: [fn(&mut Run, &mut Rng); 20] = [
     Run::wake_together,
     Run::fill_pool,
     Run::go_idle,
+    Run::enter_sub,
+    Run::exit_sub,
+    Run::share,
 ];
+/// From here on they are rare, and from here on of runs that share subprograms.
 const RARE: usize = 18;
+const SHARING: usize = 20;
 
 /// A run being made, with the executive beside it to aim by.
 struct Run {
@@ -107,11 +112,12 @@ fn deep_run(rng: &mut Rng, steps: usize) -> Vec<u8> {
     run.bytes
 }
 
-/// The drawn aims, as a list to pick from.
+/// The drawn aims, as a list to pick from; a third of the runs share subprograms.
 fn weights(rng: &mut Rng) -> Vec<usize> {
     let mut list = vec![0, 1];
-    for aim in 0..AIMS.len() {
-        let most = if aim >= RARE { 2 } else { 9 };
+    let aims = if rng.one_in(3) { AIMS.len() } else { SHARING };
+    for aim in 0..aims {
+        let most = if (RARE..SHARING).contains(&aim) { 2 } else { 9 };
         list.extend(std::iter::repeat(aim).take(rng.below(most)));
     }
     list
@@ -149,8 +155,11 @@ impl Run {
             if dead(&self.table) && rng.one_in(2) {
                 break;
             }
-            let tick = rng.one_in(3) || idle && !rng.one_in(4);
-            self.add(&[if tick { 0x80 } else { 0x00 }]);
+            if rng.one_in(3) || idle && !rng.one_in(4) {
+                self.add(&[0x80]);
+            } else {
+                self.terminate(rng);
+            }
         }
     }
 
@@ -208,7 +217,8 @@ impl Run {
         }
     }
 
-    fn terminate(&mut self, _: &mut Rng) {
+    fn terminate(&mut self, rng: &mut Rng) {
+        self.let_go(rng);
         self.add(&[0x00]);
     }
 
@@ -217,6 +227,7 @@ impl Run {
         let [unit, count] = self.interval(rng);
         let unused = if rng.one_in(4) { rng.byte() & 0x38 } else { 0 };
         for _ in 0..1 + rng.below(3) {
+            self.let_go(rng);
             self.add(&[0x01, unit | unused, count]);
         }
     }
@@ -230,11 +241,13 @@ impl Run {
         for _ in 0..rng.below(12) {
             self.add(&[0x80]);
         }
+        self.let_go(rng);
         self.add(&[0x01, 0x40 | base | unused | unit, count]);
     }
 
     fn restart(&mut self, rng: &mut Rng) {
         let [unit, count] = self.interval(rng);
+        self.let_go(rng);
         match rng.below(3) {
             0 => self.add(&[0x01, rng.byte() | 0x06, rng.byte()]),
             1 => self.add(&[0x01, 0x80 | unit, count]),
@@ -353,8 +366,60 @@ impl Run {
             let task = self.task_where(rng, |state| state != State::Dormant);
             self.add(&[0x05, option, task, 0, rng.byte()]);
         }
-        self.add(&[0x00]);
+        self.terminate(rng);
         self.ask(rng, 0);
+    }
+
+    /// The subprograms that the caller holds.
+    fn held(&self) -> Vec<u8> {
+        let caller = self.table.queue[0];
+        (0..SUBS as u8).filter(|n| caller != 0 && self.table.subs[*n as usize].holder == caller).collect()
+    }
+
+    /// Mostly the caller leaves all that it holds, so that its run may end.
+    fn let_go(&mut self, rng: &mut Rng) {
+        if rng.one_in(6) {
+            return;
+        }
+        for _ in 0..SUBS {
+            if let Some(number) = self.held().first() {
+                self.add(&[0x07, *number]);
+            }
+        }
+    }
+
+    fn enter_sub(&mut self, rng: &mut Rng) {
+        let number = some_sub(rng);
+        self.add(&[0x06, number]);
+    }
+
+    /// Leaves one that the caller holds, or now and then any.
+    fn exit_sub(&mut self, rng: &mut Rng) {
+        let held = self.held();
+        let number = if held.is_empty() || rng.one_in(8) { some_sub(rng) } else { rng.pick(&held) };
+        self.add(&[0x07, number]);
+    }
+
+    /// The caller enters a subprogram and departs with it; some of those that are active then, and of those that ticks
+    /// wake or starts bring, want it too.
+    fn share(&mut self, rng: &mut Rng) {
+        let number = some_sub(rng) % SUBS as u8;
+        self.add(&[0x06, number]);
+        match rng.below(5) {
+            0 => self.wait(rng),
+            1 => self.wait_for_end(rng),
+            2 => self.enter_sub(rng),
+            _ => self.pause(rng),
+        }
+        for _ in 0..2 + rng.below(6) {
+            match rng.below(4) {
+                0 => self.tick(rng),
+                1 => self.start_if_dormant(rng),
+                _ if self.held().contains(&number) && !rng.one_in(4) => self.pause(rng),
+                _ if self.table.queued > 0 => self.add(&[0x06, number]),
+                _ => {}
+            }
+        }
     }
 
     /// Every ready task pauses, and then somebody calls all the same.
@@ -369,8 +434,19 @@ impl Run {
 }
 
 /// The calls and the lengths of their bodies.
-const CALLS: [(u8, usize); 9] =
-    [(0x00, 0), (0x01, 2), (0x02, 2), (0x03, 1), (0x04, 2), (0x05, 4), (0x09, 2), (0x0A, 5), (0x0B, 3)];
+const CALLS: [(u8, usize); 11] = [
+    (0x00, 0),
+    (0x01, 2),
+    (0x02, 2),
+    (0x03, 1),
+    (0x04, 2),
+    (0x05, 4),
+    (0x06, 1),
+    (0x07, 1),
+    (0x09, 2),
+    (0x0A, 5),
+    (0x0B, 3),
+];
 
 /// Idle, with no task's time to come soon: only ticks and 5s follow.
 fn dead(table: &Table) -> bool {
@@ -398,6 +474,15 @@ fn some_flag(rng: &mut Rng) -> u8 {
         rng.pick(&[7, 8, 15, 16, 23, 24, 30, 31])
     } else {
         rng.below(3) as u8
+    }
+}
+
+/// Mostly one of the first two subprograms, so that tasks meet there; now and then none.
+fn some_sub(rng: &mut Rng) -> u8 {
+    match rng.below(16) {
+        0 => rng.pick(&[8, 9, 16, 255]),
+        1 | 2 => rng.below(SUBS) as u8,
+        _ => rng.below(2) as u8,
     }
 }
 
@@ -459,7 +544,7 @@ fn damaged_run(rng: &mut Rng) -> Vec<u8> {
             insert(rng, &mut bytes, odd);
         }
         4 => {
-            let unknown = rng.pick(&[0x06, 0x07, 0x08, 0x0C, 0x0E, 0x3F, 0x43, 0x7F, 0x81, 0xFF]);
+            let unknown = rng.pick(&[0x08, 0x0C, 0x0D, 0x0E, 0x3F, 0x43, 0x7F, 0x81, 0xFF]);
             insert(rng, &mut bytes, &[unknown]);
         }
         5 => {

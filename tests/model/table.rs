@@ -3,6 +3,7 @@
 pub const TASKS: usize = 16;
 pub const FLAGS: usize = 32;
 pub const PLACES: usize = 32;
+pub const SUBS: usize = 8;
 pub const LAST_CLOCK: u64 = 1 << 40;
 pub const LONGEST: u64 = 22_032_000_000;
 pub const UNITS: [u64; 6] = [1, 10, 1_000, 60_000, 3_600_000, 86_400_000];
@@ -19,6 +20,8 @@ pub enum State {
     WaitAll(u32),
     WaitStart,
     WaitEnd,
+    /// For the controlled subprogram of this number.
+    WaitSub(u8),
 }
 
 impl State {
@@ -52,6 +55,14 @@ pub struct Request {
     pub end_waiter: u8,
 }
 
+/// A controlled subprogram (document 02, A4): who holds it, 0 for nobody, and the line of those that wait for it.
+#[derive(Clone, Copy, PartialEq, Eq, Debug, Default)]
+pub struct Sub {
+    pub holder: u8,
+    pub waiting: u8,
+    pub line: [u8; TASKS],
+}
+
 /// The whole table. Task n stands at index n - 1; an alarm of 0 is not running.
 #[derive(Clone, Copy, PartialEq, Eq, Debug, Default)]
 pub struct Table {
@@ -67,6 +78,7 @@ pub struct Table {
     pub asked: u8,
     /// Bit p is set exactly if some ready task has priority p.
     pub levels: u16,
+    pub subs: [Sub; SUBS],
 }
 
 /// What a step answers.
@@ -112,6 +124,11 @@ impl Table {
     pub fn lamp(&self) -> Option<u8> {
         let ready = self.tasks.iter().filter(|task| task.state == State::Ready);
         ready.map(|task| task.priority).max()
+    }
+
+    /// Whether a task holds some subprogram.
+    pub fn holds_any(&self, task: u8) -> bool {
+        self.subs.iter().any(|sub| sub.holder == task)
     }
 
     /// The earliest request for a task, taken from the pool.

@@ -1,4 +1,4 @@
-//! Why a task is not running (document 02, A2), written from the paper alone.
+//! Why a task is not running (document 02, A2 and A4), written from the paper alone.
 
 use crate::check::well_formed;
 use crate::table::{State, Table};
@@ -21,13 +21,18 @@ pub enum Reason {
     EndOfRequest(u8, u8),
     /// The task whose run is waited for.
     EndOfRun(u8),
+    /// A subprogram, and its holder.
+    Subprogram(u8, u8),
 }
 
 impl Reason {
     /// The task that is waited on.
     pub fn on(self) -> Option<u8> {
         match self {
-            Reason::Start(_, task) | Reason::EndOfRequest(_, task) | Reason::EndOfRun(task) => Some(task),
+            Reason::Start(_, task)
+            | Reason::EndOfRequest(_, task)
+            | Reason::EndOfRun(task)
+            | Reason::Subprogram(_, task) => Some(task),
             _ => None,
         }
     }
@@ -77,6 +82,7 @@ fn reason(table: &Table, task: u8) -> Reason {
         State::WaitAny(mask) => Reason::AnyOf(mask & !table.flags),
         State::WaitAll(mask) => Reason::AllOf(mask & !table.flags),
         State::WaitStart | State::WaitEnd => named(table, task),
+        State::WaitSub(number) => Reason::Subprogram(number, table.subs[number as usize].holder),
     }
 }
 
@@ -122,6 +128,7 @@ fn in_words(reason: Reason) -> String {
         Reason::Start(place, task) => format!("waits for request {place} to begin, on task {task}"),
         Reason::EndOfRequest(place, task) => format!("waits for the end of request {place}'s run, on task {task}"),
         Reason::EndOfRun(task) => format!("waits for the end of task {task}'s run"),
+        Reason::Subprogram(number, task) => format!("waits for subprogram {number}, held by task {task}"),
     }
 }
 
@@ -140,13 +147,15 @@ pub enum Fault {
     RingMissed,
     LeadInRing,
     SetFlagMissing,
+    HolderUnasked,
 }
 
 /// The faults, by name.
-pub const FAULTS: [(&str, Fault); 3] = [
+pub const FAULTS: [(&str, Fault); 4] = [
     ("ring-missed", Fault::RingMissed),
     ("lead-in-ring", Fault::LeadInRing),
     ("set-flag-missing", Fault::SetFlagMissing),
+    ("holder-unasked", Fault::HolderUnasked),
 ];
 
 impl Fault {
@@ -157,6 +166,13 @@ impl Fault {
             Fault::RingMissed => why.ring = 0,
             Fault::LeadInRing if why.ring > 0 => why.ring = why.path.len(),
             Fault::LeadInRing => {}
+            Fault::HolderUnasked => {
+                let waits = |(_, reason): &(u8, Reason)| matches!(reason, Reason::Subprogram(..));
+                if let Some(at) = why.path.iter().position(waits) {
+                    why.path.truncate(at + 1);
+                    why.ring = 0;
+                }
+            }
             Fault::SetFlagMissing => {
                 for (task, reason) in &mut why.path {
                     if let (Reason::AllOf(missing), State::WaitAll(mask)) = (reason, table.task(*task).state) {

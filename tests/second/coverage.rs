@@ -4,15 +4,17 @@ use model::bench::LONGEST_INPUT;
 use model::configuration::fresh_from_start;
 use model::records::cut;
 use model::steps::step;
-use model::table::{Answer, State, Table, UNITS};
+use model::table::{Answer, State, Table, SUBS, UNITS};
 
-const KINDS: [(u8, &str); 10] = [
+const KINDS: [(u8, &str); 12] = [
     (0x00, "terminate"),
     (0x01, "terminate, restart"),
     (0x02, "pause"),
     (0x03, "cancel a pause"),
     (0x04, "start if dormant"),
     (0x05, "start or queue"),
+    (0x06, "enter a subprogram"),
+    (0x07, "leave a subprogram"),
     (0x09, "flag"),
     (0x0A, "wait for flags"),
     (0x0B, "alarm"),
@@ -20,7 +22,7 @@ const KINDS: [(u8, &str); 10] = [
 ];
 
 /// The refusal numbers that a bench run can reach.
-const REACHABLE: [usize; 9] = [2, 3, 4, 5, 6, 7, 8, 9, 12];
+const REACHABLE: [usize; 12] = [2, 3, 4, 5, 6, 7, 8, 9, 12, 13, 14, 15];
 /// Those that it cannot, and why.
 const UNREACHABLE: [(usize, &str); 3] = [
     (1, "a step leaves a well-formed table"),
@@ -28,7 +30,7 @@ const UNREACHABLE: [(usize, &str); 3] = [
     (20, "nothing is written into a buffer"),
 ];
 
-const WAYS: [&str; 15] = [
+const WAYS: [&str; 16] = [
     "pause end",
     "pause cancelled",
     "due restart",
@@ -44,6 +46,7 @@ const WAYS: [&str; 15] = [
     "queued request begun by 00",
     "started by 04",
     "started by 05",
+    "a subprogram handed over",
 ];
 
 /// Two tasks of one priority that a tick woke, of which the first has the lower number.
@@ -60,6 +63,26 @@ const COUNTS: [(&str, Counts); 3] =
 /// What becomes of a restart with bit 6.
 const SKIPS: [&str; 5] = ["skipped none", "skipped some", "count 0: at once", "no unit: V", "bits 7 and 6: refused"];
 
+/// What becomes of a 06 or 07, and of the end of a run whose task holds a subprogram.
+const SHARED: [&str; 13] = [
+    "entered, it was free",
+    "waits, its holder is ready",
+    "waits, its holder is paused",
+    "waits, its holder for flags",
+    "waits, its holder for a run",
+    "waits, its holder likewise",
+    "left, and nobody waited",
+    "handed to the only one",
+    "handed to the higher",
+    "handed to the later, higher",
+    "handed to the first equal",
+    "00 of a holder",
+    "01 of a holder",
+];
+
+/// Who waits for each subprogram, in the order of arrival.
+type Arrivals = [Vec<u8>; SUBS];
+
 #[derive(Clone, Default)]
 pub struct Coverage {
     runs: u64,
@@ -72,6 +95,7 @@ pub struct Coverage {
     /// Accepted intervals: by kind, then count, then unit.
     intervals: [[[u64; UNITS.len()]; COUNTS.len()]; TIMED.len()],
     skips: [u64; SKIPS.len()],
+    shared: [u64; SHARED.len()],
     changed_by_refusal: u64,
 }
 
@@ -92,10 +116,13 @@ impl Coverage {
             }
         };
         let mut rest = &input[used..];
+        let mut arrivals = Arrivals::default();
         while !rest.is_empty() {
             match cut(rest) {
                 Ok((record, more)) => {
-                    self.watch_step(&mut table, record);
+                    let before = table;
+                    let answer = self.watch_step(&mut table, record);
+                    self.watch_shared(&before, &answer, record, &mut arrivals);
                     rest = more;
                 }
                 Err(stop) => {
@@ -106,7 +133,7 @@ impl Coverage {
         }
     }
 
-    fn watch_step(&mut self, table: &mut Table, record: &[u8]) {
+    fn watch_step(&mut self, table: &mut Table, record: &[u8]) -> Answer {
         let before = *table;
         let answer: Answer = step(table, record);
         let kind = KINDS.iter().position(|(kind, _)| *kind == record[0]).expect("a carried kind");
@@ -115,7 +142,7 @@ impl Coverage {
         if answer.number != 0 {
             self.refused[kind] += 1;
             self.changed_by_refusal += u64::from(*table != before);
-            return;
+            return answer;
         }
         self.accepted[kind] += 1;
         self.watch_interval(record);
@@ -128,6 +155,30 @@ impl Coverage {
                     self.ways[way] += 1;
                 }
             }
+        }
+        answer
+    }
+
+    /// Notes what became of a subprogram.
+    fn watch_shared(&mut self, before: &Table, answer: &Answer, record: &[u8], arrivals: &mut Arrivals) {
+        match (answer.number, record) {
+            (0, [0x06, number]) => {
+                let holder = before.subs[*number as usize].holder;
+                let way = if holder == 0 { 0 } else { way_of_waiting(before.task(holder).state) };
+                self.shared[way] += 1;
+                if holder != 0 {
+                    arrivals[*number as usize].push(before.queue[0]);
+                }
+            }
+            (0, [0x07, number]) => {
+                let sub = &before.subs[*number as usize];
+                let line = &mut arrivals[*number as usize];
+                ways_of_handing(before, &sub.line[..sub.waiting as usize], line).for_each(|way| self.shared[way] += 1);
+                line.retain(|waiter| *waiter != sub.line[0]);
+            }
+            (15, [0x00, ..]) => self.shared[11] += 1,
+            (15, _) => self.shared[12] += 1,
+            _ => {}
         }
     }
 
@@ -193,6 +244,7 @@ impl Coverage {
         sum(&mut self.ways, &other.ways);
         sum(&mut self.orders, &other.orders);
         sum(&mut self.skips, &other.skips);
+        sum(&mut self.shared, &other.shared);
         let both = self.intervals.iter_mut().zip(&other.intervals);
         both.flat_map(|(to, from)| to.iter_mut().zip(from)).for_each(|(to, from)| sum(to, from));
     }
@@ -229,6 +281,11 @@ impl Coverage {
         for (what, met) in SKIPS.iter().zip(self.skips) {
             println!("{what:<27} {met:>10}");
             note(&mut missed, met, || format!("restart with bit 6, {what}"));
+        }
+        println!("subprogram                         met");
+        for (what, met) in SHARED.iter().zip(self.shared) {
+            println!("{what:<27} {met:>10}");
+            note(&mut missed, met, || format!("subprogram, {what}"));
         }
         self.print_intervals(&mut missed);
         missed.iter().for_each(|what| println!("NEVER MET: {what}"));
@@ -283,6 +340,33 @@ fn way_of_waking(record: &[u8], old: State) -> Option<usize> {
         (0x00, State::Ready) => Some(12),
         (0x04, State::Dormant) => Some(13),
         (0x05, State::Dormant) => Some(14),
+        (0x07, State::WaitSub(_)) => Some(15),
         _ => None,
     }
+}
+
+/// The place in `SHARED` of a wait for a subprogram whose holder is in this state.
+fn way_of_waiting(holder: State) -> usize {
+    match holder {
+        State::Ready => 1,
+        State::Paused(_) => 2,
+        State::WaitAny(_) | State::WaitAll(_) => 3,
+        State::WaitStart | State::WaitEnd => 4,
+        State::WaitSub(_) => 5,
+        State::Dormant | State::Due(_) => unreachable!("a holder's run has not ended"),
+    }
+}
+
+/// The places in `SHARED` of the leaving of a subprogram: its line as it stands, and by arrival.
+fn ways_of_handing(table: &Table, line: &[u8], arrived: &[u8]) -> impl Iterator<Item = usize> {
+    let priority = |task: &u8| table.task(*task).priority;
+    let first = line.first().copied().unwrap_or(0);
+    let met = [
+        (6, line.is_empty()),
+        (7, line.len() == 1),
+        (8, line.iter().any(|other| priority(other) < priority(&first))),
+        (9, arrived.first().map_or(false, |other| priority(other) < priority(&first))),
+        (10, line.iter().skip(1).any(|other| priority(other) == priority(&first))),
+    ];
+    met.into_iter().filter(|(_, met)| *met).map(|(way, _)| way)
 }
