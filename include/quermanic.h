@@ -19,14 +19,14 @@ extern "C" {
 
 /* The version. The second number rises with each landing (docs/CHANGES.md); the first, with the second at 0 again,
  * where a board must change: the image, a part of the answer that stands already, what a function takes and returns. */
-#define QUERMANIC_VERSION "2.1"
+#define QUERMANIC_VERSION "3.0"
 
 /* A length in bytes. The code takes 64 bits on every machine; size_t has 32 on some, and would be wrong there. */
 typedef uint64_t quermanic_length;
 
 /* The bytes of a table's image (docs/TABLE.md), and where the word of the ready levels stands in it: two bytes, the higher
  * first; bit p is set exactly if some ready task has priority p. */
-#define QUERMANIC_IMAGE_LENGTH 898
+#define QUERMANIC_IMAGE_LENGTH 1058
 #define QUERMANIC_IMAGE_LEVELS 896
 
 /* What the lamp gives when it is dark: no priority. */
@@ -71,6 +71,7 @@ typedef uint64_t quermanic_length;
 #define QUERMANIC_CAUSE_START 6          /* for the start of the request at this place, from 1 (own byte) */
 #define QUERMANIC_CAUSE_END_OF_REQUEST 7 /* for the end of the run that the request at this place begins */
 #define QUERMANIC_CAUSE_END_OF_RUN 8     /* for the end of the run of the task that is waited on */
+#define QUERMANIC_CAUSE_SUBPROGRAM 9     /* for this subprogram (own byte), which the task that is waited on holds */
 
 /* The longest configuration: one 40, sixteen 41, one 42. */
 #define QUERMANIC_LONGEST_CONFIGURATION 51
@@ -90,6 +91,9 @@ typedef uint64_t quermanic_length;
 #define QUERMANIC_POOL_FULL 8          /* 05, the target is busy, and 32 requests are queued */
 #define QUERMANIC_ALARM_RUNNING 9      /* 0B, and the flag's alarm is running */
 #define QUERMANIC_END_OF_TIME 10       /* a tick would carry the clock past 2^40 ms */
+#define QUERMANIC_HOLDS_IT 13          /* 06, and the caller holds the subprogram already */
+#define QUERMANIC_HOLDS_IT_NOT 14      /* 07, and the caller does not hold the subprogram */
+#define QUERMANIC_HOLDS_ANY 15         /* 00 or 01, and the caller holds a subprogram */
 /* The board's own number, judged before any other: a buffer that is to be written to has not the length it needs. */
 #define QUERMANIC_NO_ROOM 30
 
@@ -100,6 +104,8 @@ typedef uint64_t quermanic_length;
 #define QUERMANIC_KIND_CANCEL_PAUSE 0x03 /* a task's pause ends now */
 #define QUERMANIC_KIND_START 0x04        /* a task starts, if it is dormant */
 #define QUERMANIC_KIND_QUEUE 0x05        /* a task starts, or the request for its start is queued */
+#define QUERMANIC_KIND_ENTER 0x06        /* the caller enters a controlled subprogram, or waits for it */
+#define QUERMANIC_KIND_EXIT 0x07         /* the caller leaves one; the first that waits for it enters it */
 #define QUERMANIC_KIND_FLAG 0x09         /* a flag is reset, set or tested */
 #define QUERMANIC_KIND_WAIT 0x0A         /* the caller waits for flags */
 #define QUERMANIC_KIND_ALARM 0x0B        /* a flag is set after an interval */
@@ -137,6 +143,9 @@ typedef uint64_t quermanic_length;
 #define QUERMANIC_ALL 1
 #define QUERMANIC_MASK_OF(flag) ((uint32_t)1 << (flag))
 
+/* The controlled subprograms, numbered from 0. */
+#define QUERMANIC_SUBPROGRAMS 8
+
 /* The marks of a configuration's task. */
 #define QUERMANIC_NOT_STARTED 0
 #define QUERMANIC_STARTED 1
@@ -150,6 +159,12 @@ typedef uint64_t quermanic_length;
 #define QUERMANIC_IMAGE_QUEUED 435 /* how many requests are queued */
 #define QUERMANIC_IMAGE_CLOCK 436  /* eight bytes, the highest first */
 #define QUERMANIC_IMAGE_FLAGS 444  /* four bytes, the highest first: flag n is bit n */
+#define QUERMANIC_IMAGE_AWAITED 898     /* sixteen bytes: task k's is the subprogram that it waits for, in state 8 */
+#define QUERMANIC_IMAGE_SUBPROGRAMS 914 /* subprogram m's place begins QUERMANIC_SUBPROGRAM_LENGTH * m further on */
+#define QUERMANIC_SUBPROGRAM_LENGTH 18
+#define QUERMANIC_SUBPROGRAM_HOLDER 0  /* the task that holds it, 0 when it is free */
+#define QUERMANIC_SUBPROGRAM_WAITING 1 /* how many wait for it */
+#define QUERMANIC_SUBPROGRAM_LINE 2    /* sixteen bytes: those that wait, the next first */
 #define QUERMANIC_ENTRY_LENGTH 26
 #define QUERMANIC_ENTRY_STATE 1
 #define QUERMANIC_ENTRY_START 17 /* the last scheduled start of its run: eight bytes, the highest first */
@@ -161,6 +176,7 @@ typedef uint64_t quermanic_length;
 #define QUERMANIC_STATE_WAITS_ALL 5
 #define QUERMANIC_STATE_WAITS_START 6
 #define QUERMANIC_STATE_WAITS_END 7
+#define QUERMANIC_STATE_WAITS_SUBPROGRAM 8
 
 /*
  * Makes a fresh table from the bytes of a configuration.
@@ -184,10 +200,10 @@ uint8_t quermanic_check(const uint8_t *image, quermanic_length image_length);
 
 /*
  * Takes a step: the call, or the tick, whose record is given, from the active task of the table whose image is given.
- * Returns the answer's number (0 to 10), or 30.
+ * Returns the answer's number (0 to 10, 13 to 15), or 30.
  *
  *   0        `image` now holds the image of the table after the step
- *   1 to 10  refused: no byte of `image` is changed. 1 also where `image_length` is not QUERMANIC_IMAGE_LENGTH
+ *   1 to 15  refused: no byte of `image` is changed. 1 also where `image_length` is not QUERMANIC_IMAGE_LENGTH
  *   30       `answer_length` is less than QUERMANIC_ANSWER_LENGTH: no byte of `image` or of `answer` is changed
  *
  * But for 30, the answer is written to the first QUERMANIC_ANSWER_LENGTH bytes of `answer`; the bytes after it keep their content.
@@ -275,6 +291,20 @@ static inline quermanic_length quermanic_put_queue(uint8_t *record, uint8_t opti
     record[3] = (uint8_t)(argument >> 8);
     record[4] = (uint8_t)argument;
     return 5;
+}
+
+/* 06: the caller enters a controlled subprogram, 0 to 7, or waits until it is handed over. */
+static inline quermanic_length quermanic_put_enter(uint8_t *record, uint8_t subprogram) {
+    record[0] = QUERMANIC_KIND_ENTER;
+    record[1] = subprogram;
+    return 2;
+}
+
+/* 07: the caller leaves a subprogram that it holds. */
+static inline quermanic_length quermanic_put_exit(uint8_t *record, uint8_t subprogram) {
+    record[0] = QUERMANIC_KIND_EXIT;
+    record[1] = subprogram;
+    return 2;
 }
 
 /* 09: the flag is reset, set or tested (QUERMANIC_RESET, _SET, _TEST); the answer's C is its old value. */
@@ -378,6 +408,11 @@ static inline uint8_t quermanic_state_of(const uint8_t *image, uint8_t task) {
 /* The last scheduled start of a task's run, in ms; 0 for a dormant task. */
 static inline uint64_t quermanic_start_of(const uint8_t *image, uint8_t task) {
     return quermanic_number_at(quermanic_entry_of(image, task) + QUERMANIC_ENTRY_START, 8);
+}
+
+/* The task that holds subprogram 0 to 7, 0 when it is free. */
+static inline uint8_t quermanic_holder_of(const uint8_t *image, uint8_t subprogram) {
+    return image[QUERMANIC_IMAGE_SUBPROGRAMS + QUERMANIC_SUBPROGRAM_LENGTH * subprogram + QUERMANIC_SUBPROGRAM_HOLDER];
 }
 
 #ifdef __cplusplus

@@ -44,7 +44,8 @@ read_input() {
     exec </dev/null
 }
 
-# names_of: the names that a .hex file gives to tasks and flags, in a comment '# names: ..'; nothing of any other.
+# names_of: the names that a .hex file gives to tasks, flags and subprograms, in a comment '# names: ..'; nothing of any
+# other.
 names_of() {
     [ "$hex" != yes ] || tr '\r' '\n' <"$work/text" | sed -n 's/^[ \t]*#[ \t]*names:[ \t]*//p' | tr '\n' ','
 }

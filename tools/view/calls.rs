@@ -30,6 +30,8 @@ pub fn call(record: &[u8], start: u64, names: &Names) -> String {
         0x03 => format!("cancels the pause of {}", names.task(body[0])),
         0x04 => format!("starts {} at {}", names.task(body[1]), priority(body[0])),
         0x05 => request(body, names),
+        0x06 => format!("enters {}", names.sub(body[0])),
+        0x07 => format!("leaves {}", names.sub(body[0])),
         0x09 => format!("{} {}", operation(body[0]), names.flag(body[1])),
         0x0A => wait(body[0], mask(record), names),
         0x0B => format!("has {} set after {}", names.flag(body[2]), interval(body[0], body[1])),

@@ -62,6 +62,9 @@ fn came(before: &Table, step: &Step, names: &Names) -> Vec<String> {
         0x05 if step.z => {
             vec![format!("{} is busy, so this is queued as request {}", names.task(body[1]), step.table.queued)]
         }
+        0x06 if step.table.active() == before.active() => vec!["it is free, and now held".to_string()],
+        0x06 => held(before, body[0], names),
+        0x07 => handed(step, body[0], names),
         0x09 => flagged(step.c, body[0] != 2 && step.z),
         0x0A if step.z => vec!["that is so already, so there is no wait".to_string()],
         0x0B if body[1] == 0 => flagged(step.c, step.z),
@@ -87,6 +90,20 @@ fn ended(before: &Table, names: &Names) -> Vec<String> {
         format!("the earliest request for {who} begins, at priority {priority}, argument {argument}")
     });
     words.into_iter().collect()
+}
+
+/// Of a subprogram that is wanted: who holds it.
+fn held(before: &Table, number: u8, names: &Names) -> Vec<String> {
+    let holder = before.sub(number).map_or(0, |sub| sub.holder);
+    vec![format!("{} holds it", names.task(holder))]
+}
+
+/// Of a subprogram that was left: that it is free, or who holds it now.
+fn handed(step: &Step, number: u8, names: &Names) -> Vec<String> {
+    match step.table.sub(number).map_or(0, |sub| sub.holder) {
+        0 => vec!["it is free now".to_string()],
+        next => vec![format!("{} holds it now", names.task(next))],
+    }
 }
 
 /// Of a restart: that it is at once and why, and what it passed over.
@@ -145,6 +162,7 @@ fn entry(before: &Table, after: &Table, k: u8) -> String {
         State::Any(_) | State::All(_) => "enters, its flags being set".to_string(),
         State::AwaitStart => "enters, the start having come".to_string(),
         State::AwaitEnd => "enters, the end having come".to_string(),
+        State::AwaitSub(_) => "enters, the subprogram being its own".to_string(),
         State::Ready | State::Stray(_) => "enters".to_string(),
     }
 }

@@ -13,16 +13,18 @@ pub enum State {
     All(u32),
     AwaitStart,
     AwaitEnd,
+    AwaitSub(u8),
     Stray(u8),
 }
 
-/// A task's entry; time and mask also where its state has none.
+/// A task's entry; time, mask and the number that it awaits also where its state has none.
 #[derive(Clone)]
 pub struct Task {
     pub own: u8,
     pub state: State,
     pub time: u64,
     pub mask: u32,
+    pub awaited: u8,
     pub priority: u8,
     pub argument: u16,
     pub start: u64,
@@ -39,7 +41,15 @@ pub struct Request {
     pub end_waiter: u8,
 }
 
-/// The whole table: all entries, places and alarms, also those that are free.
+/// A controlled subprogram, with all places of its line.
+#[derive(Clone)]
+pub struct Sub {
+    pub holder: u8,
+    pub waiting: u8,
+    pub places: Vec<u8>,
+}
+
+/// The whole table: all entries, places, alarms and subprograms, also those that are free.
 #[derive(Clone)]
 pub struct Table {
     pub tasks: Vec<Task>,
@@ -53,6 +63,7 @@ pub struct Table {
     pub alarms: Vec<u64>,
     pub pool: Vec<Request>,
     pub levels: u16,
+    pub subs: Vec<Sub>,
 }
 
 pub fn read(image: &[u8]) -> Table {
@@ -68,17 +79,20 @@ pub fn read(image: &[u8]) -> Table {
         alarms: (0..ALARMS.many).map(|i| ALARMS.part(i, ALARM_TIME).number(image)).collect(),
         pool: (0..POOL.many).map(|i| request(image, i)).collect(),
         levels: LEVELS.number(image) as u16,
+        subs: (0..SUBS.many).map(|i| sub(image, i)).collect(),
     }
 }
 
 fn task(image: &[u8], i: usize) -> Task {
     let number = |part| ENTRIES.part(i, part).number(image);
     let (time, mask) = (number(TIME), number(MASK) as u32);
+    let awaited = AWAITED.part(i, AWAITED_NUMBER).byte(image);
     Task {
         own: number(OWN) as u8,
-        state: state(number(STATE) as u8, time, mask),
+        state: state(number(STATE) as u8, time, mask, awaited),
         time,
         mask,
+        awaited,
         priority: number(PRIORITY) as u8,
         argument: number(ARGUMENT) as u16,
         start: number(START),
@@ -86,7 +100,7 @@ fn task(image: &[u8], i: usize) -> Task {
     }
 }
 
-fn state(byte: u8, time: u64, mask: u32) -> State {
+fn state(byte: u8, time: u64, mask: u32, awaited: u8) -> State {
     match byte {
         0 => State::Dormant,
         1 => State::Ready,
@@ -96,8 +110,14 @@ fn state(byte: u8, time: u64, mask: u32) -> State {
         5 => State::All(mask),
         6 => State::AwaitStart,
         7 => State::AwaitEnd,
+        8 => State::AwaitSub(awaited),
         stray => State::Stray(stray),
     }
+}
+
+fn sub(image: &[u8], i: usize) -> Sub {
+    let byte = |part| SUBS.part(i, part).byte(image);
+    Sub { holder: byte(HOLDER), waiting: byte(WAITING), places: (0..LINE).map(|i| byte(line_place(i))).collect() }
 }
 
 fn request(image: &[u8], i: usize) -> Request {
@@ -108,6 +128,13 @@ fn request(image: &[u8], i: usize) -> Request {
         argument: number(RUN_ARGUMENT) as u16,
         start_waiter: number(START_WAITER) as u8,
         end_waiter: number(RUN_END_WAITER) as u8,
+    }
+}
+
+impl Sub {
+    /// Those that wait, the next first.
+    pub fn line(&self) -> &[u8] {
+        &self.places[..usize::from(self.waiting).min(LINE)]
     }
 }
 
@@ -130,6 +157,11 @@ impl Table {
     /// The ready queue, head first.
     pub fn line(&self) -> &[u8] {
         &self.queue[..usize::from(self.ready).min(QUEUE.many)]
+    }
+
+    /// A subprogram, where the number is one.
+    pub fn sub(&self, number: u8) -> Option<&Sub> {
+        self.subs.get(usize::from(number))
     }
 
     /// The queued requests, in the order of asking.

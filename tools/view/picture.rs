@@ -6,7 +6,7 @@ use crate::words::time;
 
 /// Of each look: its words, its letter, its colour and its letter's. Any two colours are apart by 29 and more (CIE 1976
 /// difference), also as the three kinds of colour-blindness see them.
-const LOOKS: [(Look, &str, &str, &str, &str); 8] = [
+const LOOKS: [(Look, &str, &str, &str, &str); 9] = [
     (Look::Active, "active", "A", "#005a9c", "#ffffff"),
     (Look::Ready, "ready, passed over", "R", "#a9d5f5", "#10202c"),
     (Look::Paused, "paused", "P", "#fff08a", "#2b2700"),
@@ -14,6 +14,7 @@ const LOOKS: [(Look, &str, &str, &str, &str); 8] = [
     (Look::Flags, "waits for flags", "F", "#9c3503", "#ffffff"),
     (Look::Start, "waits for a start", "S", "#969696", "#111111"),
     (Look::End, "waits for an end", "E", "#363636", "#ffffff"),
+    (Look::Sub, "waits for a subprogram", "W", "#9000f0", "#ffffff"),
     (Look::Dormant, "dormant", "", "none", ""),
 ];
 
@@ -314,6 +315,8 @@ fn short(record: &[u8]) -> String {
         0x03 => "cancel".to_string(),
         0x04 => "start".to_string(),
         0x05 => "queue".to_string(),
+        0x06 => "enter".to_string(),
+        0x07 => "leave".to_string(),
         0x09 => ["reset", "set", "test"].get(usize::from(record[1])).unwrap_or(&"flag").to_string(),
         0x0A => "wait".to_string(),
         0x0B => "alarm".to_string(),

@@ -24,7 +24,7 @@ const fn rows(from: usize, step: usize, many: usize) -> Rows {
 }
 
 /// The bytes of an image.
-pub const LENGTH: usize = 898;
+pub const LENGTH: usize = 1_058;
 
 /// The tasks' entries, and the parts of one.
 pub const ENTRIES: Rows = rows(0, 26, 16);
@@ -63,6 +63,21 @@ pub const RUN_END_WAITER: Place = place(5, 1);
 
 /// The word of the ready levels.
 pub const LEVELS: Place = place(896, 2);
+
+/// The number that each task's state waits for: a subprogram's.
+pub const AWAITED: Rows = rows(898, 1, 16);
+pub const AWAITED_NUMBER: Place = place(0, 1);
+
+/// The subprograms, and the parts of one; the places of its line follow its count.
+pub const SUBS: Rows = rows(914, 18, 8);
+pub const HOLDER: Place = place(0, 1);
+pub const WAITING: Place = place(1, 1);
+pub const LINE: usize = 16;
+
+/// A place of a subprogram's line, from 0.
+pub const fn line_place(i: usize) -> Place {
+    place(2 + i, 1)
+}
 
 /// The bytes of an answer, and the parts of one (docs/EMBEDDING.md).
 pub const ANSWER: usize = 16;

@@ -2,7 +2,7 @@
 
 use crate::calls::mask;
 use crate::image::Table;
-use crate::words::{time, Names};
+use crate::words::{listed, time, Names};
 
 /// The reason of a refusal's number, from the table before the step.
 pub fn reason(before: &Table, record: &[u8], number: u8, names: &Names) -> String {
@@ -17,6 +17,12 @@ pub fn reason(before: &Table, record: &[u8], number: u8, names: &Names) -> Strin
             format!("the alarm of {} is running, until {}", names.flag(record[3]), time(until))
         }
         10 => "the clock would pass 2^40 ms, its end".to_string(),
+        13 => format!("it holds {} already", names.sub(record[1])),
+        14 => not_held(before, record[1], names),
+        15 => {
+            let held = (0..8).filter(|n| before.sub(*n).map_or(0, |sub| sub.holder) == before.active());
+            format!("it holds {}", listed(held.map(|n| names.sub(n))))
+        }
         other => format!("number {other}"),
     }
 }
@@ -32,6 +38,7 @@ fn out_of_range(count: u8, record: &[u8]) -> String {
         0x05 => {
             vec![(body[0] & 0x60 == 0x60, "it cannot wait for both start and end".to_string()), task(count, body[1])]
         }
+        0x06 | 0x07 => vec![(body[0] > 7, format!("there is no subprogram {}; there are 0 to 7", body[0]))],
         0x09 => vec![(body[0] > 2, format!("there is no operation {}", body[0])), flag(body[1])],
         0x0A => vec![
             (body[0] > 1, format!("there is no mode {}", body[0])),
@@ -41,6 +48,14 @@ fn out_of_range(count: u8, record: &[u8]) -> String {
         _ => Vec::new(),
     };
     found.into_iter().find(|(wrong, _)| *wrong).map_or("a number is out of its range".to_string(), |(_, why)| why)
+}
+
+/// Number 14: who holds the subprogram.
+fn not_held(before: &Table, number: u8, names: &Names) -> String {
+    match before.sub(number).map_or(0, |sub| sub.holder) {
+        0 => format!("nobody holds {}", names.sub(number)),
+        holder => format!("{} holds {}", names.task(holder), names.sub(number)),
+    }
 }
 
 fn unit(number: u8) -> (bool, String) {

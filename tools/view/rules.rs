@@ -4,7 +4,7 @@ use crate::image::{Request, State, Table, Task};
 use crate::places::*;
 
 /// The rules, in the order of docs/TABLE.md, then 02's; before them what makes bytes an image at all.
-pub const RULES: [&str; 11] = [
+pub const RULES: [&str; 12] = [
     "an image has no byte that no stored table has there",
     "every number is in range",
     "the ready queue holds exactly the ready tasks, once each, in descending priority",
@@ -15,6 +15,8 @@ pub const RULES: [&str; 11] = [
     "a waiter that is named is another task in the matching state, and each such state is named once",
     "a dormant task holds zeros but for its own priority",
     "entries past the task count and free places are zero",
+    "a subprogram's holder is not dormant, and its line holds exactly those that wait for it, once each, in descending \
+     priority; a free one has no line",
     "the word of the ready levels has bit p set exactly if some ready task has priority p",
 ];
 
@@ -31,6 +33,7 @@ pub fn broken(table: &Table) -> Vec<Broken> {
     found.strays();
     found.numbers();
     found.requests_in_range();
+    found.subprograms_in_range();
     found.queue();
     found.times();
     found.starts();
@@ -39,6 +42,7 @@ pub fn broken(table: &Table) -> Vec<Broken> {
     found.links();
     found.dormant();
     found.free();
+    found.subprograms();
     found.levels();
     found.list
 }
@@ -79,6 +83,11 @@ impl Found<'_> {
             let mask = task.mask;
             self.rule(0, waits || mask == 0, ENTRIES.part(i, MASK), || {
                 format!("task {k} waits for no flags, and has the mask {mask:08X}")
+            });
+            let waits = matches!(task.state, State::AwaitSub(_));
+            let awaited = task.awaited;
+            self.rule(0, waits || awaited == 0, AWAITED.part(i, AWAITED_NUMBER), || {
+                format!("task {k} waits for no subprogram, and has the number {awaited} of one")
             });
         }
     }
@@ -128,21 +137,64 @@ impl Found<'_> {
 
     fn queue(&mut self) {
         let line = self.table.line().to_vec();
+        self.line(2, &line, |i| QUEUE.part(i, QUEUE_TASK), State::Ready, "the queue", "ready");
+    }
+
+    /// A line holds exactly the tasks of its state, once each, in descending priority.
+    fn line(&mut self, rule: usize, line: &[u8], place: impl Fn(usize) -> Place, state: State, what: &str, so: &str) {
         for (i, &k) in line.iter().enumerate() {
-            let at = QUEUE.part(i, QUEUE_TASK);
-            self.rule(2, self.is_task(k), at, || format!("place {} of the queue holds {k}, which is no task", i + 1));
-            self.rule(2, !self.is_task(k) || self.table.state(k) == State::Ready, at, || {
-                format!("task {k} stands in the queue and is not ready")
+            let at = place(i);
+            self.rule(rule, self.is_task(k), at, || format!("place {} of {what} holds {k}, which is no task", i + 1));
+            self.rule(rule, !self.is_task(k) || self.table.state(k) == state, at, || {
+                format!("task {k} stands in {what} and is not {so}")
             });
-            self.rule(2, !line[..i].contains(&k), at, || format!("task {k} stands in the queue twice"));
+            self.rule(rule, !line[..i].contains(&k), at, || format!("task {k} stands in {what} twice"));
             let level = |k: u8| self.table.task(k).map_or(0, |task| task.priority);
             let rises = i > 0 && level(line[i - 1]) < level(k);
-            self.rule(2, !rises, at, || format!("task {k} stands behind one of lower priority"));
+            self.rule(rule, !rises, at, || format!("task {k} stands behind one of lower priority"));
         }
         for (i, k, task) in self.entries() {
-            self.rule(2, task.state != State::Ready || line.contains(&k), ENTRIES.part(i, STATE), || {
-                format!("task {k} is ready and does not stand in the queue")
+            self.rule(rule, task.state != state || line.contains(&k), ENTRIES.part(i, STATE), || {
+                format!("task {k} is {so} and does not stand in {what}")
             });
+        }
+    }
+
+    fn subprograms_in_range(&mut self) {
+        for (i, k, task) in self.entries() {
+            if let State::AwaitSub(number) = task.state {
+                self.rule(1, usize::from(number) < SUBS.many, AWAITED.part(i, AWAITED_NUMBER), || {
+                    format!("task {k} waits for subprogram {number}, which is none")
+                });
+            }
+        }
+        for (m, sub) in self.table.subs.clone().into_iter().enumerate() {
+            let (holder, waiting) = (sub.holder, usize::from(sub.waiting));
+            self.rule(1, holder == 0 || self.is_task(holder), SUBS.part(m, HOLDER), || {
+                format!("subprogram {m} is held by task {holder}, which is none")
+            });
+            self.rule(1, waiting <= LINE, SUBS.part(m, WAITING), || {
+                format!("{waiting} wait for subprogram {m}, and its line has 16 places")
+            });
+        }
+    }
+
+    fn subprograms(&mut self) {
+        for (m, sub) in self.table.subs.clone().into_iter().enumerate() {
+            let holder = sub.holder;
+            let dormant = self.is_task(holder) && self.table.state(holder) == State::Dormant;
+            self.rule(10, !dormant, SUBS.part(m, HOLDER), || {
+                format!("subprogram {m} is held by task {holder}, which is dormant")
+            });
+            self.rule(10, holder != 0 || sub.waiting == 0, SUBS.part(m, HOLDER), || {
+                format!("subprogram {m} is free, and {} wait for it", sub.waiting)
+            });
+            let (what, so) = (format!("the line of subprogram {m}"), format!("waiting for subprogram {m}"));
+            let place = |i| SUBS.part(m, line_place(i));
+            self.line(10, sub.line(), place, State::AwaitSub(m as u8), &what, &so);
+            for (i, k) in sub.places.iter().enumerate().skip(usize::from(sub.waiting)) {
+                self.rule(10, *k == 0, place(i), || format!("place {} of {what} is free, and not 0", i + 1));
+            }
         }
     }
 
@@ -265,8 +317,8 @@ impl Found<'_> {
         for p in 0..=HIGHEST {
             let lit = levels >> p & 1 == 1;
             let ready = self.table.tasks.iter().any(|task| task.state == State::Ready && task.priority == p);
-            self.rule(10, !lit || ready, LEVELS, || format!("bit {p} is set, and no ready task has priority {p}"));
-            self.rule(10, lit || !ready, LEVELS, || format!("a ready task has priority {p}, and bit {p} is not set"));
+            self.rule(11, !lit || ready, LEVELS, || format!("bit {p} is set, and no ready task has priority {p}"));
+            self.rule(11, lit || !ready, LEVELS, || format!("a ready task has priority {p}, and bit {p} is not set"));
         }
     }
 }

@@ -1,6 +1,6 @@
 //! A table as a person reads it, from its image.
 
-use crate::image::{read, Request, State, Table, Task};
+use crate::image::{read, Request, State, Sub, Table, Task};
 use crate::places::LENGTH;
 use crate::rules::{broken, RULES};
 use crate::words::{flags_of, grouped, listed, time, Names};
@@ -24,6 +24,9 @@ pub fn table(image: &[u8], names: &Names) -> Result<(String, bool), String> {
     text += &head(&table, names);
     for (i, request) in table.requests().iter().enumerate() {
         text += &entry(&format!("request {}", i + 1), &asked(request, names));
+    }
+    for (n, sub) in (0..).zip(&table.subs).filter(|(_, sub)| sub.holder != 0 || sub.waiting != 0) {
+        text += &entry(&format!("sub {n}"), &shared(n, sub, names));
     }
     for k in table.numbers() {
         if let Some(task) = table.task(k) {
@@ -81,6 +84,14 @@ fn asked(request: &Request, names: &Names) -> String {
     words
 }
 
+/// A subprogram that is in use: its holder, and those that wait for it.
+fn shared(number: u8, sub: &Sub, names: &Names) -> String {
+    let holder = if sub.holder == 0 { "free".to_string() } else { format!("held by {}", names.task(sub.holder)) };
+    let waits = sub.line().iter().map(|k| names.task(*k)).collect();
+    let name = names.of_sub(number).map_or(String::new(), |name| format!("{name}, "));
+    format!("{name}{holder}; waiting: {}", none_or(waits, "nobody"))
+}
+
 fn in_words(table: &Table, k: u8, task: &Task, names: &Names) -> String {
     let name = names.of_task(k).map_or(String::new(), |name| format!("{name}, "));
     let mut words = format!("{name}own priority {}: {}", task.own, state(table, k, task.state, names));
@@ -110,6 +121,10 @@ fn state(table: &Table, k: u8, state: State, names: &Names) -> String {
         State::Any(mask) | State::All(mask) => format!("waits for {}", names.flags(mask)),
         State::AwaitStart => awaited(table, k, "start", names),
         State::AwaitEnd => awaited(table, k, "end", names),
+        State::AwaitSub(number) => match table.sub(number).map_or(0, |sub| sub.holder) {
+            0 => format!("waits for {}, and nobody holds it", names.sub(number)),
+            holder => format!("waits for {}, held by {}", names.sub(number), names.task(holder)),
+        },
         State::Stray(byte) => format!("in no state: its byte is {byte}"),
     }
 }

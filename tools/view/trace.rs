@@ -65,6 +65,7 @@ fn state(state: State) -> String {
         State::All(mask) => format!("all:{}", set_flags(mask)),
         State::AwaitStart => "start".to_string(),
         State::AwaitEnd => "end".to_string(),
+        State::AwaitSub(number) => format!("subprogram:{number}"),
         State::Stray(byte) => format!("state:{byte}"),
     }
 }

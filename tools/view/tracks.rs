@@ -12,6 +12,7 @@ pub enum Look {
     Flags,
     Start,
     End,
+    Sub,
     Dormant,
 }
 
@@ -98,6 +99,7 @@ fn look(state: &str, active: bool) -> Option<Look> {
         "any" | "all" => Look::Flags,
         "start" => Look::Start,
         "end" => Look::End,
+        "subprogram" => Look::Sub,
         "dormant" => Look::Dormant,
         _ => return None,
     })

@@ -1,20 +1,23 @@
-//! How things are called: tasks and flags by their names, times, lists.
+//! How things are called: tasks, flags and subprograms by their names, times, lists.
 
-/// The names that a file gives to tasks and flags.
+/// The names that a file gives to tasks, flags and subprograms.
 #[derive(Default)]
 pub struct Names {
     tasks: Vec<(u8, String)>,
     flags: Vec<(u8, String)>,
+    subs: Vec<(u8, String)>,
 }
 
 impl Names {
-    /// From a line such as `1 humidity, 2 door, flag 0 door is closed`; what has no number is passed over.
+    /// From a line such as `1 humidity, 2 door, flag 0 door is closed, subprogram 4 sensor`; what has no number is passed
+    /// over.
     pub fn new(line: &str) -> Names {
         let mut names = Names::default();
         for part in line.split(',').map(str::trim) {
-            let (list, part) = match part.strip_prefix("flag ") {
-                Some(rest) => (&mut names.flags, rest.trim()),
-                None => (&mut names.tasks, part),
+            let (list, part) = match (part.strip_prefix("flag "), part.strip_prefix("subprogram ")) {
+                (Some(rest), _) => (&mut names.flags, rest.trim()),
+                (_, Some(rest)) => (&mut names.subs, rest.trim()),
+                _ => (&mut names.tasks, part),
             };
             if let Some((number, name)) = part.split_once(' ') {
                 if let Ok(number) = number.parse() {
@@ -41,6 +44,15 @@ impl Names {
     /// A flag in a sentence: its number, and its name where it has one.
     pub fn flag(&self, number: u8) -> String {
         self.of_flag(number).map_or(format!("flag {number}"), |name| format!("flag {number} ({name})"))
+    }
+
+    /// A subprogram in a sentence: its number, and its name where it has one.
+    pub fn sub(&self, number: u8) -> String {
+        self.of_sub(number).map_or(format!("subprogram {number}"), |name| format!("subprogram {number} ({name})"))
+    }
+
+    pub fn of_sub(&self, number: u8) -> Option<&str> {
+        self.subs.iter().find(|(known, _)| *known == number).map(|(_, name)| name.as_str())
     }
 
     /// The flags of a mask: `flag 0`, or `flags 0, 3`.
