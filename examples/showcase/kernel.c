@@ -55,7 +55,8 @@ uint32_t kernel_start_of(uint8_t task) { return contexts[task].start; }
 
 uint32_t kernel_skipped_of(uint8_t task) { return contexts[task].skipped; }
 
-uint32_t kernel_check(void) { return quermanic_check(image, sizeof image); }
+/* A call without a record: the check is made by the handler, since a task's stack has no room for it. */
+uint32_t kernel_check(void) { return kernel_call(0, 0, 0); }
 
 static void returned(void) { kernel_stop("a task returned from its run"); }
 
@@ -133,13 +134,18 @@ static uint32_t *switch_to(const uint8_t *answer) {
     return next->sp;
 }
 
-/* A call: r0 is the record, r1 its length, r2 where the answer goes; r0 is to be the number. 00, 01 end the run. */
+/* A call: r0 is the record, r1 its length, r2 where the answer goes; r0 is to be the number. 00, 01 end the run. Without
+ * a record it asks for the check, and the caller goes on. */
 __attribute__((used)) static uint32_t *take_call(uint32_t *sp) {
     const uint8_t *record = (const uint8_t *)sp[R0];
-    const uint8_t kind = record[0];
+    const uint8_t kind = record == 0 ? 0 : record[0];
     uint8_t answer[QUERMANIC_ANSWER_LENGTH]; /* not the task's own: its stack may be made anew before the switch */
     uint32_t number, i;
 
+    if (record == 0) {
+        sp[R0] = quermanic_check(image, sizeof image);
+        return sp;
+    }
     contexts[running].sp = sp;
     number = step(record, sp[R1], answer);
     if (number == QUERMANIC_ACCEPTED && (kind == QUERMANIC_KIND_TERMINATE || kind == QUERMANIC_KIND_RESTART)) {
