@@ -1,7 +1,8 @@
 /* Start-up on the emulator's "virt" machines of RISC-V. */
 #include "semihost.h"
 
-enum { STACK = 65536 };
+/* The path of quermanic_why takes the most. */
+enum { STACK = 262144 };
 
 int main(void);
 
