@@ -1,7 +1,7 @@
 -- The entry points' answers and buffers, a law for each of their outcomes.
 use Prim.Native.Nat.{ℕ, _≤_, _<_}
 use mathlib.Core.Path.{_≡_, refl, sym, ap, _∙_}
-use mathlib.Core.Bool.{Bool, true, false, cond}
+use mathlib.Core.Bool.{true, false, cond}
 use mathlib.Core.List.{List}
 use native.Mathlib.Omega.{arith}
 use lib.Dec.{ltb}
@@ -17,7 +17,7 @@ use Rattle.executive.specs.Configuration.{freshOf}
 use Rattle.records.specs.declared.TaskNo.{TaskNo}
 use Rattle.why.specs.declared.Reasons.{Reasons}
 use Rattle.board.specs.Blocks.{written}
-use Rattle.board.specs.Image.{noRoom, imageLength, imageOf, loadOf, isImageOf, isImage, FitsTable}
+use Rattle.board.specs.Image.{noRoom, imageLength, imageOf, loadOf, isImage, FitsTable}
 use Rattle.board.specs.EntryPoints.{checkNumber, CheckedImage, Holds, freshNumber, freshImage, answerLength, answerBytes, answerTo, imageAfter, stepNumber, stepImage, stepAnswer}
 use Rattle.board.specs.Reasons.{reasonsLength, reasonsBytes, reasonsTo, whyNumber, whyAnswer}
 use Rattle.board.proofs.Alike.{decide, never}
@@ -42,11 +42,8 @@ module _ (g o : List ℕ) where
     unfolding freshNumber freshImage
     fresh-made h eu = let e = eq-eqb (length o) imageLength n in let k = eq-eqb (f .answer .number) 0 h in rw (e, ← ef) (sym h, rw k eu)
 
--- ---- the bytes are an image, as it was found
-module _ (s : List ℕ) (t : Table) (et : t ≡ loadOf s) where
-  pub told : {b : Bool} → b ≡ isImageOf s t → isImage s ≡ b
-  told eb = ap (isImageOf s) (sym et) ∙ sym eb
-
+-- ---- the check of some bytes
+module _ (s : List ℕ) where
   pub check-none : isImage s ≡ false → CheckedImage s 1
   unfolding checkNumber
   check-none h = record { number = rw h; right = (λ e. absurd (omega arith), λ w. absurd (never (sym h ∙ w .image))) }
@@ -58,11 +55,9 @@ module _ (s : List ℕ) (t : Table) (et : t ≡ loadOf s) where
       (λ e. rw e (k .right .1 (decided .iff (loadOf s) .0 e)))
       (λ e. rw e (k .wrong .1 (λ w. never (sym e ∙ decided .iff (loadOf s) .1 w))))
 
-  pub check-image : (n : ℕ) → isImage s ≡ true → Checked t n → CheckedImage s n
+  pub check-image : (n : ℕ) → isImage s ≡ true → Checked (loadOf s) n → CheckedImage s n
   unfolding checkNumber
-  check-image n h k =
-      let l : Checked (loadOf s) n = rw et at k in
-      record { number = rw h (table-number n l); right = (λ e. record { image = h; table = l .right .0 e }, λ w. l .right .1 (w .table)) }
+  check-image n h k = record { number = rw h (table-number n k); right = (λ e. record { image = h; table = k .right .0 e }, λ w. k .right .1 (w .table)) }
 
 -- ---- a step
 module _ (s k o : List ℕ) where

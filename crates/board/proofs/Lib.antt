@@ -5,6 +5,7 @@ pub mod Pieces
 pub mod Alike
 pub mod Images
 pub mod Trips
+pub mod Canonical
 pub mod Answered
 pub mod Explained
 pub mod Histories

@@ -6,8 +6,8 @@ use mathlib.Core.List.{List, [], _∷_, _++_, append-assoc}
 use native.Mathlib.Omega.{arith}
 use native.Mathlib.Nat.{add-zero}
 use lib.Dec.{eqb}
-use lib.ListN.{length, getD, drop, length-append}
-use borrow.Author.Tests.{eq-eqb, ne-eqb, eqb-true}
+use lib.ListN.{length, getD, length-append}
+use borrow.Author.Tests.{eq-eqb, eqb-true}
 use Rattle.records.specs.declared.TaskNo.{TaskNo}
 use Rattle.records.specs.Numbers.{Bytes, numberFrom, numberOf, part, lay, cut, Fits}
 use Rattle.executive.specs.declared.Millis.{Millis}
@@ -29,7 +29,7 @@ use Rattle.board.specs.Image.{taskFrom, placeFrom, alarmFrom, requestFro
 use Rattle.board.specs.Image.{imageOf, loadOf, isImageOf, isImage, FitsSub, FitsTable}
 use Rattle.board.proofs.Digits.{digit-fits}
 use Rattle.board.proofs.Spans.{each-or, each-of, each-so, Wide, row-length, length-row, length-blocks, blocks-are}
-use Rattle.board.proofs.Alike.{decide, never, same-self, same-true, same-turn, same-differ}
+use Rattle.board.proofs.Alike.{decide, never, same-self, same-true}
 use Rattle.board.proofs.Images.{Filled, fill, filled, At, at-start, at-next, at-end, at-length, at-parted, cut-at, element-back, row-back, blocks-back}
 
 -- ---- a block's value is that of its numbers
@@ -151,20 +151,27 @@ module _ (t : Table) (z : Sizes t) where
 
 -- ---- storing and loading
 module _ (t : Table) (f : FitsTable t) where
-  -- a task, from its entry and from the number that its state waits for
+  -- the numbers of a task's entry, and the number that its state waits for
+  pub entry-numbers : (i : ℕ) → i < 16 → cut taskWidths (i * taskLength) (imageOf t) ≡ taskNumbers (getD (t .tasks) i noTask)
+  entry-numbers i l =
+      let n = f .sizes .tasks in
+      let z : i * taskLength ≡ 0 + i * taskLength = omega arith in
+      ap (λ k. cut taskWidths k (imageOf t)) z
+      ∙ element-back taskBytes taskLength (λ e. Fits taskWidths (taskNumbers e)) (λ e h. refl) (λ u k. cut taskWidths k u) taskNumbers
+      (λ e h u r k z. cut-at taskWidths (taskNumbers e) r u k z h) (t .tasks) noTask (imageOf t) (fromQueue t) 0 i (f .tasks) (at-tasks t (f .sizes)) (omega arith)
+
+  pub awaited-number : (i : ℕ) → i < 16 → cut awaitedWidths (awaitedAt + i) (imageOf t) ≡ awaitedNumbers (getD (t .tasks) i noTask)
+  awaited-number i l =
+      let n = f .sizes .tasks in
+      let z : awaitedAt + i ≡ awaitedAt + i * 1 = omega arith in
+      ap (λ k. cut awaitedWidths k (imageOf t)) z
+      ∙ element-back awaitedBytes 1 (λ e. Fits awaitedWidths (awaitedNumbers e)) (λ e h. refl) (λ u k. cut awaitedWidths k u) awaitedNumbers
+      (λ e h u r k z. cut-at awaitedWidths (awaitedNumbers e) r u k z h) (t .tasks) noTask (imageOf t) (row subBytes (t .rest .subs)) awaitedAt i (f .awaited) (at-awaited t (f .sizes)) (omega arith)
+
   task-at : (i : ℕ) → i < 16 → taskFrom (imageOf t) (0 + i * 1) ≡ getD (t .tasks) i noTask
   task-at i l =
-      let s = imageOf t in
-      let n = f .sizes .tasks in
-      let a : cut taskWidths (0 + i * taskLength) s ≡ taskNumbers (getD (t .tasks) i noTask) =
-      element-back taskBytes taskLength (λ e. Fits taskWidths (taskNumbers e)) (λ e h. refl) (λ u k. cut taskWidths k u) taskNumbers
-      (λ e h u r k z. cut-at taskWidths (taskNumbers e) r u k z h) (t .tasks) noTask s (fromQueue t) 0 i (f .tasks) (at-tasks t (f .sizes)) (omega arith) in
-      let b : cut awaitedWidths (awaitedAt + i * 1) s ≡ awaitedNumbers (getD (t .tasks) i noTask) =
-      element-back awaitedBytes 1 (λ e. Fits awaitedWidths (awaitedNumbers e)) (λ e h. refl) (λ u k. cut awaitedWidths k u) awaitedNumbers
-      (λ e h u r k z. cut-at awaitedWidths (awaitedNumbers e) r u k z h) (t .tasks) noTask s (row subBytes (t .rest .subs)) awaitedAt i (f .awaited) (at-awaited t (f .sizes)) (omega arith) in
-      let x : (0 + i * 1) * taskLength ≡ 0 + i * taskLength = omega arith in
-      let y : awaitedAt + (0 + i * 1) ≡ awaitedAt + i * 1 = omega arith in
-      ap₂ taskOf (ap (λ k. cut taskWidths k s) x ∙ a) (ap (λ k. cut awaitedWidths k s) y ∙ b) ∙ task-back (getD (t .tasks) i noTask)
+      let z : 0 + i * 1 ≡ i = omega arith in
+      ap (taskFrom (imageOf t)) z ∙ ap₂ taskOf (entry-numbers i l) (awaited-number i l) ∙ task-back (getD (t .tasks) i noTask)
 
   pub load-store : loadOf (imageOf t) ≡ t
   unfolding loadOf
@@ -185,34 +192,6 @@ module _ (t : Table) (f : FitsTable t) where
       λ i. tableOf (eh i) (et i) (eq i) (ea i) (ep i) (eg i) (es i)
 
 -- ---- what an image is
-module _ (s : List ℕ) (t : Table) where
-  pub not-long : (length s ≡ imageLength → ⊥) → false ≡ isImageOf s t
-  unfolding isImageOf
-  not-long h = rw (ne-eqb (length s) imageLength h)
-
-  compared : {u : List ℕ} {r : Bool} → length s ≡ imageLength → u ≡ imageOf t → r ≡ same u s → r ≡ isImageOf s t
-  unfolding isImageOf
-  compared n e f = rw (eq-eqb (length s) imageLength n) (f ∙ ap (λ w. same w s) e)
-
--- the first two bytes are compared apart from the rest
-module _ (s : List ℕ) (t : Table) (f : FitsTable t) (n : length s ≡ imageLength) {u : List ℕ} (e : u ≡ imageOf t) where
-  pub long : length u ≡ imageLength
-  long = ap length e ∙ image-length t (f .sizes)
-
-  pub first-differs : (getD u 0 0 ≡ getD s 0 0 → ⊥) → false ≡ isImageOf s t
-  first-differs d = let l = long in compared s t n e (sym (same-differ u s 0 (omega arith) (omega arith) d))
-
-  module _ (z : getD u 0 0 ≡ getD s 0 0) where
-    pub second-differs : (getD u 1 0 ≡ getD s 1 0 → ⊥) → false ≡ isImageOf s t
-    second-differs d =
-        let l = long in
-        compared s t n e (sym (same-turn u s 0 (omega arith) (omega arith) z ∙ same-differ u s 1 (omega arith) (omega arith) d))
-
-    pub rest-compared : {r : Bool} → getD u 1 0 ≡ getD s 1 0 → r ≡ same (drop 2 u) (drop 2 s) → r ≡ isImageOf s t
-    rest-compared y g =
-        let l = long in
-        compared s t n e (g ∙ sym (same-turn u s 0 (omega arith) (omega arith) z ∙ same-turn u s 1 (omega arith) (omega arith) y))
-
 module _ (s : List ℕ) (e : isImage s ≡ true) where
   pub image-parts : (length s ≡ imageLength) × (imageOf (loadOf s) ≡ s)
   unfolding isImageOf

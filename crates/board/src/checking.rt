@@ -1,44 +1,49 @@
-// Whether some bytes are an image: byte for byte the image of the table that they load to.
+// Whether some bytes are an image: they have its length, and each task's entry holds the numbers of a state. Any bytes
+// may stand in its other places.
+use crate::AWAITED;
 use crate::IMAGE;
-use crate::storing;
-use executive::Table;
+use crate::loading;
+use crate::numbers;
+use executive::Millis;
+use executive::states;
 ghost use mathlib.Core.Path.{_≡_};
-ghost use Prim.Native.Nat.{_≤_};
-ghost use lib.ListN.{length, drop};
-ghost use Rattle.board.specs.Blocks.{same};
-ghost use Rattle.board.specs.Image.{isImageOf};
+ghost use Rattle.board.specs.Image.{isImage};
+ghost use Rattle.board.specs.Coding.{isCode};
 
-// Whether the bytes from a place on are the same. It looks at all of them, so that the compiler can take many at a time.
-fn same_from(a: &[u8], b: &[u8], from: usize) -> bool
-    requires { ⌜ (from ≤ length (now a)) × (length (now a) ≡ length (now b)) ⌝ }
-    ensures { λ r. ⌜ r ≡ same (drop from (now (a .entry))) (drop from (now (b .entry))) ⌝ }
+// Whether a kind, a time, a mask and a number are those of the state that they make. A byte that is no kind is none,
+// and a time, a mask or a number is none where the state holds no such.
+fn is_code(kind: u8, time: Millis, mask: u32, number: u8) -> bool
+    ensures { λ r. ⌜ r ≡ isCode kind time mask number ⌝ }
 {
-    let mut right = true;
-    let mut i = from;
-    while i < a.len() {
-        if a[i] != b[i] {
-            right = false;
-        }
-        i += 1;
+    let state = loading::state_of(kind, time, mask, number);
+    if states::kind_of(state) != kind {
+        return false;
     }
-    right
+    if states::time_of(state).0 != time.0 {
+        return false;
+    }
+    if states::mask_of(state) != mask {
+        return false;
+    }
+    states::awaited_of(state) == number
 }
 
-// Whether the bytes are the image of this table. The first two are compared apart: as many as are left the compiler can
-// take sixteen at a time.
-pub(crate) fn is_image_of(bytes: &[u8], table: Table) -> bool
-    ensures { λ r. ⌜ r ≡ isImageOf (now (bytes .entry)) table ⌝ }
+// Whether the bytes are an image.
+pub(crate) fn is_image(bytes: &[u8]) -> bool
+    ensures { λ r. ⌜ r ≡ isImage (now (bytes .entry)) ⌝ }
 {
     if bytes.len() != IMAGE {
         return false;
     }
-    let mut image = [0u8; IMAGE];
-    storing::put_table(&mut image, table);
-    if image[0] != bytes[0] {
-        return false;
+    let mut i: usize = 0;
+    while i < 16 {
+        let at = i * 26;
+        let time = numbers::long_in(bytes, at + 2);
+        let mask = numbers::word_in(bytes, at + 10);
+        if !is_code(bytes[at + 1], Millis(time), mask, bytes[AWAITED + i]) {
+            return false;
+        }
+        i += 1;
     }
-    if image[1] != bytes[1] {
-        return false;
-    }
-    same_from(&image, bytes, 2)
+    true
 }

@@ -64,10 +64,10 @@ pub extern "C" fn quermanic_fresh(config: &[u8], image: &mut [u8]) -> u8
 pub extern "C" fn quermanic_check(image: &[u8]) -> u8
     ensures { λ r. ⌜ CheckedImage (now (image .entry)) r ⌝ }
 {
-    let table = loading::load(image);
-    if !checking::is_image_of(image, table) {
+    if !checking::is_image(image) {
         return 1;
     }
+    let table = loading::load(image);
     table.check()
 }
 
@@ -81,12 +81,12 @@ pub extern "C" fn quermanic_step(image: &mut [u8], call: &[u8], answer: &mut [u8
     if answer.len() < 16 {
         return NO_ROOM;
     }
-    let table = loading::load(image);
-    if !checking::is_image_of(image, table) {
+    if !checking::is_image(image) {
         let none = executive::answers::no_table();
         answers::put_answer(answer, none);
         return 1;
     }
+    let table = loading::load(image);
     let outcome = table.step(call);
     let said = outcome.answer;
     answers::put_answer(answer, said);

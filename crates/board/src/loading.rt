@@ -23,7 +23,7 @@ ghost use Rattle.board.specs.Blocks.{blocks};
 ghost use Rattle.board.specs.Image.{taskFrom, lineFrom, alarmFrom, requestFrom, subFrom, alarmsAt, poolAt, subsAt, subLength, Loads};
 
 // The state of a kind, a time, a mask and a number. A byte that is no kind gives a wait that no well-formed table holds.
-fn state_of(kind: u8, time: Millis, mask: u32, number: u8) -> State
+pub(crate) fn state_of(kind: u8, time: Millis, mask: u32, number: u8) -> State
     ensures { λ r. ⌜ r ≡ stateOf kind time mask number ⌝ }
 {
     match kind {

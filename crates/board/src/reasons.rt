@@ -139,9 +139,9 @@ pub(crate) fn put_reasons(out: &mut [u8], reasons: Reasons)
 pub(crate) fn reasons_of(image: &[u8], task: TaskNo) -> Reasons
     ensures { λ r. ⌜ r ≡ reasonsTo (now (image .entry)) task ⌝ }
 {
-    let table = loading::load(image);
-    if !checking::is_image_of(image, table) {
+    if !checking::is_image(image) {
         return following::no_table();
     }
+    let table = loading::load(image);
     following::explain(table, task)
 }

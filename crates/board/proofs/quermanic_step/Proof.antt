@@ -1,6 +1,6 @@
 -- `quermanic_step` meets its contract: its four outcomes are the definition's.
 use Prim.Native.Nat.{ℕ, _≤_}
-use mathlib.Core.Path.{_≡_, ap, _∙_}
+use mathlib.Core.Path.{_≡_, sym, ap, _∙_}
 use mathlib.Core.List.{List}
 use native.Mathlib.Omega.{arith}
 use lib.ListN.{length}
@@ -10,13 +10,35 @@ use Rattle.executive.specs.Step.{stepOf}
 use Rattle.executive.specs.declared.Outcome.{Outcome}
 use Rattle.board.specs.Blocks.{written}
 use Rattle.board.specs.EntryPoints.{answerLength, answerBytes}
-use Rattle.board.specs.Image.{loadOf, isImage}
+use Rattle.board.specs.Image.{loadOf}
 use Rattle.board.proofs.Owned.{outcome-owned}
 use Rattle.board.proofs.Trips.{image-parts}
-use Rattle.board.proofs.Answered.{holds, told, step-short, step-none, step-refused, step-done}
+use Rattle.board.proofs.Answered.{holds, step-short, step-none, step-refused, step-done}
 use borrow.Author.Needs.{needs}
 use Rattle.board.proofs.quermanic_step.Statement.{statement}
 use Rattle.board.proofs.quermanic_step.Tie as tie
+
+-- the three buffers as they came
+abbrev image : tie.After-is-image → List ℕ
+image i = now (i .before .before .before .before .before .before .args .image)
+
+abbrev call : tie.After-is-image → List ℕ
+call i = now (i .before .before .before .before .before .before .args .call)
+
+abbrev answer : tie.After-is-image → List ℕ
+answer i = now (i .before .before .before .before .before .before .args .answer)
+
+-- the answer's buffer has room
+room : (i : tie.After-is-image) → answerLength ≤ length (answer i)
+room i = i .before .before .if1 .left
+
+-- where the bytes were held to an image's form, seen from the step
+abbrev found : tie.After-step → tie.After-is-image
+found x = x .before .before .before .before
+
+-- the outcome is that of a step from what the image loads to
+stepped : (x : tie.After-step) → x .step .result ≡ stepOf (loadOf (image (found x))) (call (found x))
+stepped x = x .step .ensures ∙ ap (λ t. stepOf t (call (found x))) (x .before .load .ensures)
 
 returns : tie.Need-returns
 returns c =
@@ -24,73 +46,44 @@ returns c =
     let e = step-short (now (a .image)) (now (a .call)) (now (a .answer)) (c .if1 .taken) in
     record { number = e .0; image = e .1 .0; answer = e .1 .1; holds = λ z. absurd (omega arith) }
 
--- the three buffers as they came
-abbrev image : tie.After-load → List ℕ
-image l = now (l .before .before .before .before .before .before .args .image)
-
-abbrev call : tie.After-load → List ℕ
-call l = now (l .before .before .before .before .before .before .args .call)
-
-abbrev answer : tie.After-load → List ℕ
-answer l = now (l .before .before .before .before .before .before .args .answer)
-
--- the answer's buffer has room
-room : (l : tie.After-load) → answerLength ≤ length (answer l)
-room l = l .before .before .if1 .left
-
--- whether the bytes are an image, as it was found
-found : (i : tie.After-is-image-of) → isImage (image (i .before .before)) ≡ i .is-image-of .result
-found i = let l = i .before .before in told (image l) (l .load .result) (l .load .ensures) (i .is-image-of .ensures)
-
--- the outcome is that of a step from what the image loads to
-stepped : (x : tie.After-step) → let l = x .before .before .before .before in x .step .result ≡ stepOf (loadOf (image l)) (call l)
-stepped x =
-    let l = x .before .before .before .before in
-    x .step .ensures ∙ ap (λ t. stepOf t (call l)) (l .load .ensures)
-
 returns-2 : tie.Need-returns-2
 returns-2 c =
     let p = c .before .before in
-    let n = p .before .before in
-    let i = n .before .before in
-    let l = i .before .before in
-    let none = p .put-answer .ensures ∙ ap (λ x. written (answer l) 0 (answerBytes x)) (n .no-table .ensures) in
-    let e = step-none (image l) (call l) (answer l) (room l) (found i ∙ not-true (i .is-image-of .result) (n .before .if2 .taken)) none in
+    let n = c .before .before .before .before in
+    let i = c .before .before .before .before .before .before in
+    let none = p .put-answer .ensures ∙ ap (λ x. written (answer i) 0 (answerBytes x)) (n .no-table .ensures) in
+    let e = step-none (image i) (call i) (answer i) (room i) (sym (i .is-image .ensures) ∙ not-true (i .is-image .result) (n .before .if2 .taken)) none in
     record { number = e .0; image = e .1 .0; answer = e .1 .1; holds = λ z. absurd (omega arith) }
 
 returns-3 : tie.Need-returns-3
 returns-3 c =
     let p = c .before .before .before in
-    let x = p .before .before .before in
-    let i = x .before .before in
-    let l = i .before .before in
-    let e = found i ∙ not-false (i .is-image-of .result) (x .before .if2 .left) in
+    let x = c .before .before .before .before .before .before in
+    let i = found x in
+    let e = sym (i .is-image .ensures) ∙ not-false (i .is-image .result) (c .before .before .before .before .before .before .before .before .before .if2 .left) in
     let d =
-    step-refused (image l) (call l) (answer l) (room l) (x .step .result) (stepped x) e (c .if3 .taken)
+    step-refused (image i) (call i) (answer i) (room i) (x .step .result) (stepped x) e (c .if3 .taken)
     (p .put-answer2 .ensures) in
     record { number = d .0; image = d .1 .0; answer = d .1 .1; holds = λ z. absurd (c .if3 .taken z) }
 
 put-table-requires : tie.Need-put-table-requires
 put-table-requires c κs =
-    let b = c .before .before .before .before .before .before .before .before .before in
-    let i = b .before in
-    image-parts (image (i .before .before)) (found i ∙ not-false (i .is-image-of .result) (b .if2 .left)) .0
+    let i = c .before .before .before .before .before .before .before .before .before .before .before .before in
+    image-parts (image i) (sym (i .is-image .ensures) ∙ not-false (i .is-image .result) (c .before .before .before .before .before .before .before .before .before .before .before .if2 .left)) .0
 
 returns-4 : tie.Need-returns-4
 returns-4 c =
     let s = c .before .before in
-    let b = s .before .before .before in
-    let p = b .before .before .before in
-    let x = p .before .before .before in
-    let i = x .before .before in
-    let l = i .before .before in
-    let e = found i ∙ not-false (i .is-image-of .result) (x .before .if2 .left) in
+    let p = c .before .before .before .before .before .before .before .before in
+    let x = c .before .before .before .before .before .before .before .before .before .before .before in
+    let i = found x in
+    let e = sym (i .is-image .ensures) ∙ not-false (i .is-image .result) (c .before .before .before .before .before .before .before .before .before .before .before .before .before .before .if2 .left) in
     let d =
-    step-done (image l) (call l) (answer l) (room l) (x .step .result) (stepped x) e (omega (arith, b .if3 .left))
+    step-done (image i) (call i) (answer i) (room i) (x .step .result) (stepped x) e (omega (arith, c .before .before .before .before .before .if3 .left))
     (p .put-answer2 .ensures) (s .put-table .ensures) in
     let o = outcome-owned (x .step .result) _ (x .step .ok) in
     let h =
-    holds (x .step .result .table) (stepOf (loadOf (image l)) (call l) .table) o (ap (λ (y : Outcome). y .table) (stepped x))
+    holds (x .step .result .table) (stepOf (loadOf (image i)) (call i) .table) o (ap (λ (y : Outcome). y .table) (stepped x))
     (s .put-table .ensures) in
     record { number = d .0; image = d .1 .0; answer = d .1 .1; holds = λ z. h }
 
@@ -102,12 +95,12 @@ quermanic-step-spec =
     (λ c κs. search needs)
     (λ c κs. search needs)
     (λ c κs. search needs)
-    (λ c κs. search needs)
     (λ c. search needs)
     (λ c. search needs)
     returns-2
     (λ c κs. search needs)
     (λ c κs. search needs)
+    (λ c. search needs)
     (λ c. search needs)
     (λ c. search needs)
     returns-3
