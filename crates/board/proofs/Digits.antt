@@ -1,35 +1,32 @@
--- A number of some bytes: one byte more of it is read, one byte of it is written.
-use Prim.Native.Nat.{ℕ, zero, suc, _+_, _-_, _*_, _/_, _%_, _^_, _≤_, _<_}
+-- A number of some bytes: its bytes are read one by one, and one byte of it is written.
+use Prim.Native.Nat.{ℕ, zero, suc, _+_, _-_, _*_, _/_, _%_, _^_, _<_}
 use mathlib.Core.Path.{_≡_, refl, ap, _∙_}
 use mathlib.Core.List.{List, [], _∷_, _++_}
 use native.Mathlib.Omega.{arith}
-use native.Mathlib.Nat.{pow-suc, pow-le-pow-right, not-suc-le-zero}
+use native.Mathlib.Nat.{pow-suc, not-suc-le-zero}
 use native.Mathlib.Numerals.{add-one}
 use lib.ListN.{length, getD, length-append}
-use Rattle.records.specs.Numbers.{numberFrom, numberOf, oneAnd, bytesIn, part}
+use Rattle.records.specs.Numbers.{numberOf, oneAnd, bytesIn, part}
 
--- ---- reading: n is what was read so far
-pub from-none : (bs : List ℕ) → numberFrom 0 bs ≡ numberOf bs
-from-none [] = refl
-from-none (b ∷ bs) = ap (λ n. numberFrom n bs) (omega arith)
+-- ---- reading: the bytes from a place on, each read by itself
+module _ (s : List ℕ) (at : ℕ) where
+  pub pair-read : numberOf (getD s at 0 ∷ getD s (at + 1) 0 ∷ []) ≡ numberOf (part 2 at s)
+  pair-read = let e1 : at + 1 ≡ suc at = omega arith in rw e1
 
-pub read-turn : (s : List ℕ) (at w i n b : ℕ) → i < w → b ≡ getD s (at + i) 0
-    → numberFrom n (part (w - i) (at + i) s) ≡ numberFrom (n * 256 + b) (part (w - (i + 1)) (at + (i + 1)) s)
-read-turn s at w i n b h e =
-    let z : w - i ≡ suc (w - (i + 1)) = omega arith in
-    let y : at + (i + 1) ≡ suc (at + i) = omega arith in
-    rw (z, y, e)
+  pub word-read : numberOf (getD s at 0 ∷ getD s (at + 1) 0 ∷ getD s (at + 2) 0 ∷ getD s (at + 3) 0 ∷ []) ≡ numberOf (part 4 at s)
+  word-read =
+      let e1 : at + 1 ≡ suc at = omega arith in
+      let e2 : at + 2 ≡ suc (suc at) = omega arith in
+      let e3 : at + 3 ≡ suc (suc (suc at)) = omega arith in
+      rw (e1, e2, e3)
 
-pub read-end : (s : List ℕ) (at w i n : ℕ) → w ≤ i → numberFrom n (part (w - i) (at + i) s) ≡ n
-read-end s at w i n h = let z : w - i ≡ 0 = omega arith in rw z
+  -- eight by their halves
+  pub halves : numberOf (part 4 at s) * 4294967296 + numberOf (part 4 (at + 4) s) ≡ numberOf (part 8 at s)
+  halves = let e : at + 4 ≡ suc (suc (suc (suc at))) = omega arith in rw e (omega arith)
 
 -- one byte more fits one byte more
 pub digit-fits : (n b i : ℕ) → n < 256 ^ i → b < 256 → n * 256 + b < 256 ^ (i + 1)
 digit-fits n b i hn hb = let z : 256 ^ (i + 1) ≡ 256 ^ i * 256 = ap (λ k. 256 ^ k) (add-one i) ∙ pow-suc 256 i in rw z (omega arith)
-
--- no more than eight bytes are read into 64 bits
-pub wide : (i w : ℕ) → i < w → w ≤ 8 → 256 ^ (i + 1) ≤ 18446744073709551616
-wide i w h k = pow-le-pow-right {n = 256} (omega arith) {i = i + 1} {j = 8} (omega arith)
 
 -- ---- writing
 pub length-one : (w x : ℕ) → length (oneAnd w x) ≡ suc w

@@ -6,6 +6,7 @@ pub mod Alike
 pub mod Images
 pub mod Trips
 pub mod Canonical
+pub mod Padded
 pub mod Answered
 pub mod Explained
 pub mod Histories

@@ -7,7 +7,6 @@ use mathlib.Core.Bool.{Bool, true, false, cond}
 use mathlib.Core.List.{List, [], _∷_, _++_}
 use lib.Dec.{eqb}
 use lib.ListN.{length, take, drop}
-use Rattle.records.specs.Numbers.{numberOf, part}
 
 -- the blocks of some elements, laid one after the other
 unfoldable pub row : {A : Type 0} → (A → List ℕ) → List A → List ℕ
@@ -34,11 +33,6 @@ same [] [] = true
 same [] (y ∷ ys) = false
 same (x ∷ xs) [] = false
 same (x ∷ xs) (y ∷ ys) = cond (eqb x y) (same xs ys) false
-
--- the number of w bytes from a place on
-pub record Number (s : List ℕ) (at w n : ℕ) : Type 0 where
-  pub value : n ≡ numberOf (part w at s)
-  pub small : n < 256 ^ w
 
 -- a number that fits its w bytes, and room for them at a place
 pub record Room (o : List ℕ) (at w x : ℕ) : Type 0 where

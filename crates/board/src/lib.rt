@@ -67,7 +67,7 @@ pub extern "C" fn quermanic_check(image: &[u8]) -> u8
     if !checking::is_image(image) {
         return 1;
     }
-    let table = loading::load(image);
+    let table = loading::load_whole(image);
     table.check()
 }
 
@@ -86,7 +86,7 @@ pub extern "C" fn quermanic_step(image: &mut [u8], call: &[u8], answer: &mut [u8
         answers::put_answer(answer, none);
         return 1;
     }
-    let table = loading::load(image);
+    let table = loading::load_whole(image);
     let outcome = table.step(call);
     let said = outcome.answer;
     answers::put_answer(answer, said);

@@ -1,6 +1,7 @@
 // Loading: from the bytes of an image to the table. Any bytes load; those past the end read as 0.
 use crate::ALARMS;
 use crate::AWAITED;
+use crate::IMAGE;
 use crate::LEVELS;
 use crate::POOL;
 use crate::QUEUE;
@@ -17,10 +18,11 @@ use executive::Task;
 use records::SubNo;
 use records::TaskNo;
 ghost use mathlib.Core.Path.{_≡_};
-ghost use Prim.Native.Nat.{_≤_};
+ghost use Prim.Native.Nat.{ℕ, _+_, _≤_, _<_};
+ghost use lib.ListN.{length, getD};
 ghost use Rattle.executive.specs.States.{stateOf};
 ghost use Rattle.board.specs.Blocks.{blocks};
-ghost use Rattle.board.specs.Image.{taskFrom, lineFrom, alarmFrom, requestFrom, subFrom, alarmsAt, poolAt, subsAt, subLength, Loads};
+ghost use Rattle.board.specs.Image.{taskFrom, lineFrom, alarmFrom, requestFrom, subFrom, alarmsAt, poolAt, subsAt, imageLength, subLength, Loads};
 
 // The state of a kind, a time, a mask and a number. A byte that is no kind gives a wait that no well-formed table holds.
 pub(crate) fn state_of(kind: u8, time: Millis, mask: u32, number: u8) -> State
@@ -42,7 +44,7 @@ pub(crate) fn state_of(kind: u8, time: Millis, mask: u32, number: u8) -> State
 
 // The task whose entry is the i-th.
 fn task_in(bytes: &[u8], i: usize) -> Task
-    requires { ⌜ i ≤ 16 ⌝ }
+    requires { ⌜ (i < 16) × (imageLength ≤ length (now bytes)) ⌝ }
     ensures { λ r. ⌜ r ≡ taskFrom (now (bytes .entry)) i ⌝ }
 {
     let at = i * 26;
@@ -73,7 +75,7 @@ fn task_in(bytes: &[u8], i: usize) -> Task
 
 // The request at a place.
 fn request_in(bytes: &[u8], at: usize) -> Request
-    requires { ⌜ at ≤ 890 ⌝ }
+    requires { ⌜ at + 6 ≤ length (now bytes) ⌝ }
     ensures { λ r. ⌜ r ≡ requestFrom (now (bytes .entry)) at ⌝ }
 {
     let target = numbers::byte_in(bytes, at);
@@ -94,6 +96,7 @@ fn request_in(bytes: &[u8], at: usize) -> Request
 }
 
 fn tasks_in(bytes: &[u8]) -> [Task; 16]
+    requires { ⌜ imageLength ≤ length (now bytes) ⌝ }
     ensures { λ r. ⌜ r ≡ blocks (taskFrom (now (bytes .entry))) 1 16 0 ⌝ }
 {
     let first = task_in(bytes, 0);
@@ -108,7 +111,7 @@ fn tasks_in(bytes: &[u8]) -> [Task; 16]
 
 // The sixteen places of a line: of the queue, of a subprogram.
 fn line_in(bytes: &[u8], at: usize) -> [TaskNo; 16]
-    requires { ⌜ at ≤ 1042 ⌝ }
+    requires { ⌜ at + 16 ≤ length (now bytes) ⌝ }
     ensures { λ r. ⌜ r ≡ lineFrom (now (bytes .entry)) at ⌝ }
 {
     let mut line = [TaskNo(0); 16];
@@ -121,6 +124,7 @@ fn line_in(bytes: &[u8], at: usize) -> [TaskNo; 16]
 }
 
 fn alarms_in(bytes: &[u8]) -> [Millis; 32]
+    requires { ⌜ imageLength ≤ length (now bytes) ⌝ }
     ensures { λ r. ⌜ r ≡ blocks (alarmFrom (now (bytes .entry))) 8 32 alarmsAt ⌝ }
 {
     let mut alarms = [Millis(0); 32];
@@ -133,6 +137,7 @@ fn alarms_in(bytes: &[u8]) -> [Millis; 32]
 }
 
 fn pool_in(bytes: &[u8]) -> [Request; 32]
+    requires { ⌜ imageLength ≤ length (now bytes) ⌝ }
     ensures { λ r. ⌜ r ≡ blocks (requestFrom (now (bytes .entry))) 6 32 poolAt ⌝ }
 {
     let first = request_in(bytes, POOL);
@@ -147,7 +152,7 @@ fn pool_in(bytes: &[u8]) -> [Request; 32]
 
 // The subprogram at a place.
 fn sub_in(bytes: &[u8], at: usize) -> Sub
-    requires { ⌜ at ≤ 1040 ⌝ }
+    requires { ⌜ at + 18 ≤ length (now bytes) ⌝ }
     ensures { λ r. ⌜ r ≡ subFrom (now (bytes .entry)) at ⌝ }
 {
     let holder = numbers::byte_in(bytes, at);
@@ -161,6 +166,7 @@ fn sub_in(bytes: &[u8], at: usize) -> Sub
 }
 
 fn subs_in(bytes: &[u8]) -> [Sub; 8]
+    requires { ⌜ imageLength ≤ length (now bytes) ⌝ }
     ensures { λ r. ⌜ r ≡ blocks (subFrom (now (bytes .entry))) subLength 8 subsAt ⌝ }
 {
     let first = sub_in(bytes, SUBS);
@@ -173,8 +179,9 @@ fn subs_in(bytes: &[u8]) -> [Sub; 8]
     subs
 }
 
-// The table of any bytes.
-pub fn load(bytes: &[u8]) -> Table
+// The table of bytes that are as many as an image has, or more.
+pub(crate) fn load_whole(bytes: &[u8]) -> Table
+    requires { ⌜ imageLength ≤ length (now bytes) ⌝ }
     ensures { λ r. ⌜ Loads (now (bytes .entry)) r ⌝ }
 {
     let tasks = tasks_in(bytes);
@@ -200,4 +207,29 @@ pub fn load(bytes: &[u8]) -> Table
         levels: numbers::pair_in(bytes, LEVELS),
         rest,
     }
+}
+
+// As many bytes as an image has: those that are there, and 0 behind them.
+fn padded(bytes: &[u8]) -> [u8; IMAGE]
+    requires { ⌜ length (now bytes) < imageLength ⌝ }
+    ensures { λ r. ⌜ (length r ≡ imageLength) × ((i : ℕ) → getD r i 0 ≡ getD (now (bytes .entry)) i 0) ⌝ }
+{
+    let mut image = [0u8; IMAGE];
+    let mut i: usize = 0;
+    while i < bytes.len() {
+        image[i] = bytes[i];
+        i += 1;
+    }
+    image
+}
+
+// The table of any bytes.
+pub fn load(bytes: &[u8]) -> Table
+    ensures { λ r. ⌜ Loads (now (bytes .entry)) r ⌝ }
+{
+    if IMAGE <= bytes.len() {
+        return load_whole(bytes);
+    }
+    let image = padded(bytes);
+    load_whole(&image)
 }

@@ -1,51 +1,52 @@
-// One number of some bytes, big-endian, at a place of a buffer: read and written.
-use records::reading::byte_at;
+// Numbers, the highest byte first, at a place of a buffer: read and written.
 ghost use mathlib.Core.Path.{_≡_};
-ghost use Prim.Native.Nat.{_≤_};
+ghost use mathlib.Core.List.{[], _∷_};
+ghost use Prim.Native.Nat.{_+_, _≤_};
+ghost use lib.ListN.{length};
 ghost use Rattle.records.specs.Numbers.{numberOf, part, bytesIn};
-ghost use Rattle.board.specs.Blocks.{written, Number, Room};
-ghost use Rattle.board.specs.Image.{imageLength};
+ghost use Rattle.board.specs.Blocks.{written, Room};
 
-// The number of w bytes from a place on, the first byte the highest.
-pub(crate) fn number_at(bytes: &[u8], at: usize, w: usize) -> u64
-    requires { ⌜ (at ≤ imageLength) × (w ≤ 8) ⌝ }
-    ensures { λ r. ⌜ Number (now (bytes .entry)) at w r ⌝ }
+// The number of two bytes, the first the higher.
+fn pair(a: u8, b: u8) -> u16
+    ensures { λ r. ⌜ r ≡ numberOf (a ∷ b ∷ []) ⌝ }
 {
-    let mut n: u64 = 0;
-    let mut i: usize = 0;
-    while i < w {
-        n = n * 256 + (byte_at(bytes, at + i) as u64);
-        i += 1;
-    }
-    n
+    (a as u16) * 256 + (b as u16)
 }
 
+// The number of four bytes, the first the highest.
+fn word(a: u8, b: u8, c: u8, d: u8) -> u32
+    ensures { λ r. ⌜ r ≡ numberOf (a ∷ b ∷ c ∷ d ∷ []) ⌝ }
+{
+    (((a as u32) * 256 + (b as u32)) * 256 + (c as u32)) * 256 + (d as u32)
+}
+
+// The numbers of one, two, four and eight bytes from a place on.
 pub(crate) fn byte_in(bytes: &[u8], at: usize) -> u8
-    requires { ⌜ at ≤ imageLength ⌝ }
+    requires { ⌜ at + 1 ≤ length (now bytes) ⌝ }
     ensures { λ r. ⌜ r ≡ numberOf (part 1 at (now (bytes .entry))) ⌝ }
 {
-    number_at(bytes, at, 1) as u8
+    bytes[at]
 }
 
 pub(crate) fn pair_in(bytes: &[u8], at: usize) -> u16
-    requires { ⌜ at ≤ imageLength ⌝ }
+    requires { ⌜ at + 2 ≤ length (now bytes) ⌝ }
     ensures { λ r. ⌜ r ≡ numberOf (part 2 at (now (bytes .entry))) ⌝ }
 {
-    number_at(bytes, at, 2) as u16
+    pair(bytes[at], bytes[at + 1])
 }
 
 pub(crate) fn word_in(bytes: &[u8], at: usize) -> u32
-    requires { ⌜ at ≤ imageLength ⌝ }
+    requires { ⌜ at + 4 ≤ length (now bytes) ⌝ }
     ensures { λ r. ⌜ r ≡ numberOf (part 4 at (now (bytes .entry))) ⌝ }
 {
-    number_at(bytes, at, 4) as u32
+    word(bytes[at], bytes[at + 1], bytes[at + 2], bytes[at + 3])
 }
 
 pub(crate) fn long_in(bytes: &[u8], at: usize) -> u64
-    requires { ⌜ at ≤ imageLength ⌝ }
+    requires { ⌜ at + 8 ≤ length (now bytes) ⌝ }
     ensures { λ r. ⌜ r ≡ numberOf (part 8 at (now (bytes .entry))) ⌝ }
 {
-    number_at(bytes, at, 8)
+    (word_in(bytes, at) as u64) * 4294967296 + (word_in(bytes, at + 4) as u64)
 }
 
 // Writes a number over w bytes from a place on, the highest first.

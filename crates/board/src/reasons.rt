@@ -142,6 +142,6 @@ pub(crate) fn reasons_of(image: &[u8], task: TaskNo) -> Reasons
     if !checking::is_image(image) {
         return following::no_table();
     }
-    let table = loading::load(image);
+    let table = loading::load_whole(image);
     following::explain(table, task)
 }

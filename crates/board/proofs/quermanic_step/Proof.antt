@@ -38,7 +38,7 @@ found x = x .before .before .before .before
 
 -- the outcome is that of a step from what the image loads to
 stepped : (x : tie.After-step) → x .step .result ≡ stepOf (loadOf (image (found x))) (call (found x))
-stepped x = x .step .ensures ∙ ap (λ t. stepOf t (call (found x))) (x .before .load .ensures)
+stepped x = x .step .ensures ∙ ap (λ t. stepOf t (call (found x))) (x .before .load-whole .ensures)
 
 returns : tie.Need-returns
 returns c =
@@ -54,6 +54,9 @@ returns-2 c =
     let none = p .put-answer .ensures ∙ ap (λ x. written (answer i) 0 (answerBytes x)) (n .no-table .ensures) in
     let e = step-none (image i) (call i) (answer i) (room i) (sym (i .is-image .ensures) ∙ not-true (i .is-image .result) (n .before .if2 .taken)) none in
     record { number = e .0; image = e .1 .0; answer = e .1 .1; holds = λ z. absurd (omega arith) }
+
+load-whole-requires : tie.Need-load-whole-requires
+load-whole-requires c κs = omega (arith, image-parts (now (c .before .before .before .before .before .before .before .before .args .image)) (sym (c .before .before .is-image .ensures) ∙ not-false (c .before .before .is-image .result) (c .before .if2 .left)) .0)
 
 returns-3 : tie.Need-returns-3
 returns-3 c =
@@ -98,7 +101,7 @@ quermanic-step-spec =
     (λ c. search needs)
     (λ c. search needs)
     returns-2
-    (λ c κs. search needs)
+    load-whole-requires
     (λ c κs. search needs)
     (λ c. search needs)
     (λ c. search needs)

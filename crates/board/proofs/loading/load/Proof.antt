@@ -1,45 +1,22 @@
--- `loading::load` meets its contract: the arrays and the numbers that stand alone are each read where the image has
--- them.
-use mathlib.Core.Path.{refl}
-use Rattle.board.specs.Image.{loadOf}
+-- `loading::load` meets its contract: enough bytes load as they are, and others with 0 behind them, which reads the same.
+use mathlib.Core.Path.{sym, _∙_}
+use native.Mathlib.Omega.{arith}
+use denote.Ref.{now}
+use Rattle.board.proofs.Padded.{load-same}
 use borrow.Author.Needs.{needs}
 use Rattle.board.proofs.loading.load.Statement.{statement}
 use Rattle.board.proofs.loading.load.Tie as tie
 
-returns : tie.Need-returns
-unfolding loadOf
-returns c =
-    let m = c .before .before .before .before .before .before in
-    rw (
-      c .pair-in .ensures,
-      c .before .byte-in4 .ensures,
-      c .before .before .byte-in3 .ensures,
-      c .before .before .before .word-in .ensures,
-      c .before .before .before .before .byte-in2 .ensures,
-      c .before .before .before .before .before .byte-in .ensures,
-      m .long-in .ensures,
-      m .before .subs-in .ensures,
-      m .before .before .pool-in .ensures,
-      m .before .before .before .alarms-in .ensures,
-      m .before .before .before .before .line-in .ensures,
-      m .before .before .before .before .before .tasks-in .ensures,
-    )
-    refl
+returns-2 : tie.Need-returns-2
+returns-2 c = c .load-whole2 .ensures ∙ load-same (c .before .before .padded .result) (now (c .before .before .before .before .before .args .bytes)) (c .before .before .padded .ensures .1)
 
 pub load-spec : {M : Type 1} → statement M
 load-spec =
     tie.close
     (tie.spec
     (λ c κs. search needs)
+    (λ c. search needs)
     (λ c κs. search needs)
-    (λ c κs. search needs)
-    (λ c κs. search needs)
-    (λ c κs. search needs)
-    (λ c κs. search needs)
-    (λ c κs. search needs)
-    (λ c κs. search needs)
-    (λ c κs. search needs)
-    (λ c κs. search needs)
-    (λ c κs. search needs)
-    (λ c κs. search needs)
-    returns)
+    (λ c. search needs)
+    (λ c. search needs)
+    returns-2)
