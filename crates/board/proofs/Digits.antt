@@ -1,9 +1,9 @@
--- A number of some bytes: its bytes are read one by one, and one byte of it is written.
+-- A number of some bytes: its bytes are read one by one, and written one by one.
 use Prim.Native.Nat.{ℕ, zero, suc, _+_, _-_, _*_, _/_, _%_, _^_, _<_}
-use mathlib.Core.Path.{_≡_, refl, ap, _∙_}
+use mathlib.Core.Path.{_≡_, refl, sym, ap, _∙_}
 use mathlib.Core.List.{List, [], _∷_, _++_}
 use native.Mathlib.Omega.{arith}
-use native.Mathlib.Nat.{pow-suc, not-suc-le-zero}
+use native.Mathlib.Nat.{pow-suc, div-div-eq-div-mul}
 use native.Mathlib.Numerals.{add-one}
 use lib.ListN.{length, getD, length-append}
 use Rattle.records.specs.Numbers.{numberOf, oneAnd, bytesIn, part}
@@ -37,14 +37,21 @@ pub length-bytes : (w x : ℕ) → length (bytesIn w x) ≡ w
 length-bytes zero x = refl
 length-bytes (suc w) x = length-one w x
 
--- the last byte apart
-pub bytes-last : (w x : ℕ) → x < 256 ^ suc w → bytesIn (suc w) x ≡ bytesIn w (x / 256) ++ (x % 256 ∷ [])
-bytes-last zero x h = let z : x % 256 ≡ x = omega arith in rw z
-bytes-last (suc w) x h = refl
+-- the bytes of a number of two and of four bytes, by one quotient each; those of eight bytes by their halves
+pub two : (x : ℕ) → x / 256 ∷ x % 256 ∷ [] ≡ bytesIn 2 x
+two x = refl
 
-pub fits-last : (w x : ℕ) → x < 256 ^ suc w → x / 256 < 256 ^ w
-fits-last w x h = let z : 256 ^ suc w ≡ 256 ^ w * 256 = pow-suc 256 w in omega arith
+pub four : (x : ℕ) → x / 16777216 ∷ x / 65536 % 256 ∷ x / 256 % 256 ∷ x % 256 ∷ [] ≡ bytesIn 4 x
+four x =
+    let p : x / 65536 ≡ x / 256 / 256 = sym (div-div-eq-div-mul x 256 256) in
+    let q : x / 16777216 ≡ x / 256 / 256 / 256 = sym (div-div-eq-div-mul x 65536 256) ∙ ap (λ y. y / 256) p in
+    rw (q, p)
 
-pub fits-less : (i n : ℕ) → 0 < i → n < 256 ^ i → n / 256 < 256 ^ (i - 1)
-fits-less zero n p h = absurd (not-suc-le-zero p)
-fits-less (suc i) n p h = let z : suc i - 1 ≡ i = omega arith in rw z (fits-last i n h)
+pub in-halves : (x : ℕ) → bytesIn 4 (x / 4294967296) ++ bytesIn 4 (x % 4294967296) ≡ bytesIn 8 x
+in-halves x =
+    let p : x / 4294967296 ≡ x / 256 / 256 / 256 / 256 = omega arith in
+    let d : x % 4294967296 / 256 / 256 / 256 ≡ x / 256 / 256 / 256 % 256 = omega arith in
+    let c : x % 4294967296 / 256 / 256 % 256 ≡ x / 256 / 256 % 256 = omega arith in
+    let b : x % 4294967296 / 256 % 256 ≡ x / 256 % 256 = omega arith in
+    let a : x % 4294967296 % 256 ≡ x % 256 = omega arith in
+    λ i. bytesIn 4 (p i) ++ (d i ∷ c i ∷ b i ∷ a i ∷ [])

@@ -1,15 +1,13 @@
 -- Bytes written over a part of a buffer, a row of equal blocks written and read.
-use Prim.Native.Nat.{ℕ, zero, suc, _+_, _-_, _*_, _/_, _%_, _^_, _≤_, _<_}
+use Prim.Native.Nat.{ℕ, zero, suc, _+_, _*_, _≤_, _<_}
 use mathlib.Core.Path.{_≡_, refl, sym, ap, _∙_}
 use mathlib.Core.List.{List, [], _∷_, _++_, append-nil, append-assoc}
 use native.Mathlib.Omega.{arith}
 use native.Mathlib.Nat.{add-zero, add-assoc, add-comm, suc-mul, zero-mul, not-suc-le-zero, le-of-suc-le-suc}
 use native.Mathlib.Numerals.{add-one}
 use lib.ListN.{length, getD, take, drop, set, length-append, take-append-drop, drop-of-length-le}
-use lib.Seq.{take-at, drop-at, drop-drop, length-take-le, take-set-le, set-split, take-suc, take-suc-set, take-all}
-use Rattle.records.specs.Numbers.{bytesIn}
+use lib.Seq.{take-at, drop-at, drop-drop, length-take-le, take-suc, take-suc-set, take-all, sets, sets-eq}
 use Rattle.board.specs.Blocks.{row, blocks, Each, written}
-use Rattle.board.proofs.Digits.{length-bytes, bytes-last}
 
 -- ---- bytes written over a part of a buffer
 pub written-none : (o : List ℕ) (at : ℕ) → written o at [] ≡ o
@@ -51,27 +49,21 @@ pub written-whole : (o bs : List ℕ) → length bs ≡ length o → written o 0
 unfolding written
 written-whole o bs e = let d : drop (0 + length bs) o ≡ [] = drop-of-length-le o {i = 0 + length bs} (omega arith) in rw d (append-nil bs)
 
--- the byte right behind some bytes is written before them
-before : (o : List ℕ) (at : ℕ) (bs : List ℕ) (b : ℕ) → at + length bs < length o → written (set o (at + length bs) b) at bs ≡ written o at (bs ++ (b ∷ []))
-unfolding written
-before o at bs b h =
-    let n = at + length bs in
-    let d : drop n (set o n b) ≡ b ∷ drop (suc n) o = ap (drop n) (set-split o n b h) ∙ drop-at (take n o) (b ∷ drop (suc n) o) n (length-take-le n o (omega arith)) in
-    let z : at + length (bs ++ (b ∷ [])) ≡ suc n = ap (λ k. at + k) (length-append bs (b ∷ [])) ∙ omega arith in
-    ap (λ l. l ++ (bs ++ drop n (set o n b))) (take-set-le at o n b (omega arith))
-    ∙ ap (λ l. take at o ++ (bs ++ l)) d
-    ∙ ap (λ l. take at o ++ l) (sym (append-assoc bs (b ∷ []) (drop (suc n) o)))
-    ∙ ap (λ k. take at o ++ ((bs ++ (b ∷ [])) ++ drop k o)) (sym z)
+-- stores one after the other, as straight-line code leaves them
+module _ (o : List ℕ) (at : ℕ) where
+  pub stored : (bs : List ℕ) → at + length bs ≤ length o → sets o at bs ≡ written o at bs
+  unfolding written
+  stored bs h = sets-eq bs o at h ∙ append-assoc (take at o) bs (drop (at + length bs) o)
 
--- a number's last byte, then the others
-pub put-turn : (o : List ℕ) (at i n : ℕ) → 0 < i → at + i ≤ length o → n < 256 ^ i
-    → written (set o (at + (i - 1)) (n % 256)) at (bytesIn (i - 1) (n / 256)) ≡ written o at (bytesIn i n)
-put-turn o at zero n p h k = absurd (not-suc-le-zero p)
-put-turn o at (suc j) n p h k =
-    let z : suc j - 1 ≡ j = omega arith in
-    let l : length (bytesIn j (n / 256)) ≡ j = length-bytes j (n / 256) in
-    rw (z, bytes-last j n k)
-    (ap (λ m. written (set o (at + m) (n % 256)) at (bytesIn j (n / 256))) (sym l) ∙ before o at (bytesIn j (n / 256)) (n % 256) (omega arith))
+  pub stored-two : (a b : ℕ) → at + 2 ≤ length o → set (set o at a) (at + 1) b ≡ written o at (a ∷ b ∷ [])
+  stored-two a b h = let e1 : at + 1 ≡ suc at = omega arith in rw e1 (stored (a ∷ b ∷ []) h)
+
+  pub stored-four : (a b c d : ℕ) → at + 4 ≤ length o → set (set (set (set o at a) (at + 1) b) (at + 2) c) (at + 3) d ≡ written o at (a ∷ b ∷ c ∷ d ∷ [])
+  stored-four a b c d h =
+      let e1 : at + 1 ≡ suc at = omega arith in
+      let e2 : at + 2 ≡ suc (suc at) = omega arith in
+      let e3 : at + 3 ≡ suc (suc (suc at)) = omega arith in
+      rw (e1, e2, e3) (stored (a ∷ b ∷ c ∷ d ∷ []) h)
 
 -- ---- what holds of each element
 module _ {A : Type 0} (P : A → Type 0) where

@@ -1,6 +1,6 @@
 -- Equal blocks that stand one after the other in a row of bytes, and bytes written over a part of a buffer. Nothing
 -- here knows of the table.
-use Prim.Native.Nat.{ℕ, zero, suc, _+_, _≤_, _<_, _^_}
+use Prim.Native.Nat.{ℕ, zero, suc, _+_}
 use Prim.{Unit}
 use mathlib.Core.Path.{_≡_}
 use mathlib.Core.Bool.{Bool, true, false, cond}
@@ -33,9 +33,3 @@ same [] [] = true
 same [] (y ∷ ys) = false
 same (x ∷ xs) [] = false
 same (x ∷ xs) (y ∷ ys) = cond (eqb x y) (same xs ys) false
-
--- a number that fits its w bytes, and room for them at a place
-pub record Room (o : List ℕ) (at w x : ℕ) : Type 0 where
-  pub room : at + w ≤ length o
-  pub width : w ≤ 8
-  pub fits : x < 256 ^ w

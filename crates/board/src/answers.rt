@@ -27,6 +27,6 @@ pub(crate) fn put_answer(out: &mut [u8], answer: Answer)
     storing::put_both(out, 0, answer.number, bit(answer.z));
     storing::put_both(out, 2, bit(answer.v), bit(answer.c));
     storing::put_both(out, 4, answer.active.0, answer.walked);
-    numbers::put(out, 6, 2, answer.argument as u64);
-    numbers::put(out, 8, 8, answer.skipped);
+    numbers::put_pair(out, 6, answer.argument);
+    numbers::put_long(out, 8, answer.skipped);
 }

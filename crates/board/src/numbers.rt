@@ -4,7 +4,7 @@ ghost use mathlib.Core.List.{[], _∷_};
 ghost use Prim.Native.Nat.{_+_, _≤_};
 ghost use lib.ListN.{length};
 ghost use Rattle.records.specs.Numbers.{numberOf, part, bytesIn};
-ghost use Rattle.board.specs.Blocks.{written, Room};
+ghost use Rattle.board.specs.Blocks.{written};
 
 // The number of two bytes, the first the higher.
 fn pair(a: u8, b: u8) -> u16
@@ -49,16 +49,36 @@ pub(crate) fn long_in(bytes: &[u8], at: usize) -> u64
     (word_in(bytes, at) as u64) * 4294967296 + (word_in(bytes, at + 4) as u64)
 }
 
-// Writes a number over w bytes from a place on, the highest first.
-pub(crate) fn put(out: &mut [u8], at: usize, w: usize, x: u64)
-    requires { ⌜ Room (now out) at w x ⌝ }
-    ensures { λ _. ⌜ now (out .exit) ≡ written (now (out .entry)) at (bytesIn w x) ⌝ }
+// Write a number over one, two, four and eight bytes from a place on.
+pub(crate) fn put_byte(out: &mut [u8], at: usize, x: u8)
+    requires { ⌜ at + 1 ≤ length (now out) ⌝ }
+    ensures { λ _. ⌜ now (out .exit) ≡ written (now (out .entry)) at (bytesIn 1 x) ⌝ }
 {
-    let mut n = x;
-    let mut i = w;
-    while 0 < i {
-        i -= 1;
-        out[at + i] = (n % 256) as u8;
-        n = n / 256;
-    }
+    out[at] = x;
+}
+
+pub(crate) fn put_pair(out: &mut [u8], at: usize, x: u16)
+    requires { ⌜ at + 2 ≤ length (now out) ⌝ }
+    ensures { λ _. ⌜ now (out .exit) ≡ written (now (out .entry)) at (bytesIn 2 x) ⌝ }
+{
+    out[at] = (x / 256) as u8;
+    out[at + 1] = (x % 256) as u8;
+}
+
+pub(crate) fn put_word(out: &mut [u8], at: usize, x: u32)
+    requires { ⌜ at + 4 ≤ length (now out) ⌝ }
+    ensures { λ _. ⌜ now (out .exit) ≡ written (now (out .entry)) at (bytesIn 4 x) ⌝ }
+{
+    out[at] = (x / 16777216) as u8;
+    out[at + 1] = (x / 65536 % 256) as u8;
+    out[at + 2] = (x / 256 % 256) as u8;
+    out[at + 3] = (x % 256) as u8;
+}
+
+pub(crate) fn put_long(out: &mut [u8], at: usize, x: u64)
+    requires { ⌜ at + 8 ≤ length (now out) ⌝ }
+    ensures { λ _. ⌜ now (out .exit) ≡ written (now (out .entry)) at (bytesIn 8 x) ⌝ }
+{
+    put_word(out, at, (x / 4294967296) as u32);
+    put_word(out, at + 4, (x % 4294967296) as u32);
 }

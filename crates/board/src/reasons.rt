@@ -109,7 +109,7 @@ fn put_step(out: &mut [u8], at: usize, step: Step)
     let until = until_of(cause);
     storing::put_both(out, at, step.task.0, kind);
     storing::put_both(out, at + 2, on.0, own);
-    numbers::put(out, at + 4, 8, until);
+    numbers::put_long(out, at + 4, until);
 }
 
 // Writes the sixteen steps behind the numbers that stand alone.

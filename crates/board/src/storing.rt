@@ -30,8 +30,8 @@ pub(crate) fn put_both(out: &mut [u8], at: usize, a: u8, b: u8)
     requires { ⌜ at + 2 ≤ length (now out) ⌝ }
     ensures { λ _. ⌜ now (out .exit) ≡ written (now (out .entry)) at (a ∷ b ∷ []) ⌝ }
 {
-    numbers::put(out, at, 1, a as u64);
-    numbers::put(out, at + 1, 1, b as u64);
+    out[at] = a;
+    out[at + 1] = b;
 }
 
 // Writes the front of a task's entry, its own priority and its state, over 14 bytes.
@@ -43,8 +43,8 @@ fn put_state(out: &mut [u8], at: usize, own: u8, state: State)
     let time = states::time_of(state);
     let mask = states::mask_of(state);
     put_both(out, at, own, kind);
-    numbers::put(out, at + 2, 8, time.0);
-    numbers::put(out, at + 10, 4, mask as u64);
+    numbers::put_long(out, at + 2, time.0);
+    numbers::put_word(out, at + 10, mask);
 }
 
 // Writes the rest of a task's entry, of its run, over 12 bytes.
@@ -52,10 +52,10 @@ fn put_run(out: &mut [u8], at: usize, task: Task)
     requires { ⌜ at + 12 ≤ length (now out) ⌝ }
     ensures { λ _. ⌜ now (out .exit) ≡ written (now (out .entry)) at (runBytes task) ⌝ }
 {
-    numbers::put(out, at, 1, task.priority as u64);
-    numbers::put(out, at + 1, 2, task.argument as u64);
-    numbers::put(out, at + 3, 8, task.start.0);
-    numbers::put(out, at + 11, 1, task.end_waiter.0 as u64);
+    numbers::put_byte(out, at, task.priority);
+    numbers::put_pair(out, at + 1, task.argument);
+    numbers::put_long(out, at + 3, task.start.0);
+    numbers::put_byte(out, at + 11, task.end_waiter.0);
 }
 
 // Writes a task's entry over 26 bytes.
@@ -74,7 +74,7 @@ fn put_request(out: &mut [u8], at: usize, request: Request)
     ensures { λ _. ⌜ now (out .exit) ≡ written (now (out .entry)) at (requestBytes request) ⌝ }
 {
     put_both(out, at, request.target.0, request.priority);
-    numbers::put(out, at + 2, 2, request.argument as u64);
+    numbers::put_pair(out, at + 2, request.argument);
     put_both(out, at + 4, request.start_waiter.0, request.end_waiter.0);
 }
 
@@ -85,8 +85,8 @@ fn put_head(out: &mut [u8], ready: u8, rest: Rest)
 {
     put_both(out, 432, ready, rest.count);
     put_both(out, 434, rest.granule, rest.queued);
-    numbers::put(out, 436, 8, rest.clock.0);
-    numbers::put(out, 444, 4, rest.flags as u64);
+    numbers::put_long(out, 436, rest.clock.0);
+    numbers::put_word(out, 444, rest.flags);
 }
 
 // Writes a place of the queue, an alarm's time.
@@ -94,14 +94,14 @@ fn put_place(out: &mut [u8], at: usize, task: TaskNo)
     requires { ⌜ at + 1 ≤ length (now out) ⌝ }
     ensures { λ _. ⌜ now (out .exit) ≡ written (now (out .entry)) at (placeBytes task) ⌝ }
 {
-    numbers::put(out, at, 1, task.0 as u64);
+    numbers::put_byte(out, at, task.0);
 }
 
 fn put_alarm(out: &mut [u8], at: usize, time: Millis)
     requires { ⌜ at + 8 ≤ length (now out) ⌝ }
     ensures { λ _. ⌜ now (out .exit) ≡ written (now (out .entry)) at (alarmBytes time) ⌝ }
 {
-    numbers::put(out, at, 8, time.0);
+    numbers::put_long(out, at, time.0);
 }
 
 // Write the arrays, each where the image has it.
@@ -157,7 +157,7 @@ fn put_awaited(out: &mut [u8], at: usize, task: Task)
 {
     let state = task.state;
     let number = states::awaited_of(state);
-    numbers::put(out, at, 1, number as u64);
+    numbers::put_byte(out, at, number);
 }
 
 fn put_all_awaited(out: &mut [u8], tasks: [Task; 16])
@@ -207,7 +207,7 @@ pub(crate) fn put_table(out: &mut [u8], table: Table)
     put_alarms(out, alarms);
     let pool = rest.pool;
     put_pool(out, pool);
-    numbers::put(out, LEVELS, 2, table.levels as u64);
+    numbers::put_pair(out, LEVELS, table.levels);
     put_all_awaited(out, tasks);
     let subs = rest.subs;
     put_subs(out, subs);

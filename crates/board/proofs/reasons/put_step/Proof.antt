@@ -7,14 +7,11 @@ use Rattle.board.proofs.reasons.put_step.Tie as tie
 
 returns : tie.Need-returns
 returns c =
-    let third = c .before .before in
-    let second = third .before .before .before .before in
-    let first = second .before .before .before .before in
-    let until = first .before .before in
+    let until = c .before .before .before .before .before .before .before .before .before .before .before .before in
     let own = until .before in
     let on = own .before in
     let kind = on .before in
-    let start = kind .before .before in
+    let start = c .before .before .before .before .before .before .before .before .before .before .before .before .before .before .before .before .before in
     let a = start .args in
     wrote-step (now (a .out)) (a .at) (a .step) (kind .kind-of .result) (on .waited-on .result) (own .own-byte .result)
     (until .until-of .result)
@@ -22,9 +19,9 @@ returns c =
     (on .waited-on .ensures)
     (own .own-byte .ensures)
     (until .until-of .ensures)
-    (first .put-both .ensures)
-    (second .put-both2 .ensures)
-    (third .put .ensures)
+    (c .before .before .before .before .before .before .before .before .before .before .put-both .ensures)
+    (c .before .before .before .before .before .before .put-both2 .ensures)
+    (c .before .before .put-long .ensures)
     (start .pre)
 
 pub put-step-spec : {M : Type 1} → statement M
@@ -37,7 +34,7 @@ put-step-spec =
     (λ c κs. search needs)
     (λ c κs. search needs)
     (λ c. search needs)
-    (λ c κs. search needs)
+    (λ c. search needs)
     (λ c. search needs)
     (λ c κs. search needs)
     (λ c. search needs)

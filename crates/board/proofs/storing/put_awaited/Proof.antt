@@ -9,9 +9,14 @@ use Rattle.board.proofs.storing.put_awaited.Tie as tie
 
 returns : tie.Need-returns
 returns c =
-    let w = c .before .before in
-    let a = w .before .before .before .before .args in
-    w .put .ensures ∙ ap (λ n. written (now (a .out)) (a .at) (n ∷ [])) (w .before .before .awaited-of .ensures)
+    let a = c .before .before .before .before .before .before .args in
+    c .before .before .put-byte .ensures ∙ ap (λ n. written (now (a .out)) (a .at) (n ∷ [])) (c .before .before .before .before .awaited-of .ensures)
 
 pub put-awaited-spec : {M : Type 1} → statement M
-put-awaited-spec = tie.close (tie.spec (λ c κs. search needs) (λ c. search needs) (λ c κs. search needs) (λ c. search needs) returns)
+put-awaited-spec =
+    tie.close
+    (tie.spec
+    (λ c κs. search needs)
+    (λ c κs. search needs)
+    (λ c. search needs)
+    returns)

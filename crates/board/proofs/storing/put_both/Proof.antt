@@ -1,19 +1,21 @@
--- `storing::put_both` meets its contract: the two writes make one.
-use mathlib.Core.List.{[], _∷_}
+-- `storing::put_both` meets its contract: two stores.
 use native.Mathlib.Omega.{arith}
+use lib.ListN.{length-set}
 use denote.Ref.{now}
-use Rattle.board.proofs.Spans.{and-then}
+use Rattle.board.proofs.Spans.{stored-two}
 use borrow.Author.Needs.{needs}
 use Rattle.board.proofs.storing.put_both.Statement.{statement}
 use Rattle.board.proofs.storing.put_both.Tie as tie
 
 returns : tie.Need-returns
-returns c =
-    let start = c .before .before .before .before .before .before .before .before .before in
-    let a = start .args in
-    let b0 = a .a ∷ [] in
-    let b1 = a .b ∷ [] in
-    and-then (now (a .out)) (a .at) b0 b1 (c .before .before .before .before .before .before .put .ensures) (c .before .before .put2 .ensures) (omega (arith, start .pre))
+returns c = stored-two (now (c .args .out)) (c .args .at) (c .args .a) (c .args .b) (c .pre)
 
 pub put-both-spec : {M : Type 1} → statement M
-put-both-spec = tie.close (tie.spec (λ c κs. search needs) (λ c. search needs) (λ c κs. search needs) (λ c. search needs) returns)
+put-both-spec =
+    tie.close
+    (tie.spec
+    (λ c. search needs)
+    (λ c. search needs)
+    (λ c. simp length-set (omega arith))
+    (λ c. search needs)
+    returns)

@@ -10,13 +10,14 @@ use Rattle.board.proofs.storing.put_request.Tie as tie
 
 returns : tie.Need-returns
 returns c =
-    let start = c .before .before .before .before .before .before .before .before .before .before .before .before .before .before in
+    let start = c .before .before .before .before .before .before .before .before .before .before .before .before .before in
     let a = start .args in
+    let o = now (a .out) in
     let b0 = a .request .target .0 ∷ a .request .priority ∷ [] in
     let b1 = bytesIn 2 (a .request .argument) in
     let b2 = a .request .«start_waiter» .0 ∷ a .request .«end_waiter» .0 ∷ [] in
-    let e1 = and-then (now (a .out)) (a .at) b0 b1 (c .before .before .before .before .before .before .before .before .before .before .before .put-both .ensures) (c .before .before .before .before .before .before .put .ensures) (omega (arith, start .pre)) in
-    and-then (now (a .out)) (a .at) (b0 ++ b1) b2 e1 (c .before .before .put-both2 .ensures) (omega (arith, start .pre))
+    let e1 = and-then o (a .at) b0 b1 (c .before .before .before .before .before .before .before .before .before .before .put-both .ensures) (c .before .before .before .before .before .before .put-pair .ensures) (omega (arith, start .pre)) in
+    and-then o (a .at) (b0 ++ b1) b2 e1 (c .before .before .put-both2 .ensures) (omega (arith, start .pre))
 
 pub put-request-spec : {M : Type 1} → statement M
 put-request-spec =
@@ -24,9 +25,8 @@ put-request-spec =
     (tie.spec
     (λ c κs. search needs)
     (λ c. search needs)
-    (λ c. search needs)
     (λ c κs. search needs)
     (λ c. search needs)
-    (λ c κs. search needs)
+    (λ c. search needs)
     (λ c. search needs)
     returns)
