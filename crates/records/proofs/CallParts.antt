@@ -30,6 +30,8 @@ call-whole (call.Task p m) = refl
 call-whole call.End = refl
 call-whole (call.Enter m) = refl
 call-whole (call.Exit m) = refl
+call-whole (call.Send t x) = refl
+call-whole (call.Receive t) = refl
 
 pub call-parts : (k : Kind) (xs : List ℕ) (c : Call) → length xs ≡ length (bodyOf k) → gotOf k xs ≡ got.Call c
     → (kindOfCall c ≡ k) × (fieldsOf c ≡ xs)
@@ -49,3 +51,5 @@ call-parts kind.Task xs c n e = (ap kindOfCall (same e), ap fieldsOf (same e) �
 call-parts kind.End xs c n e = (ap kindOfCall (same e), ap fieldsOf (same e) ∙ sym (part-drop xs 0 0 (omega arith)))
 call-parts kind.Enter xs c n e = (ap kindOfCall (same e), ap fieldsOf (same e) ∙ sym (part-drop xs 1 0 (omega arith)))
 call-parts kind.Exit xs c n e = (ap kindOfCall (same e), ap fieldsOf (same e) ∙ sym (part-drop xs 1 0 (omega arith)))
+call-parts kind.Send xs c n e = (ap kindOfCall (same e), ap fieldsOf (same e) ∙ sym (part-drop xs 2 0 (omega arith)))
+call-parts kind.Receive xs c n e = (ap kindOfCall (same e), ap fieldsOf (same e) ∙ sym (part-drop xs 1 0 (omega arith)))

@@ -30,6 +30,8 @@ read-as-in-range s h kind.Task = cut-fits s h (bodyOf kind.Task) 1
 read-as-in-range s h kind.End = cut-fits s h (bodyOf kind.End) 1
 read-as-in-range s h kind.Enter = cut-fits s h (bodyOf kind.Enter) 1
 read-as-in-range s h kind.Exit = cut-fits s h (bodyOf kind.Exit) 1
+read-as-in-range s h kind.Send = cut-fits s h (bodyOf kind.Send) 1
+read-as-in-range s h kind.Receive = cut-fits s h (bodyOf kind.Receive) 1
 
 -- a call that is read from bytes is in range
 pub read-in-range : (s : List ℕ) → Bytes s → GotInRange (readOf s)

@@ -42,6 +42,8 @@ write-read (call.Task p m) = refl
 write-read call.End = refl
 write-read (call.Enter m) = refl
 write-read (call.Exit m) = refl
+write-read (call.Send t x) = ap (λ n. got.Call (call.Send t (record { 0 = n }))) (number-back 7 (x .0))
+write-read (call.Receive t) = refl
 
 -- each row's first byte is the one that its kind is looked up with
 abbrev agrees : List Row → Bool
@@ -91,6 +93,8 @@ whole kind.Task s c b n h e = ap bytesOf (same e) ∙ laid kind.Task s b n h
 whole kind.End s c b n h e = ap bytesOf (same e) ∙ laid kind.End s b n h
 whole kind.Enter s c b n h e = ap bytesOf (same e) ∙ laid kind.Enter s b n h
 whole kind.Exit s c b n h e = ap bytesOf (same e) ∙ laid kind.Exit s b n h
+whole kind.Send s c b n h e = ap bytesOf (same e) ∙ laid kind.Send s b n h
+whole kind.Receive s c b n h e = ap bytesOf (same e) ∙ laid kind.Receive s b n h
 
 -- reading a record and writing it gives the same bytes
 pub read-write : (s : List ℕ) (c : Call) → Bytes s → readOf s ≡ got.Call c → bytesOf c ≡ s

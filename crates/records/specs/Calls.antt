@@ -28,6 +28,8 @@ kindOfCall (call.Task p m) = kind.Task
 kindOfCall call.End = kind.End
 kindOfCall (call.Enter m) = kind.Enter
 kindOfCall (call.Exit m) = kind.Exit
+kindOfCall (call.Send t x) = kind.Send
+kindOfCall (call.Receive t) = kind.Receive
 
 -- the numbers of a call's body, in the order of its row
 abbrev pub fieldsOf : Call → List ℕ
@@ -46,6 +48,8 @@ fieldsOf (call.Task p m) = p ∷ m ∷ []
 fieldsOf call.End = []
 fieldsOf (call.Enter m) = m .0 ∷ []
 fieldsOf (call.Exit m) = m .0 ∷ []
+fieldsOf (call.Send t x) = t .0 ∷ x .0 ∷ []
+fieldsOf (call.Receive t) = t .0 ∷ []
 
 -- the call of a kind with these numbers; Unknown has none
 abbrev pub gotOf : Kind → List ℕ → Got
@@ -65,6 +69,8 @@ gotOf kind.Task xs = got.Call (call.Task (getD xs 0 0) (getD xs 1 0))
 gotOf kind.End xs = got.Call call.End
 gotOf kind.Enter xs = got.Call (call.Enter (record { 0 = getD xs 0 0 }))
 gotOf kind.Exit xs = got.Call (call.Exit (record { 0 = getD xs 0 0 }))
+gotOf kind.Send xs = got.Call (call.Send (record { 0 = getD xs 0 0 }) (record { 0 = getD xs 1 0 }))
+gotOf kind.Receive xs = got.Call (call.Receive (record { 0 = getD xs 0 0 }))
 
 -- each number of a call is below the bound of its width
 abbrev pub InRange : Call → Type 0

@@ -41,6 +41,8 @@ table =
     ∷ setting kind.End 0x42 []
     ∷ row kind.Enter 0x06 (1 ∷ [])
     ∷ row kind.Exit 0x07 (1 ∷ [])
+    ∷ row kind.Send 0x14 (1 ∷ 8 ∷ [])
+    ∷ row kind.Receive 0x15 (1 ∷ [])
     ∷ []
 
 -- what the first row that passes a test says, or else what is given for none
@@ -66,6 +68,8 @@ place kind.Task = 12
 place kind.End = 13
 place kind.Enter = 14
 place kind.Exit = 15
+place kind.Send = 16
+place kind.Receive = 17
 
 abbrev pub isOf : Kind → Row → Bool
 isOf k r = eqb (place k) (place (r .name))

@@ -37,8 +37,8 @@ pub record Promises : Type 0 where
   -- writing refuses only with 20, and exactly when the buffer is shorter than the record
   pub writes : (c : Call) (o : List ℕ) → (writeNumber (writtenOf c o) ≡ 0) ⊎ (writeNumber (writtenOf c o) ≡ 20)
   pub twenty : (c : Call) (o : List ℕ) → (writeNumber (writtenOf c o) ≡ 20) ↔ (length o < length (bytesOf c))
-  -- no record is longer than six bytes
-  pub short : (c : Call) → length (bytesOf c) ≤ 6
+  -- no record is longer than ten bytes
+  pub short : (c : Call) → length (bytesOf c) ≤ 10
   -- a number that fits its width is that of its bytes; what is read from bytes is in range
   pub number-back : (w x : ℕ) → x < 256 ^ w → numberOf (bytesIn w x) ≡ x
   pub read-in-range : (s : List ℕ) → Bytes s → GotInRange (readOf s)

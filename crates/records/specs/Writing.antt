@@ -45,4 +45,4 @@ writeNumber (written.Refused n) = n
 pub record Encodes (c : Call) (bs : List ℕ) (n : ℕ) : Type 0 where
   pub bytes : take n bs ≡ bytesOf c
   pub count : n ≡ length (bytesOf c)
-  pub small : n ≤ 6
+  pub small : n ≤ 10

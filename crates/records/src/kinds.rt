@@ -22,6 +22,8 @@ pub fn kind_of(byte: u8) -> Kind
         0x42 => Kind::End,
         0x06 => Kind::Enter,
         0x07 => Kind::Exit,
+        0x14 => Kind::Send,
+        0x15 => Kind::Receive,
         _ => Kind::Unknown,
     }
 }
@@ -47,6 +49,8 @@ pub fn length_of(kind: Kind) -> usize
         Kind::End => 1,
         Kind::Enter => 2,
         Kind::Exit => 2,
+        Kind::Send => 10,
+        Kind::Receive => 2,
     }
 }
 
@@ -71,5 +75,7 @@ pub fn is_call(kind: Kind) -> bool
         Kind::End => false,
         Kind::Enter => true,
         Kind::Exit => true,
+        Kind::Send => true,
+        Kind::Receive => true,
     }
 }

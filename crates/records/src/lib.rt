@@ -14,6 +14,9 @@ pub struct FlagNo(pub u8);
 // A controlled subprogram's number, as it came.
 pub struct SubNo(pub u8);
 
+// A message's text, as it came: its eight bytes as one number, the first the highest.
+pub struct Text(pub u64);
+
 // The kinds of records, and Unknown for a first byte that is no carried kind.
 pub enum Kind {
     Unknown,
@@ -32,6 +35,8 @@ pub enum Kind {
     End,
     Enter,
     Exit,
+    Send,
+    Receive,
 }
 
 // A record's kind with the numbers of its body as they came, unused bits too.
@@ -84,6 +89,13 @@ pub enum Call {
     },
     Exit {
         subprogram: SubNo,
+    },
+    Send {
+        task: TaskNo,
+        text: Text,
+    },
+    Receive {
+        task: TaskNo,
     },
 }
 

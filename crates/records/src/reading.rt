@@ -5,7 +5,9 @@ use crate::Got;
 use crate::Kind;
 use crate::SubNo;
 use crate::TaskNo;
+use crate::Text;
 use crate::kinds;
+ghost use Prim.Native.Nat.{_+_, _*_};
 ghost use mathlib.Core.Path.{_≡_};
 ghost use mathlib.Core.List.{[], _∷_};
 ghost use Rattle.records.specs.Numbers.{numberOf, cut};
@@ -38,6 +40,13 @@ fn word(a: u8, b: u8, c: u8, d: u8) -> u32
     (((a as u32) * 256 + (b as u32)) * 256 + (c as u32)) * 256 + (d as u32)
 }
 
+// The number of eight bytes, from those of the first four and of the last four.
+fn long(high: u32, low: u32) -> u64
+    ensures { λ r. ⌜ r ≡ high * 4294967296 + low ⌝ }
+{
+    (high as u64) * 4294967296 + (low as u64)
+}
+
 // The call of a record of 05, whose argument is two bytes.
 fn start_of(bytes: &[u8]) -> Got
     ensures { λ r. ⌜ r ≡ gotOf kind.StartOrQueue (cut (bodyOf kind.StartOrQueue) 1 (now (bytes .entry))) ⌝ }
@@ -59,6 +68,22 @@ fn wait_of(bytes: &[u8]) -> Got
     Got::Call(Call::Wait {
         mode: byte_at(bytes, 1),
         mask: word(b, c, byte_at(bytes, 4), byte_at(bytes, 5)),
+    })
+}
+
+// The call of a record of 14, whose text is eight bytes.
+fn send_of(bytes: &[u8]) -> Got
+    ensures { λ r. ⌜ r ≡ gotOf kind.Send (cut (bodyOf kind.Send) 1 (now (bytes .entry))) ⌝ }
+{
+    let a = byte_at(bytes, 2);
+    let b = byte_at(bytes, 3);
+    let high = word(a, b, byte_at(bytes, 4), byte_at(bytes, 5));
+    let c = byte_at(bytes, 6);
+    let d = byte_at(bytes, 7);
+    let low = word(c, d, byte_at(bytes, 8), byte_at(bytes, 9));
+    Got::Call(Call::Send {
+        task: TaskNo(byte_at(bytes, 1)),
+        text: Text(long(high, low)),
     })
 }
 
@@ -95,6 +120,8 @@ fn call_of(kind: Kind, bytes: &[u8]) -> Got
         Kind::End => Got::Call(Call::End),
         Kind::Enter => Got::Call(Call::Enter { subprogram }),
         Kind::Exit => Got::Call(Call::Exit { subprogram }),
+        Kind::Send => send_of(bytes),
+        Kind::Receive => Got::Call(Call::Receive { task: TaskNo(a) }),
     }
 }
 

@@ -10,7 +10,7 @@ ghost use Rattle.records.specs.Trips.{ComesBack, WritesAgain};
 pub fn write_then_read(call: Call) -> Got
     ensures { λ r. ⌜ ComesBack call r ⌝ }
 {
-    let mut record = [0u8; 6];
+    let mut record = [0u8; 10];
     match writing::write(call, &mut record) {
         Written::Length(n) => reading::read(&record[..n]),
         Written::Refused(number) => Got::Refused(number),

@@ -77,6 +77,8 @@ known kind.Task = inr (λ e. omega arith, λ xs. tt)
 known kind.End = inr (λ e. omega arith, λ xs. tt)
 known kind.Enter = inr (λ e. omega arith, λ xs. tt)
 known kind.Exit = inr (λ e. omega arith, λ xs. tt)
+known kind.Send = inr (λ e. omega arith, λ xs. tt)
+known kind.Receive = inr (λ e. omega arith, λ xs. tt)
 
 -- the four cases of reading
 pub read-cases : {P : Type 0} (s : List ℕ)

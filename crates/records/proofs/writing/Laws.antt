@@ -1,5 +1,5 @@
 -- Which case of `writtenOf` and `outOf` holds, from what the tests of `write` give; one more byte copied; no record is
--- longer than six bytes; when 20 is given.
+-- longer than ten bytes; when 20 is given.
 use Prim.Native.Nat.{ℕ, suc, _+_, _≤_, _<_}
 use mathlib.Core.Path.{_≡_, sym, ap, _∙_}
 use mathlib.Core.Logic.{_↔_, _⊎_, inl, inr}
@@ -54,7 +54,7 @@ pub copy-more : (s d : List ℕ) (i : ℕ) → i < length s → i < length d →
 copy-more s d i hs hd =
     rw (drop-cons d i 0 hd, set-at (take i s) (getD d i 0) (drop (suc i) d) (getD s i 0) i (length-take-le i s (omega arith)), add-one i, take-suc s i 0 hs, append-assoc)
 
-pub bytes-short : (c : Call) → length (bytesOf c) ≤ 6
+pub bytes-short : (c : Call) → length (bytesOf c) ≤ 10
 bytes-short call.Terminate = lit≤ tt
 bytes-short (call.Restart p n) = lit≤ tt
 bytes-short (call.Pause u n) = lit≤ tt
@@ -70,9 +70,11 @@ bytes-short (call.Task p m) = lit≤ tt
 bytes-short call.End = lit≤ tt
 bytes-short (call.Enter m) = lit≤ tt
 bytes-short (call.Exit m) = lit≤ tt
+bytes-short (call.Send t x) = lit≤ tt
+bytes-short (call.Receive t) = lit≤ tt
 
--- what a buffer of at least six bytes says of a write into it: its length and its start are the call's
-module _ (c : Call) (o : List ℕ) (h : 6 ≤ length o) where
+-- what a buffer of at least ten bytes says of a write into it: its length and its start are the call's
+module _ (c : Call) (o : List ℕ) (h : 10 ≤ length o) where
   fits : length (bytesOf c) ≤ length o
   fits = omega (arith, bytes-short c)
 

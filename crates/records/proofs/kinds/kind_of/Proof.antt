@@ -5,11 +5,13 @@ use Rattle.records.specs.Kinds.{kindOf}
 use Rattle.records.proofs.kinds.kind_of.Statement.{statement}
 use Rattle.records.proofs.kinds.kind_of.Tie as tie
 
-returns-16 : tie.Need-returns-16
+returns-18 : tie.Need-returns-18
 unfolding kindOf
-returns-16 c =
+returns-18 c =
     let x = c .match .rest in
     simp (
+      ne-eqb _ _ (x .0 .0 .0 .0 .0 .0 .0 .0 .0 .0 .0 .0 .0 .0 .0 .0 .1),
+      ne-eqb _ _ (x .0 .0 .0 .0 .0 .0 .0 .0 .0 .0 .0 .0 .0 .0 .0 .1),
       ne-eqb _ _ (x .0 .0 .0 .0 .0 .0 .0 .0 .0 .0 .0 .0 .0 .0 .1),
       ne-eqb _ _ (x .0 .0 .0 .0 .0 .0 .0 .0 .0 .0 .0 .0 .0 .1),
       ne-eqb _ _ (x .0 .0 .0 .0 .0 .0 .0 .0 .0 .0 .0 .0 .1),
@@ -47,4 +49,6 @@ kind-of-spec =
     (λ c. rw (c .match .keys13))
     (λ c. rw (c .match .keys14))
     (λ c. rw (c .match .keys15))
-    returns-16)
+    (λ c. rw (c .match .keys16))
+    (λ c. rw (c .match .keys17))
+    returns-18)

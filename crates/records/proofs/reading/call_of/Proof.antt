@@ -42,6 +42,12 @@ returns-15 c = rw (c .enum-told15 .given .1, c .before .before .before .byte-at 
 returns-16 : tie.Need-returns-16
 returns-16 c = rw (c .enum-told16 .given .1, c .before .before .before .byte-at .ensures)
 
+returns-17 : tie.Need-returns-17
+returns-17 c = rw (c .before .enum-told17 .given .1) (c .send-of .ensures)
+
+returns-18 : tie.Need-returns-18
+returns-18 c = rw (c .enum-told18 .given .1, c .before .before .before .byte-at .ensures)
+
 pub call-of-spec : {M : Type 1} → statement M
 call-of-spec =
     tie.close
@@ -67,6 +73,9 @@ call-of-spec =
     (λ c. search needs)
     (λ c. search needs)
     (λ c. search needs)
+    (λ c. search needs)
+    (λ c κs. search needs)
+    (λ c. search needs)
     (λ c. rw (c .enum-told .given .1))
     (λ c. rw (c .enum-told2 .given .1))
     returns-3
@@ -82,4 +91,6 @@ call-of-spec =
     returns-13
     (λ c. rw (c .enum-told14 .given .1))
     returns-15
-    returns-16)
+    returns-16
+    returns-17
+    returns-18)

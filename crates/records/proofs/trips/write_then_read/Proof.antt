@@ -1,4 +1,4 @@
--- `trips::write_then_read` meets its contract: the record fits six bytes, its start is the call's bytes, and those read
+-- `trips::write_then_read` meets its contract: the record fits ten bytes, its start is the call's bytes, and those read
 -- as the call.
 use Prim.Native.Nat.{ℕ, _≤_}
 use mathlib.Core.Path.{_≡_, sym, ap, _∙_}
@@ -16,7 +16,7 @@ use Rattle.records.proofs.trips.write_then_read.Statement.{statement}
 use Rattle.records.proofs.trips.write_then_read.Tie as tie
 
 abbrev zeros : List ℕ
-zeros = replicate 6 0
+zeros = replicate 10 0
 
 abbrev count : tie.After-known-told → ℕ
 count c = c .before .n .given .0 .0

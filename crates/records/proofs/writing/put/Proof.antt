@@ -11,7 +11,7 @@ use Rattle.records.proofs.writing.put.Statement.{statement}
 use Rattle.records.proofs.writing.put.Tie as tie
 
 abbrev Inv-loop : tie.InvT-loop
-Inv-loop n out₀ s i₀ out i = (i ≤ n) × (length s ≡ 6) × (length out ≡ length out₀) × (out ≡ take i s ++ drop i out₀)
+Inv-loop n out₀ s i₀ out i = (i ≤ n) × (length s ≡ 10) × (length out ≡ length out₀) × (out ≡ take i s ++ drop i out₀)
 
 abbrev μ-loop : tie.MeasureT-loop
 μ-loop n out₀ s i₀ out i = n - i
