@@ -104,6 +104,8 @@ name-of kind.Task e = clash e
 name-of kind.End e = clash e
 name-of kind.Enter e = clash e
 name-of kind.Exit e = clash e
+name-of kind.Send e = clash e
+name-of kind.Receive e = clash e
 
 -- a call has as many numbers as its kind's body
 pub call-length : (c : Call) → length (fieldsOf c) ≡ length (bodyOf (kindOfCall c))
@@ -122,6 +124,8 @@ call-length (call.Task p m) = refl
 call-length call.End = refl
 call-length (call.Enter m) = refl
 call-length (call.Exit m) = refl
+call-length (call.Send t x) = refl
+call-length (call.Receive t) = refl
 
 -- a form that is found by a byte has that byte
 found-byte : (b : ℕ) (fs : List Form) → isNone (firstForm (λ f. eqb b (f .byte)) fs) ≡ false → firstForm (λ f. eqb b (f .byte)) fs .byte ≡ b
@@ -154,3 +158,5 @@ is-call kind.Task e xs = clash e
 is-call kind.End e xs = clash e
 is-call kind.Enter e xs = clash e
 is-call kind.Exit e xs = clash e
+is-call kind.Send e xs = clash e
+is-call kind.Receive e xs = clash e

@@ -100,5 +100,7 @@ pub(crate) fn by_numbers(call: Call, count: usize) -> u8
         Call::End => 0,
         Call::Enter { .. } => 0,
         Call::Exit { .. } => 0,
+        Call::Send { .. } => 0,
+        Call::Receive { .. } => 0,
     }
 }

@@ -38,5 +38,7 @@ pub(crate) fn has_block(kind: Kind) -> bool
         Kind::End => false,
         Kind::Enter => false,
         Kind::Exit => false,
+        Kind::Send => false,
+        Kind::Receive => false,
     }
 }

@@ -41,6 +41,8 @@ fn lay(list: &[u16], call: Call, work: u16) -> Laid
         Call::End => Laid([0, 0, 0, 0, 0, 0], 0),
         Call::Enter { .. } => Laid([0, 0, 0, 0, 0, 0], 0),
         Call::Exit { .. } => Laid([0, 0, 0, 0, 0, 0], 0),
+        Call::Send { .. } => Laid([0, 0, 0, 0, 0, 0], 0),
+        Call::Receive { .. } => Laid([0, 0, 0, 0, 0, 0], 0),
     }
 }
 

@@ -93,6 +93,8 @@ has-length kind.Task e = clash e
 has-length kind.End e = clash e
 has-length kind.Enter e = clash e
 has-length kind.Exit e = clash e
+has-length kind.Send e = clash e
+has-length kind.Receive e = clash e
 
 pub refused : {P : Type 0} (n : ℕ) (c : Call) → got.Refused n ≡ got.Call c → P
 refused n c e = let z : _≡_ {A = ℕ} 0 1 = cc in absurd (omega arith)

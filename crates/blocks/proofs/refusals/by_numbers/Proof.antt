@@ -76,6 +76,14 @@ returns-15 : tie.Need-returns-15
 unfolding formOf firstOf
 returns-15 c = rw (c .enum-told12 .given .1)
 
+returns-16 : tie.Need-returns-16
+unfolding formOf firstOf
+returns-16 c = rw (c .enum-told13 .given .1)
+
+returns-17 : tie.Need-returns-17
+unfolding formOf firstOf
+returns-17 c = rw (c .enum-told14 .given .1)
+
 pub by-numbers-spec : {M : Type 1} → statement M
 by-numbers-spec =
     tie.close
@@ -89,6 +97,8 @@ by-numbers-spec =
     (λ c. search needs)
     (λ c. search needs)
     (λ c κs. search needs)
+    (λ c. search needs)
+    (λ c. search needs)
     (λ c. search needs)
     (λ c. search needs)
     (λ c. search needs)
@@ -112,4 +122,6 @@ by-numbers-spec =
     returns-12
     returns-13
     returns-14
-    returns-15)
+    returns-15
+    returns-16
+    returns-17)

@@ -67,6 +67,14 @@ returns-15 : tie.Need-returns-15
 unfolding formOf
 returns-15 c = rw (c .enum-told12 .given .1) (record { size = refl; small = lit≤ tt; block = λ e. clash e })
 
+returns-16 : tie.Need-returns-16
+unfolding formOf
+returns-16 c = rw (c .enum-told13 .given .1) (record { size = refl; small = lit≤ tt; block = λ e. clash e })
+
+returns-17 : tie.Need-returns-17
+unfolding formOf
+returns-17 c = rw (c .enum-told14 .given .1) (record { size = refl; small = lit≤ tt; block = λ e. clash e })
+
 pub lay-spec : {M : Type 1} → statement M
 lay-spec =
     tie.close
@@ -78,6 +86,8 @@ lay-spec =
     (λ c. search needs)
     (λ c. search needs)
     (λ c κs. search needs)
+    (λ c. search needs)
+    (λ c. search needs)
     (λ c. search needs)
     (λ c. search needs)
     (λ c. search needs)
@@ -105,4 +115,6 @@ lay-spec =
     returns-12
     returns-13
     returns-14
-    returns-15)
+    returns-15
+    returns-16
+    returns-17)
