@@ -6,5 +6,7 @@ pub mod Lists
 pub mod Plans
 -- the book of starts
 pub mod Book
+-- the book of letters
+pub mod Letters
 -- what the crates above name, and nothing else
 pub mod Assured

@@ -22,3 +22,5 @@ pub mod Alarm
 pub mod Tick
 pub mod Enter
 pub mod Exit
+pub mod Send
+pub mod Receive

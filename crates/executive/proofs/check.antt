@@ -7,3 +7,4 @@ pub mod Subprograms
 pub mod Levels
 pub mod Decides
 pub mod Broken
+pub mod Messages

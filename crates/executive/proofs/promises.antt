@@ -9,3 +9,4 @@ pub mod Demands
 pub mod Waking
 pub mod LampLaw
 pub mod SubLaw
+pub mod MailLaw

@@ -13,32 +13,43 @@ use Rattle.executive.specs.declared.State.{State}
 use Rattle.executive.specs.declared.Task.{Task}
 use Rattle.executive.specs.declared.Request.{Request}
 use Rattle.executive.specs.declared.Sub.{Sub}
+use Rattle.executive.specs.declared.Message.{Message}
+use Rattle.executive.specs.declared.Mail.{Mail}
 use Rattle.executive.specs.declared.Rest.{Rest}
 use Rattle.executive.specs.declared.Table.{Table}
 use Rattle.executive.specs.declared.waiters.Link.{Link}
 use Rattle.executive.specs.declared.waiters.Link.the-variants.{AtStart, AtEnd}
-use Rattle.executive.specs.Numbers.{mostTasks, mostQueued, flagCount, subCount, lastSub, highest, mostGranule, endOfTime, longest}
+use Rattle.executive.specs.Numbers.{mostTasks, mostQueued, mostSent, flagCount, subCount, lastSub, highest, mostGranule, endOfTime, longest}
 use Rattle.executive.specs.Lists.{one, sumOf, _and_, upTo, allOf}
 use Rattle.executive.specs.Pool.{requests}
 use Rattle.executive.specs.Places.{taskAt}
 use Rattle.executive.specs.Table.{items, view, levelsOf}
-use Rattle.executive.specs.States.{ready, awaitStart, awaitEnd, awaitSub, timeOf, maskOf, awaitedOf, isOf, is, isDormant, hasTime, hasMask, waitMode, isReady, waitsFor}
+use Rattle.executive.specs.Messages.{letters, mailAt}
+use Rattle.executive.specs.States.{ready, awaitStart, awaitEnd, awaitSub, awaitMessage, takes, timeOf, maskOf, awaitedOf, isOf, is, isDormant, hasTime, hasMask, waitMode, isReady, waitsFor}
 use Rattle.executive.specs.Flags.{met}
 use Rattle.executive.specs.WellFormed.{WellFormed, startsOf, endsOf, runsOf}
 
 -- ---- every number is in range, but how many are ready
--- a task's entry among n tasks; a request among them; a subprogram, with the size of its line, among them
-abbrev pub awaitsInRange : State → Bool
-awaitsInRange s = cond (isOf awaitSub s) (leb (awaitedOf s) lastSub) true
+-- a task's entry among n tasks; a request among them; a subprogram, with the size of its line, among them; a message
+-- among them, and a mail
+abbrev pub awaitsInRange : ℕ → State → Bool
+awaitsInRange n s = cond (isOf awaitSub s) (leb (awaitedOf s) lastSub) (cond (isOf awaitMessage s) (leb (awaitedOf s) n) true)
 
 abbrev pub entryInRange : ℕ → Task → Bool
-entryInRange n e = leb (e .own) highest and leb (e .priority) highest and leb (e .«end_waiter» .0) n and awaitsInRange (e .state)
+entryInRange n e = leb (e .own) highest and leb (e .priority) highest and leb (e .«end_waiter» .0) n and awaitsInRange n (e .state)
 
 abbrev pub requestInRange : ℕ → Request → Bool
 requestInRange n r = leb (r .priority) highest and leb (r .target .0) n and leb (r .«start_waiter» .0) n and leb (r .«end_waiter» .0) n
 
 abbrev pub subInRange : ℕ → Sub → Bool
 subInRange n s = eqb (length (s .line)) mostTasks and leb (s .holder .0) n and leb (s .waiting) mostTasks
+
+abbrev pub messageInRange : ℕ → Message → Bool
+messageInRange n m =
+    ltb 0 (m .to .0) and leb (m .to .0) n and ltb 0 (m .sender .0) and leb (m .sender .0) n and leb (m .priority) highest
+
+abbrev pub mailInRange : ℕ → Mail → Bool
+mailInRange n x = leb (x .sender .0) n
 
 -- an entry of zeros, but for its own priority and its state; an entry of zeros
 abbrev pub isZero : Task → Bool
@@ -53,6 +64,8 @@ sizesRight ts r =
     and eqb (length (r .alarms)) flagCount
     and eqb (length (r .pool)) mostQueued
     and eqb (length (r .subs)) subCount
+    and eqb (length (r .messages)) mostSent
+    and eqb (length (r .mail)) mostTasks
 
 -- the task count, the granule, the clock, how many requests are queued
 abbrev pub inBounds : ℕ → ℕ → Millis → ℕ → Bool
@@ -66,6 +79,9 @@ numbersRight ts r =
     and allOf isBlank (drop (r .count) ts)
     and allOf (requestInRange (r .count)) (requests r)
     and allOf (subInRange (r .count)) (r .subs)
+    and leb (r .sent) mostSent
+    and allOf (messageInRange (r .count)) (letters r)
+    and allOf (mailInRange (r .count)) (r .mail)
 
 -- ---- the ready queue
 abbrev pub isTask : ℕ → TaskNo → Bool
@@ -175,8 +191,18 @@ waitersRight ts r = upTo (waitersAt ts (requests r)) (r .count) and allOf namesO
 abbrev pub dormantEntryRight : Task → Bool
 dormantEntryRight e = cond (isDormant (e .state)) (isZero e) true
 
-unfoldable pub dormantRight : List Task → Bool
-dormantRight ts = allOf dormantEntryRight ts
+-- no message stands in the entry of task k where it is dormant
+abbrev pub isNoMail : Mail → Bool
+isNoMail x = eqb (x .sender .0) 0 and eqb (x .text .0) 0
+
+abbrev pub isEmptied : State → Mail → Bool
+isEmptied s x = cond (isDormant s) (isNoMail x) true
+
+unfoldable pub emptiedAt : List Task → List Mail → ℕ → Bool
+emptiedAt ts ml k = isEmptied (taskAt ts k .state) (mailAt ml k)
+
+unfoldable pub dormantRight : List Task → Rest → Bool
+dormantRight ts r = allOf dormantEntryRight ts and upTo (emptiedAt ts (r .mail)) mostTasks
 
 -- ---- the pool's free places
 abbrev pub isFree : Request → Bool
@@ -205,6 +231,21 @@ subsFrom ts n m (s ∷ ss) = cond (subRight ts n m s) (subsFrom ts n (suc m) ss)
 unfoldable pub subsRight : List Task → Rest → Bool
 subsRight ts r = subsFrom ts (r .count) 0 (r .subs)
 
+-- ---- the messages: none is one that its addressee takes; none has a priority over p, and they descend; the free places
+abbrev pub isUntaken : List Task → Message → Bool
+isUntaken ts m = not (takes (m .sender .0) (taskAt ts (m .to .0) .state))
+
+unfoldable pub lettersFall : ℕ → List Message → Bool
+lettersFall p [] = true
+lettersFall p (m ∷ ms) = cond (leb (m .priority) p) (lettersFall (m .priority) ms) false
+
+abbrev pub isNoMessage : Message → Bool
+isNoMessage m = eqb (m .to .0) 0 and eqb (m .sender .0) 0 and eqb (m .priority) 0 and eqb (m .text .0) 0
+
+unfoldable pub messagesRight : List Task → Rest → Bool
+messagesRight ts r =
+    allOf (isUntaken ts) (letters r) and lettersFall highest (letters r) and allOf isNoMessage (drop (r .sent) (r .messages))
+
 -- ---- the check: every rule but the queue's, in their order, which the entries and the rest keep or break whatever the
 -- queue is; and the queue's own
 unfoldable pub allButQueue : List Task → Rest → Bool
@@ -215,9 +256,10 @@ allButQueue ts r =
     and masksRight ts r
     and busyRight ts r
     and waitersRight ts r
-    and dormantRight ts
+    and dormantRight ts r
     and poolRight r
     and subsRight ts r
+    and messagesRight ts r
 
 unfoldable pub isWellFormed : Table → Bool
 isWellFormed t = queueRight t and allButQueue (t .tasks) (t .rest)
@@ -269,6 +311,23 @@ waitsForNone ts k = not (awaitsAny (taskAt ts k .state))
 abbrev pub heldRight : List Task → ℕ → List Sub → Bool
 heldRight ts n ss = allOf (subInRange n) ss and subsFrom ts n 0 ss
 
+-- the messages ms of which k wait, in one pass: each in range, none over priority p, none that its addressee takes; the free
+-- places
+unfoldable pub lettersRight : List Task → ℕ → ℕ → List Message → Bool
+lettersRight ts n p [] = true
+lettersRight ts n p (m ∷ ms) =
+    cond (messageInRange n m) (cond (leb (m .priority) p) (cond (isUntaken ts m) (lettersRight ts n (m .priority) ms) false) false) false
+
+abbrev pub sentRight : List Task → ℕ → ℕ → List Message → Bool
+sentRight ts n k ms = leb k mostSent and lettersRight ts n highest (take k ms) and allOf isNoMessage (drop k ms)
+
+-- the mail of task k among n tasks, in range and none where it is dormant; of all
+unfoldable pub mailRightAt : List Task → ℕ → List Mail → ℕ → Bool
+mailRightAt ts n ml k = mailInRange n (mailAt ml k) and emptiedAt ts ml k
+
+abbrev pub mailRight : List Task → ℕ → List Mail → Bool
+mailRight ts n ml = upTo (mailRightAt ts n ml) mostTasks
+
 unfoldable pub inPasses : List Task → Rest → Bool
 inPasses ts r =
     inBounds (r .count) (r .granule) (r .clock) (r .queued)
@@ -277,6 +336,8 @@ inPasses ts r =
     and allOf (alarmRight (r .clock .0)) (r .alarms)
     and askedRight ts (r .count) (r .queued) (r .pool)
     and heldRight ts (r .count) (r .subs)
+    and sentRight ts (r .count) (r .sent) (r .messages)
+    and mailRight ts (r .count) (r .mail)
 
 -- ---- a tally of numbers: how often k stands in a line is told at place k - 1
 pub record Tallies (c : List ℕ) (xs : List TaskNo) : Type 0 where

@@ -11,11 +11,12 @@ use Rattle.executive.specs.declared.Task.{Task}
 use Rattle.executive.specs.declared.Rest.{Rest}
 use Rattle.executive.specs.declared.Table.{Table}
 use Rattle.executive.specs.declared.Fresh.{Fresh}
-use Rattle.executive.specs.Numbers.{mostTasks, mostQueued, flagCount, subCount, highest}
+use Rattle.executive.specs.Numbers.{mostTasks, mostQueued, mostSent, flagCount, subCount, highest}
 use Rattle.executive.specs.Lists.{pad, _and_, upTo}
 use Rattle.executive.specs.Places.{nobody, never, noTask, noRequest}
 use Rattle.executive.specs.Table.{relit, Join, begin, enterAllInFlight}
 use Rattle.executive.specs.Subprograms.{noSub}
+use Rattle.executive.specs.Messages.{noMessage, noMail}
 use Rattle.executive.specs.Plans.{asks, begins}
 use Rattle.executive.specs.Sheet.{marks}
 use Rattle.executive.specs.Step.{answerOf}
@@ -56,7 +57,19 @@ isConfiguration s = leb 1 (tasksIn s) and eqb (length s) (configurationIn s) and
 
 -- ---- the tables: all zero; every task dormant, with its own priority
 abbrev pub blankRest : ℕ → ℕ → Rest
-blankRest n g = record { count = n; granule = g; clock = never; flags = 0; alarms = pad flagCount never []; pool = pad mostQueued noRequest []; queued = 0; subs = pad subCount noSub [] }
+blankRest n g = record {
+  count = n;
+  granule = g;
+  clock = never;
+  flags = 0;
+  alarms = pad flagCount never [];
+  pool = pad mostQueued noRequest [];
+  queued = 0;
+  subs = pad subCount noSub [];
+  messages = pad mostSent noMessage [];
+  sent = 0;
+  mail = pad mostTasks noMail [];
+}
 
 -- nobody is ready
 abbrev pub withTasks : List Task → Rest → Table

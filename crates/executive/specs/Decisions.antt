@@ -10,6 +10,7 @@ use lib.ListN.{length, getD, take, drop}
 use Rattle.records.specs.declared.TaskNo.{TaskNo}
 use Rattle.records.specs.declared.FlagNo.{FlagNo}
 use Rattle.records.specs.declared.SubNo.{SubNo}
+use Rattle.records.specs.declared.Text.{Text}
 use Rattle.executive.specs.declared.Millis.{Millis}
 use Rattle.executive.specs.declared.AwaitedMoment.{AwaitedMoment}
 use Rattle.executive.specs.declared.AwaitedMoment.the-variants.{ForNothing, ForStart, ForEnd}
@@ -18,6 +19,7 @@ use Rattle.executive.specs.declared.State.the-variants as state
 use Rattle.executive.specs.declared.Task.{Task}
 use Rattle.executive.specs.declared.Request.{Request}
 use Rattle.executive.specs.declared.Sub.{Sub}
+use Rattle.executive.specs.declared.Message.{Message}
 use Rattle.executive.specs.declared.Rest.{Rest}
 use Rattle.executive.specs.declared.Table.{Table}
 use Rattle.executive.specs.declared.Marks.{Marks}
@@ -31,18 +33,19 @@ use Rattle.executive.specs.declared.decisions.Change.{Change}
 use Rattle.executive.specs.declared.decisions.Change.the-variants as change
 use Rattle.executive.specs.declared.decisions.Deed.{Deed}
 use Rattle.executive.specs.declared.decisions.Decision.{Decision}
-use Rattle.executive.specs.Numbers.{mostTasks, mostQueued, flagCount, subCount, endOfTime}
+use Rattle.executive.specs.Numbers.{mostTasks, mostQueued, mostSent, flagCount, subCount, endOfTime}
 use Rattle.executive.specs.Lists.{pad, nextOf}
 use Rattle.executive.specs.Places.{nobody, never, noRequest, taskAt}
 use Rattle.executive.specs.Pool.{requests, withRequests, placeOf, removed}
 use Rattle.executive.specs.Table.{ArraysInOrder, line, view, levelsOf, headOf, Out, stays, leaves, Join, Plan, depart, FindsRoom}
 use Rattle.executive.specs.Subprograms.{subAt, lineOf, LineInOrder, isHeld, entersIt, joinsLine, handedOn, withSub}
+use Rattle.executive.specs.Messages.{noText, noMail, letters, LettersInOrder, withLetters, firstFit, putInAt, withMail}
 use Rattle.executive.specs.Entries.{withState, asDormant, begun, dueAt, risen}
 use Rattle.executive.specs.Clock.{interval, aimAt, withAlarm, isDue, advanced}
 use Rattle.executive.specs.Flags.{withFlags, flagSet, flagReset, met, modeOf}
 use Rattle.executive.specs.WellFormed.{Line, Unmet}
 use Rattle.executive.specs.Plans.{priorityOf, waitOf, argumentOf, atOnce, asks, holds, passing, storedTime, timed}
-use Rattle.executive.specs.States.{ready, isDormant, isPaused, isReady}
+use Rattle.executive.specs.States.{ready, isDormant, isPaused, isReady, takes}
 
 -- ---- who enters, and how
 abbrev pub entrant : TaskNo → How → Entrant
@@ -85,8 +88,12 @@ unfoldable pub raisedAt : ℕ → TaskNo → List Entrant → List Entrant
 raisedAt i k xs = take i xs ++ (entrant k Risen ∷ drop i xs)
 
 -- ---- a deed, and what it means at a table
+-- with the task whose mail is gone; nobody's is
+abbrev pub deedEmptying : TaskNo → Leave → List Entrant → Request → Change → Deed
+deedEmptying c l xs q ch = record { leave = l; entrants = listed xs; request = q; change = ch; empties = c }
+
 abbrev pub deed : Leave → List Entrant → Request → Change → Deed
-deed l xs q ch = record { leave = l; entrants = listed xs; request = q; change = ch }
+deed l xs q ch = deedEmptying nobody l xs q ch
 
 -- nobody enters; nothing is done
 abbrev pub alone : Leave → Change → Deed
@@ -129,6 +136,9 @@ changed (change.Clock i) q r = advanced r
 changed (change.Held m k) q r = withSub (m .0) (entersIt k (subAt r (m .0))) r
 changed (change.Lined m k i) q r = withSub (m .0) (joinsLine i k (subAt r (m .0))) r
 changed (change.HandedOn m) q r = withSub (m .0) (handedOn (subAt r (m .0))) r
+changed (change.Posted m i) q r = withLetters (putInAt i m (letters r)) r
+changed (change.Delivered k x) q r = withMail (k .0) x r
+changed (change.HandedOut i) q r = withLetters (removed i (letters r)) r
 
 abbrev pub alters : Change → Bool
 alters change.Same = false
@@ -140,12 +150,15 @@ alters (change.Clock i) = true
 alters (change.Held m k) = true
 alters (change.Lined m k i) = true
 alters (change.HandedOn m) = true
+alters (change.Posted m i) = true
+alters (change.Delivered k x) = true
+alters (change.HandedOut i) = true
 
 unfoldable pub meant : Deed → Table → Plan
 meant d t = record {
   out = outFor (d .leave);
   ins = joinsFor (d .request) (t .rest .clock) (named (d .entrants));
-  rest = changed (d .change) (d .request) (t .rest);
+  rest = withMail (d .empties .0) noMail (changed (d .change) (d .request) (t .rest));
 }
 
 -- the place of the first alarm that a tick makes due; 32 where there is none
@@ -168,6 +181,9 @@ Able (change.Clock i) r = (r .clock .0 + r .granule ≤ endOfTime) × (i ≡ fir
 Able (change.Held m k) r = m .0 < subCount
 Able (change.Lined m k i) r = (m .0 < subCount) × LineInOrder (subAt r (m .0)) × (i ≤ subAt r (m .0) .waiting) × (subAt r (m .0) .waiting < mostTasks)
 Able (change.HandedOn m) r = (m .0 < subCount) × LineInOrder (subAt r (m .0))
+Able (change.Posted m i) r = LettersInOrder r × (i ≤ r .sent) × (r .sent < mostSent)
+Able (change.Delivered k x) r = Unit {0}
+Able (change.HandedOut i) r = LettersInOrder r × (i < r .sent)
 
 pub record Doable (d : Deed) (t : Table) : Type 0 where
   pub fit : ArraysInOrder t
@@ -182,10 +198,10 @@ pub record Doable (d : Deed) (t : Table) : Type 0 where
 abbrev pub endDeedBy : List Task → List Request → TaskNo → ℕ → Deed
 endDeedBy ts rs c i =
     cond (ltb i (length rs))
-    (deed leave.Sleeps
+    (deedEmptying c leave.Sleeps
     (wakes (taskAt ts (c .0) .«end_waiter») ++ (entrant c Begun ∷ wakes (getD rs i noRequest .«start_waiter»)))
     (getD rs i noRequest) (change.Taken i))
-    (deed leave.Sleeps (wakes (taskAt ts (c .0) .«end_waiter»)) noRequest change.Same)
+    (deedEmptying c leave.Sleeps (wakes (taskAt ts (c .0) .«end_waiter»)) noRequest change.Same)
 
 unfoldable pub terminateDeed : List Task → List Request → TaskNo → Deed
 terminateDeed ts rs c = endDeedBy ts rs c (placeOf (c .0) rs)
@@ -193,7 +209,7 @@ terminateDeed ts rs c = endDeedBy ts rs c (placeOf (c .0) rs)
 -- 01: the caller, its entry and the time aimed at
 abbrev pub restartDeedBy : TaskNo → Task → Millis → Millis → Deed
 restartDeedBy c e now aim =
-    deed (leave.DueAt aim) (wakes (e .«end_waiter») ++ raisedIf (leb (aim .0) (now .0)) c) noRequest change.Same
+    deedEmptying c (leave.DueAt aim) (wakes (e .«end_waiter») ++ raisedIf (leb (aim .0) (now .0)) c) noRequest change.Same
 
 unfoldable pub restartDeed : TaskNo → Task → Millis → ℕ → ℕ → Deed
 restartDeed c e now p n = restartDeedBy c e now (aimAt (e .start) now p n)
@@ -257,6 +273,23 @@ enterDeed c i m s =
 unfoldable pub exitDeed : SubNo → Sub → Deed
 exitDeed m s = deed leave.Stays (wakes (headOf (lineOf s))) noRequest (change.HandedOn m)
 
+-- 14: the caller c at its priority p, the state s of task k, the place i behind all of equal or higher priority
+unfoldable pub sendDeed : TaskNo → ℕ → State → ℕ → TaskNo → Text → Deed
+sendDeed c p s i k x =
+    cond (takes (c .0) s)
+    (deed leave.Stays (wakes k) noRequest (change.Delivered k (record { sender = c; text = x })))
+    (alone leave.Stays (change.Posted (record { to = k; sender = c; priority = p; text = x }) i))
+
+-- 15: the caller c, from number s; of n messages the first that fits is at place i
+abbrev pub receiveDeedBy : TaskNo → TaskNo → ℕ → ℕ → Deed
+receiveDeedBy c s i n =
+    cond (ltb i n)
+    (deedEmptying c leave.Stays [] noRequest (change.HandedOut i))
+    (deedEmptying c (leave.As (state.AwaitMessage s)) [] noRequest change.Same)
+
+unfoldable pub receiveDeed : TaskNo → List Message → TaskNo → Deed
+receiveDeed c ms s = receiveDeedBy c s (firstFit (c .0) (s .0) ms) (length ms)
+
 -- ---- what the kinds' functions ask of the tasks, the rest and the caller
 -- nobody's flag condition holds
 abbrev pub AllUnmet : ℕ → List Task → Type 0
@@ -268,10 +301,11 @@ pub record Judgeable (ts : List Task) (r : Rest) (c : TaskNo) : Type 0 where
   pub started : taskAt ts (c .0) .start .0 ≤ r .clock .0
   pub unmet : AllUnmet (r .flags) ts
   pub waiting : (m : ℕ) → subAt r m .waiting ≤ mostTasks
+  pub sent : r .sent ≤ mostSent
 
 -- ---- a decision: refused with a number, or done with the marks of the answer
 abbrev pub refusing : ℕ → Decision
-refusing n = record { number = n; marks = record { z = false; v = false; c = false; skipped = 0 }; deed = noDeed }
+refusing n = record { number = n; marks = record { z = false; v = false; c = false; skipped = 0; sender = nobody; text = noText }; deed = noDeed }
 
 abbrev pub doing : Marks → Deed → Decision
 doing m d = record { number = 0; marks = m; deed = d }

@@ -9,6 +9,7 @@ pub mod Pool
 pub mod Flags
 pub mod Table
 pub mod Subprograms
+pub mod Messages
 pub mod Clock
 pub mod Plans
 pub mod WellFormed
@@ -20,4 +21,5 @@ pub mod Step
 pub mod Configuration
 pub mod Decisions
 pub mod Lamp
+pub mod Letters
 pub mod Promises

@@ -13,6 +13,10 @@ flagCount = 32
 abbrev pub mostQueued : ℕ
 mostQueued = 32
 
+-- at most 32 messages wait
+abbrev pub mostSent : ℕ
+mostSent = 32
+
 -- eight controlled subprograms, 0 to 7
 abbrev pub subCount : ℕ
 subCount = 8

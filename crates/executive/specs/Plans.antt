@@ -9,20 +9,23 @@ use lib.ListN.{length, getD}
 use Rattle.records.specs.declared.TaskNo.{TaskNo}
 use Rattle.records.specs.declared.FlagNo.{FlagNo}
 use Rattle.records.specs.declared.SubNo.{SubNo}
+use Rattle.records.specs.declared.Text.{Text}
 use Rattle.executive.specs.declared.Millis.{Millis}
 use Rattle.executive.specs.declared.AwaitedMoment.{AwaitedMoment}
 use Rattle.executive.specs.declared.AwaitedMoment.the-variants.{ForNothing, ForStart, ForEnd}
 use Rattle.executive.specs.declared.State.{State}
-use Rattle.executive.specs.declared.State.the-variants.{Ready, Paused, Flags, AwaitStart, AwaitEnd, AwaitSub}
+use Rattle.executive.specs.declared.State.the-variants.{Ready, Paused, Flags, AwaitStart, AwaitEnd, AwaitSub, AwaitMessage}
 use Rattle.executive.specs.declared.Task.{Task}
 use Rattle.executive.specs.declared.Request.{Request}
+use Rattle.executive.specs.declared.Message.{Message}
 use Rattle.executive.specs.declared.Rest.{Rest}
 use Rattle.executive.specs.declared.Table.{Table}
 use Rattle.executive.specs.Places.{nobody, noRequest, taskAt}
 use Rattle.executive.specs.Table.{line, headOf, Out, stays, leaves, Join, Plan}
 use Rattle.executive.specs.Subprograms.{subAt, lineOf, isHeld, entersIt, waitsBehind, handedOn, withSub}
+use Rattle.executive.specs.Messages.{noMail, letters, withLetters, firstFit, post, withMail}
 use Rattle.executive.specs.Pool.{requests, withRequests, placeOf, removed}
-use Rattle.executive.specs.States.{timeOf, maskOf, isDormant, isPaused, hasTime, hasMask, waitMode}
+use Rattle.executive.specs.States.{timeOf, maskOf, isDormant, isPaused, hasTime, hasMask, waitMode, takes}
 use Rattle.executive.specs.Entries.{withState, asDormant, begun, dueAt, risen}
 use Rattle.executive.specs.Clock.{interval, aimAt, withAlarm, advanced}
 use Rattle.executive.specs.Flags.{withFlags, flagSet, flagReset, met, modeOf}
@@ -57,7 +60,7 @@ nothing t = record { out = stays; ins = []; rest = t .rest }
 -- ---- 00: the caller departs; whoever waits for this run's end enters; the earliest request for the caller, if one
 -- is queued, is taken from the pool
 -- and the caller enters with its priority and argument, scheduled start now; whoever waited for that start enters
--- (H). The caller c, the requests rs,
+-- (H). What stands in the caller's entry as its mail is gone (02). The caller c, the requests rs,
 -- the earliest of them for c at place i
 abbrev pub terminateBy : Table → TaskNo → List Request → ℕ → Plan
 terminateBy t c rs i =
@@ -65,21 +68,21 @@ terminateBy t c rs i =
     (record {
       out = leaves asDormant;
       ins = waking (endWaiter t c) ++ (begins c (getD rs i noRequest) (t .rest .clock) ∷ waking (getD rs i noRequest .«start_waiter»));
-      rest = withRequests (removed i rs) (t .rest);
+      rest = withMail (c .0) noMail (withRequests (removed i rs) (t .rest));
     })
-    (record { out = leaves asDormant; ins = waking (endWaiter t c); rest = t .rest })
+    (record { out = leaves asDormant; ins = waking (endWaiter t c); rest = withMail (c .0) noMail (t .rest) })
 
 unfoldable pub terminatePlan : Table → Plan
 terminatePlan t = terminateBy t (headOf (line t)) (requests (t .rest)) (placeOf (headOf (line t) .0) (requests (t .rest)))
 
 -- ---- 01: the caller departs and its end-waiter enters. It is due at the time aimed at; if that is at or before
 -- the clock, it enters at once, and
--- entering makes that time its scheduled start
+-- entering makes that time its scheduled start. Its mail is gone (02)
 abbrev pub restartBy : Table → TaskNo → Millis → Plan
 restartBy t c aim = record {
   out = leaves (dueAt aim);
   ins = waking (endWaiter t c) ++ cond (leb (aim .0) (t .rest .clock .0)) (raising c ∷ []) [];
-  rest = t .rest;
+  rest = withMail (c .0) noMail (t .rest);
 }
 
 unfoldable pub restartPlan : Table → ℕ → ℕ → Plan
@@ -244,3 +247,25 @@ exitPlan t m = record {
   ins = waking (headOf (lineOf (subAt (t .rest) (m .0))));
   rest = withSub (m .0) (handedOn (subAt (t .rest) (m .0))) (t .rest);
 }
+
+-- ---- 14 (02): where task k waits for a message that the caller may send, it enters, and the message stands in its entry.
+-- Else the message waits, behind all of equal or higher priority: the caller's as it is now
+abbrev pub letterOf : Table → TaskNo → Text → Message
+letterOf t k x = record { to = k; sender = caller t; priority = taskAt (t .tasks) (caller t .0) .priority; text = x }
+
+unfoldable pub sendPlan : Table → TaskNo → Text → Plan
+sendPlan t k x =
+    cond (takes (caller t .0) (stateAt t k))
+    (record { out = stays; ins = waking k; rest = withMail (k .0) (record { sender = caller t; text = x }) (t .rest) })
+    (record { out = stays; ins = []; rest = withLetters (post (letterOf t k x) (letters (t .rest))) (t .rest) })
+
+-- ---- 15 (02): the first waiting message that fits is handed out and the rest close up; where there is none, the caller
+-- departs and waits for one. What stood in its entry is gone. The caller c, from number s, the first at place i
+abbrev pub receiveBy : Table → TaskNo → TaskNo → ℕ → Plan
+receiveBy t c s i =
+    cond (ltb i (length (letters (t .rest))))
+    (record { out = stays; ins = []; rest = withMail (c .0) noMail (withLetters (removed i (letters (t .rest))) (t .rest)) })
+    (record { out = leaves (withState (AwaitMessage s)); ins = []; rest = withMail (c .0) noMail (t .rest) })
+
+unfoldable pub receivePlan : Table → TaskNo → Plan
+receivePlan t s = receiveBy t (caller t) s (firstFit (caller t .0) (s .0) (letters (t .rest)))

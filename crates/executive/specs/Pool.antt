@@ -26,13 +26,13 @@ pub record PoolInOrder (r : Rest) : Type 0 where
 abbrev pub withRequests : List Request → Rest → Rest
 withRequests p r = remade (r .clock) (r .flags) (r .alarms) (pad mostQueued noRequest p) (length p) r
 
--- the place of the earliest request for task k; the number of requests where there is none. The requests without
--- the one at a place
+-- the place of the earliest request for task k; the number of requests where there is none
 unfoldable pub placeOf : ℕ → List Request → ℕ
 placeOf k [] = 0
 placeOf k (r ∷ rs) = cond (eqb k (r .target .0)) 0 (suc (placeOf k rs))
 
-abbrev pub removed : ℕ → List Request → List Request
+-- a line without what stands at a place
+abbrev pub removed : {A : Type 0} → ℕ → List A → List A
 removed i rs = take i rs ++ drop (suc i) rs
 
 unfoldable pub foundAt : ℕ → ℕ → Found

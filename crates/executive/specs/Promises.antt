@@ -6,6 +6,7 @@ pub mod Demands
 pub mod FreshLaw
 pub mod InWords
 pub mod LampLaw
+pub mod MailLaw
 pub mod QueueLaw
 pub mod Skipping
 pub mod SubLaw

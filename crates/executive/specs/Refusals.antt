@@ -71,6 +71,10 @@ alarmRunning t c = ruleOf t c .running
 unfoldable pub poolFull : Table → Call → Bool
 poolFull t c = ruleOf t c .full
 
+-- ---- 16: 14, the message would have to wait, 32 wait
+unfoldable pub mailFull : Table → Call → Bool
+mailFull t c = ruleOf t c .crowded
+
 -- ---- 10: a tick would carry the clock past 2^40
 unfoldable pub endsTime : Table → Call → Bool
 endsTime t c = ruleOf t c .late
@@ -87,6 +91,7 @@ callRefusals t c =
     ∷ when 7 (namesCaller t c)
     ∷ when 9 (alarmRunning t c)
     ∷ when 8 (poolFull t c)
+    ∷ when 16 (mailFull t c)
     ∷ when 10 (endsTime t c)
     ∷ []
 

@@ -11,24 +11,27 @@ use Rattle.records.specs.declared.Call.{Call}
 use Rattle.records.specs.declared.Call.the-variants as call
 use Rattle.executive.specs.declared.Millis.{Millis}
 use Rattle.executive.specs.declared.Task.{Task}
+use Rattle.executive.specs.declared.Message.{Message}
 use Rattle.executive.specs.declared.Rest.{Rest}
 use Rattle.executive.specs.declared.Table.{Table}
 use Rattle.executive.specs.declared.Marks.{Marks}
 use Rattle.executive.specs.declared.decisions.Deed.{Deed}
 use Rattle.executive.specs.declared.decisions.Decision.{Decision}
-use Rattle.executive.specs.Numbers.{lastUnit, lastSub, mostQueued, endOfTime}
+use Rattle.executive.specs.Numbers.{lastUnit, lastSub, mostQueued, mostSent, endOfTime}
 use Rattle.executive.specs.Lists.{_and_}
-use Rattle.executive.specs.Places.{never, taskAt}
+use Rattle.executive.specs.Places.{nobody, never, taskAt}
 use Rattle.executive.specs.Pool.{requests}
 use Rattle.executive.specs.Table.{aheadOf, Plan}
 use Rattle.executive.specs.Subprograms.{subAt, lineOf, holds?, holdsAnyOf}
+use Rattle.executive.specs.Messages.{noText, noMessage, letters, firstFit, stayAhead, urgency}
 use Rattle.executive.specs.Clock.{skippedOf}
 use Rattle.executive.specs.Flags.{isSet, met, modeOf}
-use Rattle.executive.specs.States.{isDormant, isPaused}
+use Rattle.executive.specs.States.{isDormant, isPaused, takes}
 use Rattle.executive.specs.Plans.{caller, nothing, terminatePlan, restartPlan, pausePlan, cancelPausePlan}
 use Rattle.executive.specs.Plans.{startIfDormantPlan, startOrQueuePlan, flagPlan, waitPlan, alarmPlan, tickPlan, enterPlan, exitPlan}
+use Rattle.executive.specs.Plans.{sendPlan, receivePlan}
 use Rattle.executive.specs.Decisions.{noDeed, terminateDeed, restartDeed, pauseDeed, cancelPauseDeed, startIfDormantDeed, startOrQueueDeed, flagDeed, waitDeed}
-use Rattle.executive.specs.Decisions.{alarmDeed, tickDeed, enterDeed, exitDeed, refusing, doing}
+use Rattle.executive.specs.Decisions.{alarmDeed, tickDeed, enterDeed, exitDeed, sendDeed, receiveDeed, refusing, doing}
 
 -- what is said of one call
 pub record Rule : Type 0 where
@@ -48,9 +51,11 @@ pub record Rule : Type 0 where
   pub running : Bool
   -- 8: the pool is full
   pub full : Bool
+  -- 16: its message would have to wait, and 32 wait
+  pub crowded : Bool
   -- 10: it would carry the clock past its end
   pub late : Bool
-  -- Z, V and C once it is accepted, and how many grid times it passes over
+  -- Z, V and C once it is accepted, how many grid times it passes over, the message that it hands out
   pub marks : Marks
   -- the plan at a table, and the same as a small value
   pub plan : Table → Plan
@@ -68,6 +73,7 @@ ending bad held m p d = record {
   itself = false;
   running = false;
   full = false;
+  crowded = false;
   late = false;
   marks = m;
   plan = p;
@@ -80,7 +86,7 @@ plain bad m p d = ending bad false m p d
 
 -- Z, V and C; those not mentioned are 0
 abbrev pub marks : Bool → Bool → Bool → Marks
-marks z v c = record { z = z; v = v; c = c; skipped = 0 }
+marks z v c = record { z = z; v = v; c = c; skipped = 0; sender = nobody; text = noText }
 
 abbrev pub onlyZ : Bool → Marks
 onlyZ z = marks z false false
@@ -96,6 +102,7 @@ ofSub bad held other p d = record {
   itself = false;
   running = false;
   full = false;
+  crowded = false;
   late = false;
   marks = onlyZ false;
   plan = p;
@@ -104,11 +111,22 @@ ofSub bad held other p d = record {
 
 -- 01: V for units 6 and 7; the grid times that a restart with bit 6 passes over (02)
 abbrev pub restartMarks : Millis → Millis → ℕ → ℕ → Marks
-restartMarks start now p n = record { z = false; v = ltb lastUnit (p % 8); c = false; skipped = skippedOf start now p n }
+restartMarks start now p n = record {
+  z = false;
+  v = ltb lastUnit (p % 8);
+  c = false;
+  skipped = skippedOf start now p n;
+  sender = nobody;
+  text = noText;
+}
 
 -- 09: C is the flag's old value; Z if set or reset changes nothing; test has Z 0
 abbrev pub flagMarks : ℕ → Bool → Marks
 flagMarks operation old = marks (cond (eqb operation 0) (not old) (cond (eqb operation 1) old false)) false old
+
+-- 15: the sender and the text of the message m that is handed out; zeros where that is a blank one
+abbrev pub handsOut : Message → Marks
+handsOut m = record { z = false; v = false; c = false; skipped = 0; sender = m .sender; text = m .text }
 
 -- a task that is not 1 to the task count
 abbrev pub noSuchTask : Rest → TaskNo → Bool
@@ -149,6 +167,7 @@ sheet ts r c (call.StartOrQueue o k a) = record {
   itself = eqb (k .0) (c .0) and not (eqb (o / 32 % 4) 0);
   running = false;
   full = not (isDormant (taskAt ts (k .0) .state)) and leb mostQueued (r .queued);
+  crowded = false;
   late = false;
   marks = onlyZ (not (isDormant (taskAt ts (k .0) .state)));
   plan = λ t. startOrQueuePlan t o k a;
@@ -171,6 +190,7 @@ sheet ts r c (call.Alarm u n f) = record {
   itself = false;
   running = not (eqb (getD (r .alarms) (f .0) never .0) 0);
   full = false;
+  crowded = false;
   late = false;
   marks = marks (eqb n 0 and isSet (r .flags) (f .0)) false (isSet (r .flags) (f .0));
   plan = λ t. alarmPlan t u n f;
@@ -186,6 +206,7 @@ sheet ts r c call.Tick = record {
   itself = false;
   running = false;
   full = false;
+  crowded = false;
   late = ltb endOfTime (r .clock .0 + r .granule);
   marks = onlyZ false;
   plan = λ t. tickPlan t;
@@ -201,6 +222,27 @@ sheet ts r c (call.Enter m) =
     (enterDeed c (aheadOf ts (taskAt ts (c .0) .priority) (lineOf (subAt r (m .0)))) m (subAt r (m .0)))
 sheet ts r c (call.Exit m) =
     ofSub (ltb lastSub (m .0)) false (not (holds? c (subAt r (m .0)))) (λ t. exitPlan t m) (exitDeed m (subAt r (m .0)))
+-- 14: 6 with a task that is not 1 to the task count; 16 where the message would have to wait and 32 wait. Z, V, C are 0
+sheet ts r c (call.Send k x) = record {
+  tick = false;
+  body = noSuchTask r k;
+  inside = false;
+  outside = false;
+  holding = false;
+  itself = false;
+  running = false;
+  full = false;
+  crowded = not (takes (c .0) (taskAt ts (k .0) .state)) and leb mostSent (r .sent);
+  late = false;
+  marks = onlyZ false;
+  plan = λ t. sendPlan t k x;
+  deed = sendDeed c (taskAt ts (c .0) .priority) (taskAt ts (k .0) .state) (stayAhead urgency (taskAt ts (c .0) .priority) (letters r)) k x;
+}
+-- 15: 6 with a sender over the task count; 0 is any. Z, V, C are 0; the first message that fits is told, if there is one
+sheet ts r c (call.Receive s) =
+    plain (ltb (r .count) (s .0))
+    (handsOut (getD (letters r) (firstFit (c .0) (s .0) (letters r)) noMessage))
+    (λ t. receivePlan t s) (receiveDeed c (letters r) s)
 
 -- what is said of a call at a table
 abbrev pub ruleOf : Table → Call → Rule
@@ -214,7 +256,9 @@ judged r =
     (cond (r .outside) (refusing 14)
     (cond (r .holding) (refusing 15)
     (cond (r .itself) (refusing 7)
-    (cond (r .running) (refusing 9) (cond (r .full) (refusing 8) (cond (r .late) (refusing 10) (doing (r .marks) (r .deed)))))))))
+    (cond (r .running) (refusing 9)
+    (cond (r .full) (refusing 8)
+    (cond (r .crowded) (refusing 16) (cond (r .late) (refusing 10) (doing (r .marks) (r .deed))))))))))
 
 unfoldable pub decided : List Task → Rest → TaskNo → Call → Decision
 decided ts r k c = judged (sheet ts r k c)
@@ -226,6 +270,6 @@ decisionOf ts r k c = cond (not (sheet ts r k c .tick) and eqb (k .0) 0) (refusi
 unfoldable pub planOf : Table → Call → Plan
 planOf t c = ruleOf t c .plan t
 
--- ---- Z, V and C of an accepted call, and how many grid times it passes over
+-- ---- Z, V and C of an accepted call, how many grid times it passes over, the message that it hands out
 unfoldable pub marksOf : Table → Call → Marks
 marksOf t c = ruleOf t c .marks

@@ -8,7 +8,7 @@ use Rattle.executive.specs.declared.Millis.{Millis}
 use Rattle.executive.specs.declared.Mode.{Mode}
 use Rattle.executive.specs.declared.Mode.the-variants.{Any, All}
 use Rattle.executive.specs.declared.State.{State}
-use Rattle.executive.specs.declared.State.the-variants.{Dormant, Ready, Paused, Due, Flags, AwaitStart, AwaitEnd, AwaitSub}
+use Rattle.executive.specs.declared.State.the-variants.{Dormant, Ready, Paused, Due, Flags, AwaitStart, AwaitEnd, AwaitSub, AwaitMessage}
 use Rattle.executive.specs.Lists.{one}
 use Rattle.executive.specs.Places.{never}
 
@@ -40,6 +40,9 @@ awaitEnd = 7
 abbrev pub awaitSub : ℕ
 awaitSub = 8
 
+abbrev pub awaitMessage : ℕ
+awaitMessage = 9
+
 abbrev pub stateKind : State → ℕ
 stateKind Dormant = dormant
 stateKind Ready = ready
@@ -50,6 +53,7 @@ stateKind (Flags All mask) = awaitAll
 stateKind AwaitStart = awaitStart
 stateKind AwaitEnd = awaitEnd
 stateKind (AwaitSub m) = awaitSub
+stateKind (AwaitMessage k) = awaitMessage
 
 -- ---- the time until which it waits, and the flags for which it waits; 0 where it holds none
 abbrev pub timeOf : State → Millis
@@ -61,6 +65,7 @@ timeOf (Flags m mask) = never
 timeOf AwaitStart = never
 timeOf AwaitEnd = never
 timeOf (AwaitSub m) = never
+timeOf (AwaitMessage k) = never
 
 abbrev pub maskOf : State → ℕ
 maskOf Dormant = 0
@@ -71,8 +76,10 @@ maskOf (Flags m mask) = mask
 maskOf AwaitStart = 0
 maskOf AwaitEnd = 0
 maskOf (AwaitSub m) = 0
+maskOf (AwaitMessage k) = 0
 
--- ---- the number of what it waits for: the subprogram's; 0 where it waits for none
+-- ---- the number of what it waits for: the subprogram's, or the sender's of a message, 0 for any; 0 where it waits for
+-- neither
 abbrev pub awaitedOf : State → ℕ
 awaitedOf Dormant = 0
 awaitedOf Ready = 0
@@ -82,6 +89,7 @@ awaitedOf (Flags m mask) = 0
 awaitedOf AwaitStart = 0
 awaitedOf AwaitEnd = 0
 awaitedOf (AwaitSub m) = m .0
+awaitedOf (AwaitMessage k) = k .0
 
 -- ---- the state of a kind, a time, a mask and a number; what is no kind is a wait for any flag of no mask, which no
 -- well-formed table holds
@@ -96,7 +104,8 @@ stateOf kind time mask number =
     (cond (eqb kind awaitStart) AwaitStart
     (cond (eqb kind awaitEnd) AwaitEnd
     (cond (eqb kind awaitSub) (AwaitSub (record { 0 = number }))
-    (Flags Any 0)))))))))
+    (cond (eqb kind awaitMessage) (AwaitMessage (record { 0 = number }))
+    (Flags Any 0))))))))))
 
 -- ---- whether a state is of kind n; the same as a count, 1 where it is, else 0
 abbrev pub isOf : ℕ → State → Bool
@@ -125,6 +134,13 @@ isAs n m s = isOf n s && eqb m (awaitedOf s)
 
 abbrev pub waitsFor : ℕ → State → Bool
 waitsFor m s = isAs awaitSub m s
+
+-- whether one who waits for a message from number n, 0 for any, takes one from sender c; whether a task takes it
+abbrev pub takesFrom : ℕ → ℕ → Bool
+takesFrom n c = eqb n 0 || eqb n c
+
+abbrev pub takes : ℕ → State → Bool
+takes c s = isOf awaitMessage s && takesFrom (awaitedOf s) c
 
 -- a task that waits for flags has a mask, and waits for any or for all of it
 abbrev pub hasMask : State → Bool

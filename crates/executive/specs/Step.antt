@@ -13,12 +13,13 @@ use Rattle.executive.specs.declared.Answer.{Answer}
 use Rattle.executive.specs.declared.Outcome.{Outcome}
 use Rattle.executive.specs.Places.{nobody, taskAt}
 use Rattle.executive.specs.Table.{applyInFlight}
+use Rattle.executive.specs.Messages.{noText}
 use Rattle.executive.specs.Plans.{caller}
 use Rattle.executive.specs.Sheet.{marks, planOf, marksOf}
 use Rattle.executive.specs.Refusals.{callIn, callRefusals, refusals}
 
 -- ---- the answer: the active task of the table and its run's argument, both 0 when idle; how many were passed over by
--- those that entered
+-- those that entered; the sender and the text of the message that is handed out
 abbrev pub answerOf : ℕ → Marks → ℕ → Table → Answer
 answerOf n m walked t = record {
   number = n;
@@ -29,6 +30,8 @@ answerOf n m walked t = record {
   argument = taskAt (t .tasks) (caller t .0) .argument;
   skipped = m .skipped;
   walked = walked;
+  sender = m .sender;
+  text = m .text;
 }
 
 -- an accepted call executes its plan
@@ -45,7 +48,18 @@ hasV n = eqb n 4 || (eqb n 6 || eqb n 7)
 
 -- the answer where there is no well-formed table
 abbrev pub noTable : Answer
-noTable = record { number = 1; z = false; v = false; c = false; active = nobody; argument = 0; skipped = 0; walked = 0 }
+noTable = record {
+  number = 1;
+  z = false;
+  v = false;
+  c = false;
+  active = nobody;
+  argument = 0;
+  skipped = 0;
+  walked = 0;
+  sender = nobody;
+  text = noText;
+}
 
 unfoldable pub refused : Table → ℕ → Outcome
 refused t n =

@@ -3,7 +3,7 @@
 use mathlib.Core.Path.{_≡_}
 use mathlib.Core.Bool.{Bool, true, false, not, cond}
 use mathlib.Core.Logic.{_↔_}
-use mathlib.Core.List.{List}
+use mathlib.Core.List.{List, map}
 use Prim.Native.Nat.{ℕ, _+_, _≤_, _<_, _^_}
 use lib.Dec.{eqb, ltb}
 use lib.ListN.{length, getD}
@@ -12,16 +12,18 @@ use Rattle.executive.specs.declared.State.{State}
 use Rattle.executive.specs.declared.State.the-variants.{Dormant, Ready}
 use Rattle.executive.specs.declared.Task.{Task}
 use Rattle.executive.specs.declared.Request.{Request}
+use Rattle.executive.specs.declared.Message.{Message}
 use Rattle.executive.specs.declared.Rest.{Rest}
 use Rattle.executive.specs.declared.Table.{Table}
-use Rattle.executive.specs.Numbers.{mostTasks, mostQueued, flagCount, subCount, lastSub, highest, mostGranule, endOfTime, longest}
+use Rattle.executive.specs.Numbers.{mostTasks, mostQueued, mostSent, flagCount, subCount, lastSub, highest, mostGranule, endOfTime, longest}
 use Rattle.executive.specs.Lists.{one, pad, sumOf}
 use Rattle.executive.specs.Queue.{count, Desc}
 use Rattle.executive.specs.Places.{nobody, never, noTask, noRequest, taskAt}
 use Rattle.executive.specs.Table.{line, items}
 use Rattle.executive.specs.Pool.{requests}
 use Rattle.executive.specs.Subprograms.{subAt, lineOf}
-use Rattle.executive.specs.States.{dormant, ready, awaitStart, awaitEnd, awaitSub, timeOf, maskOf, awaitedOf, isOf, is, hasTime, hasMask, waitMode, isReady, waitsFor}
+use Rattle.executive.specs.Messages.{noMessage, noMail, letters, fits, noted, mailAt}
+use Rattle.executive.specs.States.{dormant, ready, awaitStart, awaitEnd, awaitSub, awaitMessage, timeOf, maskOf, awaitedOf, isOf, is, hasTime, hasMask, waitMode, isReady, waitsFor}
 use Rattle.executive.specs.Flags.{isSet, met}
 
 -- how many requests name task k: as their target, as the waiter for their start, as the waiter for the end of the
@@ -56,6 +58,17 @@ twoWaiters p = sumOf (λ (r : Request). cond (eqb (r .«start_waiter» .0) 0) 0 
 abbrev pub dormantTarget : List Task → List Request → ℕ
 dormantTarget ts p = sumOf (λ (r : Request). is dormant (taskAt ts (r .target .0) .state)) p
 
+-- how many waiting messages have a priority over 15, and how often they name as addressee or sender what is not 1 to n; how
+-- many fit task k that receives from number s
+abbrev pub noTaskOf : ℕ → ℕ → ℕ
+noTaskOf n k = one (eqb k 0) + one (ltb n k)
+
+abbrev pub lettersAstray : ℕ → List Message → ℕ
+lettersAstray n ms = sumOf (λ (m : Message). one (ltb highest (m .priority)) + (noTaskOf n (m .to .0) + noTaskOf n (m .sender .0))) ms
+
+abbrev pub fitting : ℕ → ℕ → List Message → ℕ
+fitting k s ms = sumOf (λ (m : Message). one (fits k s m)) ms
+
 -- ---- every number is in range: entries past the task count are zero, and no name is over the count
 pub record Sizes (t : Table) : Type 0 where
   pub tasks : length (t .tasks) ≡ mostTasks
@@ -64,6 +77,8 @@ pub record Sizes (t : Table) : Type 0 where
   pub pool : length (t .rest .pool) ≡ mostQueued
   pub subs : length (t .rest .subs) ≡ subCount
   pub lines : (m : ℕ) → length (subAt (t .rest) m .line) ≡ mostTasks
+  pub messages : length (t .rest .messages) ≡ mostSent
+  pub mail : length (t .rest .mail) ≡ mostTasks
 
 pub record InRange (t : Table) : Type 0 where
   pub sizes : Sizes t
@@ -81,6 +96,10 @@ pub record InRange (t : Table) : Type 0 where
   pub holders : (m : ℕ) → subAt (t .rest) m .holder .0 ≤ t .rest .count
   pub waiting : (m : ℕ) → subAt (t .rest) m .waiting ≤ mostTasks
   pub inside : (k : ℕ) → isOf awaitSub (taskAt (t .tasks) k .state) ≡ true → awaitedOf (taskAt (t .tasks) k .state) ≤ lastSub
+  pub sent : t .rest .sent ≤ mostSent
+  pub letters : lettersAstray (t .rest .count) (letters (t .rest)) ≡ 0
+  pub mail : (k : ℕ) → mailAt (t .rest .mail) k .sender .0 ≤ t .rest .count
+  pub senders : (k : ℕ) → isOf awaitMessage (taskAt (t .tasks) k .state) ≡ true → awaitedOf (taskAt (t .tasks) k .state) ≤ t .rest .count
 
 -- ---- the line r holds exactly the tasks of ts whose state passes a test, once each, in descending priority
 pub record Line (f : State → Bool) (ts : List Task) (r : List TaskNo) : Type 0 where
@@ -134,6 +153,13 @@ pub record Subprograms (ts : List Task) (r : Rest) : Type 0 where
   pub lines : (m : ℕ) → m < subCount → Line (waitsFor m) ts (lineOf (subAt r m))
   pub tidy : (m : ℕ) → subAt r m .line ≡ pad mostTasks nobody (lineOf (subAt r m))
 
+-- ---- no message waits that fits a task in the state of waiting for one; those that wait stand in descending priority, the
+-- places of equals read as their arrival, free places last and zero
+pub record Messages (ts : List Task) (r : Rest) : Type 0 where
+  pub unmet : (k : ℕ) → isOf awaitMessage (taskAt ts k .state) ≡ true → fitting k (awaitedOf (taskAt ts k .state)) (letters r) ≡ 0
+  pub sorted : Desc (map noted (letters r))
+  pub tidy : r .messages ≡ pad mostSent noMessage (letters r)
+
 -- ---- some ready task has priority p
 pub record Lit (t : Table) (p : ℕ) : Type 0 where
   pub task : ℕ
@@ -163,9 +189,13 @@ pub record WellFormed (t : Table) : Type 0 where
   pub waiters : Waiters (t .tasks) (requests (t .rest))
   -- a dormant task holds zeros but for its own priority
   pub dormant : (k : ℕ) → taskAt (t .tasks) k .state ≡ Dormant → Zeros (taskAt (t .tasks) k)
+  -- and no message stands in its entry (02); so none does past the task count, where every entry is a dormant one
+  pub emptied : (k : ℕ) → taskAt (t .tasks) k .state ≡ Dormant → mailAt (t .rest .mail) k ≡ noMail
   -- the pool's places, first to last, are read as the order of asking, its free places last and zero
   pub pool : t .rest .pool ≡ pad mostQueued noRequest (requests (t .rest))
   -- no subprogram has a dormant holder or waiters while it is free; its line holds exactly those who wait for it (02)
   pub subprograms : Subprograms (t .tasks) (t .rest)
+  -- no fitting message waits for a task that waits for one, and the messages stand in their order (02)
+  pub messages : Messages (t .tasks) (t .rest)
   -- the word of the ready levels has bit p set exactly if some ready task has priority p (02)
   pub levels : Levels t

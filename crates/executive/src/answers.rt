@@ -7,6 +7,7 @@ use crate::Table;
 use crate::clock;
 use crate::places;
 use records::TaskNo;
+use records::Text;
 ghost use mathlib.Core.Path.{_≡_};
 ghost use mathlib.Core.Bool.{false};
 ghost use Prim.Native.Nat.{_≤_};
@@ -27,6 +28,8 @@ pub fn no_table() -> Answer
         argument: 0,
         skipped: 0,
         walked: 0,
+        sender: TaskNo(0),
+        text: Text(0),
     }
 }
 
@@ -38,6 +41,8 @@ pub(crate) fn marked(z: bool, v: bool, c: bool) -> Marks
         v,
         c,
         skipped: 0,
+        sender: TaskNo(0),
+        text: Text(0),
     }
 }
 
@@ -85,6 +90,8 @@ pub(crate) fn restart_marks(start: Millis, now: Millis, parameter: u8, count: u8
         v: clock::LAST_UNIT < parameter % 8,
         c: false,
         skipped,
+        sender: TaskNo(0),
+        text: Text(0),
     }
 }
 
@@ -97,6 +104,8 @@ impl Table {
         let active = self.active();
         let tasks = self.tasks;
         let e = places::task_at(tasks, active);
+        let sender = m.sender;
+        let text = m.text;
         Answer {
             number,
             z: m.z,
@@ -106,6 +115,8 @@ impl Table {
             argument: e.argument,
             skipped: m.skipped,
             walked,
+            sender,
+            text,
         }
     }
 

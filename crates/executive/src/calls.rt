@@ -57,6 +57,7 @@ pub(crate) fn terminate(
                 entrants,
                 request: q,
                 change: Change::Taken(i),
+                empties: c,
             };
             decisions::accepted(marks, deed)
         }
@@ -66,6 +67,7 @@ pub(crate) fn terminate(
                 entrants: l1,
                 request: pool::NO_REQUEST,
                 change: Change::Same,
+                empties: c,
             };
             decisions::accepted(marks, deed)
         }
@@ -102,6 +104,7 @@ pub(crate) fn restart(
         entrants,
         request: pool::NO_REQUEST,
         change: Change::Same,
+        empties: c,
     };
     decisions::accepted(marks, deed)
 }
@@ -143,6 +146,7 @@ pub(crate) fn cancel_pause(e: Task, count: u8, k: TaskNo) -> Decision
             entrants,
             request: pool::NO_REQUEST,
             change: Change::Same,
+            empties: TaskNo(0),
         };
         return decisions::accepted(marks, deed);
     }
@@ -177,6 +181,7 @@ pub(crate) fn tick(
         entrants,
         request: pool::NO_REQUEST,
         change: Change::Clock(first),
+        empties: TaskNo(0),
     };
     decisions::accepted(marks, deed)
 }

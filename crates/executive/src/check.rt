@@ -4,6 +4,7 @@ use crate::Request;
 use crate::Rest;
 use crate::Table;
 use crate::Task;
+use crate::message_check;
 use crate::passes;
 use crate::queue_check;
 use crate::rules;
@@ -25,8 +26,8 @@ fn pool_right(tasks: [Task; 16], pool: [Request; 32], queued: usize, count: u8) 
     waiters::waiters_right(tasks, pool, queued, count) && passes::free_from(pool, queued)
 }
 
-// Every rule but the queue's: the numbers, the entries, the alarms, the pool, the subprograms. Each array is taken out
-// once.
+// Every rule but the queue's: the numbers, the entries, the alarms, the pool, the subprograms, the messages and the mail.
+// Each array is taken out once.
 pub fn all_but_queue(tasks: [Task; 16], rest: Rest) -> bool
     ensures { λ r. ⌜ r ≡ allButQueue tasks rest ⌝ }
 {
@@ -50,7 +51,15 @@ pub fn all_but_queue(tasks: [Task; 16], rest: Rest) -> bool
         return false;
     }
     let subs = rest.subs;
-    subprogram_check::subs_right(tasks, subs, count)
+    if !subprogram_check::subs_right(tasks, subs, count) {
+        return false;
+    }
+    let messages = rest.messages;
+    if !message_check::sent_right(tasks, messages, rest.sent, count) {
+        return false;
+    }
+    let mail = rest.mail;
+    message_check::mail_right(tasks, mail, count)
 }
 
 impl Table {

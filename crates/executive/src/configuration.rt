@@ -7,6 +7,8 @@ use crate::Task;
 use crate::Work;
 use crate::answers;
 use crate::decisions::How;
+use crate::messages::NO_MAIL;
+use crate::messages::NO_MESSAGE;
 use crate::places::NO_TASK;
 use crate::pool::NO_REQUEST;
 use crate::subprograms::NO_SUB;
@@ -153,6 +155,9 @@ fn blank_rest(n: u8, granule: u8) -> Rest
         pool: [NO_REQUEST; 32],
         queued: 0,
         subs: [NO_SUB; 8],
+        messages: [NO_MESSAGE; 32],
+        sent: 0,
+        mail: [NO_MAIL; 16],
     }
 }
 

@@ -7,6 +7,7 @@ use crate::check;
 use crate::decisions;
 use crate::decisions::Decision;
 use crate::flags;
+use crate::messages;
 use crate::places;
 use crate::refusals;
 use crate::starts;
@@ -93,6 +94,26 @@ fn by_kind(tasks: [Task; 16], rest: Rest, c: TaskNo, call: Call) -> Decision
             let subs = rest.subs;
             let s = subprograms::sub_at(subs, subprogram);
             subprograms::exit(s, c, subprogram)
+        }
+        Call::Send { task, text } => {
+            let e = places::task_at(tasks, task);
+            let own = places::task_at(tasks, c);
+            let state = e.state;
+            let waiting = rest.messages;
+            messages::send(
+                state,
+                own.priority,
+                waiting,
+                rest.sent,
+                rest.count,
+                c,
+                task,
+                text,
+            )
+        }
+        Call::Receive { task } => {
+            let waiting = rest.messages;
+            messages::receive(waiting, rest.sent, rest.count, c, task)
         }
     }
 }

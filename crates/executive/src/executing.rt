@@ -8,12 +8,15 @@ use crate::decisions::Change;
 use crate::decisions::Deed;
 use crate::decisions::Entrants;
 use crate::decisions::Leave;
+use crate::messages;
+use records::TaskNo;
 ghost use mathlib.Core.Path.{_≡_};
 ghost use Rattle.executive.specs.Table.{ArraysInOrder, FindsRoom, InFlight, line, view, levelsOf, relit, left?, depart};
 ghost use Rattle.executive.specs.Table.{withRest, enterAllInFlight, litInFlight, applyInFlight};
 ghost use Rattle.executive.specs.States.{isReady};
 ghost use Rattle.executive.specs.WellFormed.{Line};
 ghost use Rattle.executive.specs.Pool.{PoolInOrder};
+ghost use Rattle.executive.specs.Messages.{noMail, withMail};
 ghost use Rattle.executive.specs.Decisions.{named, outFor, joinsFor, alters, changed, meant, Able, Doable};
 
 // Whether the caller leaves.
@@ -42,6 +45,9 @@ fn alters(change: Change) -> bool
         Change::Held(_, _) => true,
         Change::Lined(_, _, _) => true,
         Change::HandedOn(_) => true,
+        Change::Posted(_, _) => true,
+        Change::Delivered(_, _) => true,
+        Change::HandedOut(_) => true,
     }
 }
 
@@ -61,6 +67,9 @@ impl Rest {
             Change::Held(m, k) => self.with_holder(m, k),
             Change::Lined(m, k, at) => self.with_waiter(m, k, at),
             Change::HandedOn(m) => self.handed_on(m),
+            Change::Posted(m, at) => self.with_letter(m, at),
+            Change::Delivered(k, x) => self.with_mail(k, x),
+            Change::HandedOut(i) => self.without_letter(i),
         }
     }
 }
@@ -103,6 +112,19 @@ impl Table {
         self
     }
 
+    // The mail of a task is gone; 0 names nobody.
+    fn emptied(mut self, k: TaskNo) -> Table
+        ensures { λ r. ⌜ r ≡ withRest (withMail (k .0) noMail (self .rest)) self ⌝ }
+    {
+        if k.0 == 0 {
+            return self;
+        }
+        let old = self.rest;
+        let rest = old.with_mail(k, messages::NO_MAIL);
+        self.rest = rest;
+        self
+    }
+
     // The caller leaves, if it is to.
     fn left(mut self, how: Leave) -> Table
         requires { ⌜ ArraysInOrder self × Line isReady (self .tasks) (line self) × (self .levels ≡ levelsOf (view self)) ⌝ }
@@ -126,7 +148,9 @@ impl Table {
         let t = self.left(leave);
         let change = d.change;
         let t1 = t.changed(change, q);
-        let w = t1.begin();
+        let k = d.empties;
+        let t2 = t1.emptied(k);
+        let w = t2.begin();
         let list = d.entrants;
         w.enter_all(list, q, now)
     }

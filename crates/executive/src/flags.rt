@@ -15,6 +15,7 @@ use crate::pool;
 use crate::refusals;
 use crate::waking;
 use records::FlagNo;
+use records::TaskNo;
 ghost use mathlib.Core.Path.{_≡_};
 ghost use mathlib.Core.Bool.{false, not, cond, _||_};
 ghost use Prim.Native.Nat.{_<_, _≤_};
@@ -107,6 +108,7 @@ fn set(tasks: [Task; 16], flags: u32, f: FlagNo) -> Deed
         entrants,
         request: pool::NO_REQUEST,
         change: Change::Flags(more),
+        empties: TaskNo(0),
     }
 }
 

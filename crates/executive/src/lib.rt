@@ -1,6 +1,7 @@
 // The executive: the nouns of its table, and the step that takes a table's state and hands the state back.
 use records::SubNo;
 use records::TaskNo;
+use records::Text;
 
 pub mod answers;
 mod calls;
@@ -13,6 +14,8 @@ mod entries;
 mod executing;
 mod flags;
 pub mod levels;
+mod message_check;
+mod messages;
 mod methods;
 mod passes;
 pub mod places;
@@ -49,6 +52,7 @@ pub enum State {
     AwaitStart,
     AwaitEnd,
     AwaitSub(SubNo),
+    AwaitMessage(TaskNo),
 }
 
 // A task's entry: its own priority; its run's current priority and argument; who waits for its end; its state; its
@@ -79,7 +83,24 @@ pub struct Sub {
     pub waiting: u8,
 }
 
-// What no task's entering or departing touches. An alarm at 0 is not running.
+// A message that waits (02): the task that it is for, the one that sent it, the sender's priority when it was sent, and
+// its text.
+pub struct Message {
+    pub to: TaskNo,
+    pub sender: TaskNo,
+    pub priority: u8,
+    pub text: Text,
+}
+
+// The message that stands in a task's entry (02), put there while the task waited for it: its sender and its text, zeros
+// where there is none.
+pub struct Mail {
+    pub sender: TaskNo,
+    pub text: Text,
+}
+
+// What no task's entering or departing touches. An alarm at 0 is not running. The first `sent` places of the messages are
+// taken; the mail of task k is at place k - 1.
 pub struct Rest {
     pub count: u8,
     pub granule: u8,
@@ -89,6 +110,9 @@ pub struct Rest {
     pub pool: [Request; 32],
     pub queued: u8,
     pub subs: [Sub; 8],
+    pub messages: [Message; 32],
+    pub sent: u8,
+    pub mail: [Mail; 16],
 }
 
 // The table. The first `ready` places of the queue are taken; task k has its entry at place k - 1. Bit p of `levels` is
@@ -115,16 +139,20 @@ enum AwaitedMoment {
     ForEnd,
 }
 
-// What an accepted call says of itself: Z, V and C, and how many grid times it passed over (docs/CALLS.md, 2).
+// What an accepted call says of itself: Z, V and C, how many grid times it passed over (docs/CALLS.md, 2), and the sender
+// and the text of the message that it hands out (02), zeros where it hands out none.
 pub struct Marks {
     pub z: bool,
     pub v: bool,
     pub c: bool,
     pub skipped: u64,
+    pub sender: TaskNo,
+    pub text: Text,
 }
 
 // What a step answers: its number, Z, V and C, the active task (0 when idle) and its run's argument; how many grid
-// times a restart passed over; how many ready tasks were passed over by those that entered.
+// times a restart passed over; how many ready tasks were passed over by those that entered; the sender and the text of the
+// message that a receive hands out.
 pub struct Answer {
     pub number: u8,
     pub z: bool,
@@ -134,6 +162,8 @@ pub struct Answer {
     pub argument: u16,
     pub skipped: u64,
     pub walked: u8,
+    pub sender: TaskNo,
+    pub text: Text,
 }
 
 // What a step hands back: its answer, and the table's state.

@@ -6,6 +6,7 @@ use records::Call;
 use records::FlagNo;
 use records::SubNo;
 use records::TaskNo;
+use records::Text;
 ghost use Rattle.executive.specs.Step.{StepsCall};
 
 impl Table {
@@ -88,6 +89,20 @@ impl Table {
         ensures { λ r. ⌜ StepsCall self (Call.Exit subprogram) r ⌝ }
     {
         self.step_call(Call::Exit { subprogram })
+    }
+
+    // Kind 14.
+    pub fn send(mut self, task: TaskNo, text: Text) -> Outcome
+        ensures { λ r. ⌜ StepsCall self (Call.Send task text) r ⌝ }
+    {
+        self.step_call(Call::Send { task, text })
+    }
+
+    // Kind 15.
+    pub fn receive(mut self, task: TaskNo) -> Outcome
+        ensures { λ r. ⌜ StepsCall self (Call.Receive task) r ⌝ }
+    {
+        self.step_call(Call::Receive { task })
     }
 
     // Kind 80.

@@ -9,6 +9,7 @@ ghost use Rattle.executive.specs.Promises.Waking.{Waking};
 ghost use Rattle.executive.specs.Promises.Walks.{Walks};
 ghost use Rattle.executive.specs.Promises.LampLaw.{LampLaw};
 ghost use Rattle.executive.specs.Promises.SubLaw.{SubLaw};
+ghost use Rattle.executive.specs.Promises.MailLaw.{MailLaw};
 ghost use Rattle.executive.specs.States.{StatesTold};
 ghost use Rattle.executive.specs.Promises.Cards.{Cards};
 ghost use Rattle.executive.specs.Promises.FreshLaw.{FreshLaw};
@@ -16,10 +17,10 @@ ghost use Rattle.executive.specs.Check.{Decided};
 ghost use Rattle.executive.specs.Promises.Broken.{Broken};
 
 // The founder's demands, the queue's law, one history worked out, the restart that skips, the account of every start,
-// that a step is its decision, whom a tick wakes, how far those that enter walk, what the lamp shows, and that one task
-// at a time is in a subprogram, of every step: nothing to run, a contract that keeps the theorems in place.
+// that a step is its decision, whom a tick wakes, how far those that enter walk, what the lamp shows, that one task at a
+// time is in a subprogram, and the account of every message: nothing to run, a contract that keeps the theorems in place.
 fn promised()
-    ensures { λ r. ⌜ Demands × QueueLaw × Worked × Skipping × EveryStart × ByDecision × Waking × Walks × LampLaw × SubLaw ⌝ }
+    ensures { λ r. ⌜ Demands × QueueLaw × Worked × Skipping × EveryStart × ByDecision × Waking × Walks × LampLaw × SubLaw × MailLaw ⌝ }
 {}
 
 // What is shown of them: kind, time and mask tell the state, and each has one answer.

@@ -1,5 +1,7 @@
 // The rules on one thing alone: on an entry, a wait mask, a request, an alarm, the counts and the clock. Public, since
 // an engine or a mender asks the same rules.
+use crate::Mail;
+use crate::Message;
 use crate::Millis;
 use crate::Request;
 use crate::State;
@@ -12,6 +14,7 @@ ghost use Prim.Native.Nat.{_<_};
 ghost use Rattle.executive.specs.States.{ready};
 ghost use Rattle.executive.specs.Check.{inBounds, awaitsInRange, entryInRange, isZero, isBlank, requestInRange};
 ghost use Rattle.executive.specs.Check.{isStored, isTimely, alarmRight, isUnmet, namesOthers, dormantEntryRight, isFree, entryRight, requestFits};
+ghost use Rattle.executive.specs.Check.{messageInRange, isNoMessage, isNoMail, isEmptied};
 
 // The counts, the granule and the clock are in range.
 pub fn in_bounds(count: u8, granule: u8, clock: Millis, queued: u8) -> bool
@@ -32,14 +35,18 @@ pub fn in_bounds(count: u8, granule: u8, clock: Millis, queued: u8) -> bool
     queued <= 32
 }
 
-// One who waits for a subprogram waits for one of 0 to 7.
-pub fn awaits_in_range(s: State) -> bool
-    ensures { λ r. ⌜ r ≡ awaitsInRange s ⌝ }
+// One who waits for a subprogram waits for one of 0 to 7; one who waits for a message, for one of the tasks' or any.
+pub fn awaits_in_range(s: State, count: u8) -> bool
+    ensures { λ r. ⌜ r ≡ awaitsInRange count s ⌝ }
 {
-    if !states::is_of(s, states::AWAIT_SUB) {
-        return true;
+    let number = states::awaited_of(s);
+    if states::is_of(s, states::AWAIT_SUB) {
+        return number <= 7;
     }
-    states::awaited_of(s) <= 7
+    if states::is_of(s, states::AWAIT_MESSAGE) {
+        return number <= count;
+    }
+    true
 }
 
 pub fn entry_in_range(e: Task, count: u8) -> bool
@@ -55,7 +62,7 @@ pub fn entry_in_range(e: Task, count: u8) -> bool
         return false;
     }
     let s = e.state;
-    awaits_in_range(s)
+    awaits_in_range(s, count)
 }
 
 // Zeros but for the own priority and the state.
@@ -216,4 +223,57 @@ pub fn alarm_right(a: Millis, now: Millis) -> bool
         return true;
     }
     is_stored(a, now)
+}
+
+// A waiting message's addressee and sender are tasks, and its priority is in range.
+pub fn message_in_range(m: Message, count: u8) -> bool
+    ensures { λ r. ⌜ r ≡ messageInRange count m ⌝ }
+{
+    if m.to.0 == 0 {
+        return false;
+    }
+    if count < m.to.0 {
+        return false;
+    }
+    if m.sender.0 == 0 {
+        return false;
+    }
+    if count < m.sender.0 {
+        return false;
+    }
+    m.priority <= 15
+}
+
+pub fn is_no_message(m: Message) -> bool
+    ensures { λ r. ⌜ r ≡ isNoMessage m ⌝ }
+{
+    if m.to.0 != 0 {
+        return false;
+    }
+    if m.sender.0 != 0 {
+        return false;
+    }
+    if m.priority != 0 {
+        return false;
+    }
+    m.text.0 == 0
+}
+
+pub fn is_no_mail(x: Mail) -> bool
+    ensures { λ r. ⌜ r ≡ isNoMail x ⌝ }
+{
+    if x.sender.0 != 0 {
+        return false;
+    }
+    x.text.0 == 0
+}
+
+// No message stands in a dormant task's entry.
+pub fn is_emptied(s: State, x: Mail) -> bool
+    ensures { λ r. ⌜ r ≡ isEmptied s x ⌝ }
+{
+    if !states::is_dormant(s) {
+        return true;
+    }
+    is_no_mail(x)
 }

@@ -129,6 +129,7 @@ fn start_now(q: Request, wt: AwaitedMoment) -> Deed
         entrants,
         request: q,
         change: Change::Same,
+        empties: TaskNo(0),
     }
 }
 
@@ -143,6 +144,7 @@ fn start_later(q: Request, wt: AwaitedMoment) -> Deed
         entrants,
         request: q,
         change: Change::Put,
+        empties: TaskNo(0),
     }
 }
 

@@ -25,6 +25,8 @@ pub(crate) const AWAIT_END: u8 = 7;
 
 pub(crate) const AWAIT_SUB: u8 = 8;
 
+pub(crate) const AWAIT_MESSAGE: u8 = 9;
+
 // The kind of a state.
 pub fn kind_of(s: State) -> u8
     ensures { λ r. ⌜ KindIs s r ⌝ }
@@ -41,6 +43,7 @@ pub fn kind_of(s: State) -> u8
         State::AwaitStart => AWAIT_START,
         State::AwaitEnd => AWAIT_END,
         State::AwaitSub(_) => AWAIT_SUB,
+        State::AwaitMessage(_) => AWAIT_MESSAGE,
     }
 }
 
@@ -57,6 +60,7 @@ pub fn time_of(s: State) -> Millis
         State::AwaitStart => Millis(0),
         State::AwaitEnd => Millis(0),
         State::AwaitSub(_) => Millis(0),
+        State::AwaitMessage(_) => Millis(0),
     }
 }
 
@@ -73,15 +77,18 @@ pub fn mask_of(s: State) -> u32
         State::AwaitStart => 0,
         State::AwaitEnd => 0,
         State::AwaitSub(_) => 0,
+        State::AwaitMessage(_) => 0,
     }
 }
 
-// The number of what a task in this state waits for, a subprogram's; 0 where it waits for none.
+// The number of what a task in this state waits for: a subprogram's, or the sender's of a message, 0 for any; 0 where it
+// waits for neither.
 pub fn awaited_of(s: State) -> u8
     ensures { λ r. ⌜ AwaitedIs s r ⌝ }
 {
     match s {
         State::AwaitSub(m) => m.0,
+        State::AwaitMessage(k) => k.0,
         State::Dormant => 0,
         State::Ready => 0,
         State::Paused(_) => 0,

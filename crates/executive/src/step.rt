@@ -45,7 +45,7 @@ impl Table {
     pub fn step_call(self, call: Call) -> Outcome
         ensures { λ r. ⌜ StepsCall self call r ⌝ }
     {
-        let mut record = [0u8; 6];
+        let mut record = [0u8; 10];
         match writing::write(call, &mut record) {
             Written::Length(n) => self.step(&record[..n]),
             Written::Refused(number) => self.refuse(number),

@@ -103,6 +103,7 @@ pub(crate) fn exit(s: Sub, c: TaskNo, m: SubNo) -> Decision
         entrants,
         request: pool::NO_REQUEST,
         change: Change::HandedOn(m),
+        empties: TaskNo(0),
     };
     decisions::accepted(marks, deed)
 }

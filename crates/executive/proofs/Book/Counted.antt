@@ -51,7 +51,7 @@ call-got (got.Refused n) h = absurd (h n refl)
 
 -- ---- an accepted record was read, and so its first byte is its call's
 module _ (t : Table) (s : List ℕ) (e : stepOf t s .answer .number ≡ 0) where
-  was-read : readOf s ≡ got.Call (callIn s)
+  pub was-read : readOf s ≡ got.Call (callIn s)
   unfolding refusals
   was-read =
       let a = first-none 1 _ _ (omega arith) (allowed t s e) in
@@ -65,7 +65,7 @@ module _ (t : Table) (s : List ℕ) (e : stepOf t s .answer .number ≡ 0) where
       ⊎-elim (λ x. ⊎-elim (λ z. eqb-false (length s) 0 (b .0) z) (λ m. m .1 l) (promises .three s .0 (ap readNumber r ∙ x)))
       (λ x. k (promises .four s .0 (ap readNumber r ∙ x) .1)) (promises .refuses s n r))
 
-  first-byte : Bytes s → getD s 0 0 ≡ byteOf (calls.kindOfCall (callIn s))
+  pub first-byte : Bytes s → getD s 0 0 ≡ byteOf (calls.kindOfCall (callIn s))
   first-byte b = ap (λ (l : List ℕ). getD l 0 0) (sym (promises .read-write s (callIn s) b was-read))
 
   z-answered : stepOf t s .answer .z ≡ marksOf t (callIn s) .z
@@ -94,6 +94,8 @@ call-asks t i (call.Task p m) = refl
 call-asks t i call.End = refl
 call-asks t i (call.Enter m) = refl
 call-asks t i (call.Exit m) = refl
+call-asks t i (call.Send k x) = refl
+call-asks t i (call.Receive s) = refl
 
 pub asks-told : (t : Table) (s : List ℕ) (i : ℕ) → Bytes s → one (asks05 t s (stepOf t s)) ≡ length (newAsked i (turnIn t s))
 unfolding turnIn
@@ -138,6 +140,8 @@ call-begins t u rs i b (call.Task p m) d a = refl
 call-begins t u rs i b call.End d a = refl
 call-begins t u rs i b (call.Enter m) d a = refl
 call-begins t u rs i b (call.Exit m) d a = refl
+call-begins t u rs i b (call.Send k x) d a = refl
+call-begins t u rs i b (call.Receive s) d a = refl
 
 pub begins-told : (t : Table) (s : List ℕ) (i : ℕ) (b : Book) → WellFormed t → Bytes s → Agrees (b .waiting) (requests (t .rest))
     → one (begins? t s (stepOf t s)) ≡ length (newBegun i (turnIn t s) b)

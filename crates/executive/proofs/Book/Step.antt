@@ -25,9 +25,11 @@ use Rattle.executive.specs.Pool.{requests, placeOf, removed, withRequest
 use Rattle.executive.specs.Table.{leaves, Plan, apply, change-at}
 use Rattle.executive.specs.Entries.{withState, asDormant}
 use Rattle.executive.specs.Plans.{caller, stateAt, waking, endWaiter, begins, terminatePlan, restartPlan, pausePlan, cancelPausePlan, waitOf, atOnce, outOf, startNowPlan, queueRequestPlan, startIfDormantPlan, requestOf, startOrQueuePlan, setPlan, resetPlan, flagPlan, waitPlan, alarmPlan, tickPlan, enterPlan, exitPlan}
+use Rattle.executive.specs.Messages.{noMail, letters, firstFit, withMail}
+use Rattle.executive.specs.Plans.{sendPlan, receivePlan}
 use Rattle.executive.specs.Subprograms.{subAt, isHeld}
 use Rattle.executive.specs.Flags.{met, modeOf}
-use Rattle.executive.specs.States.{dormant, is, isDormant, isPaused}
+use Rattle.executive.specs.States.{dormant, is, isDormant, isPaused, takes}
 use Rattle.executive.specs.WellFormed.{targetsOf, WellFormed}
 use Rattle.executive.specs.Sheet.{planOf}
 use Rattle.executive.specs.Refusals.{callIn, callRefusals, refusals}
@@ -100,7 +102,7 @@ module _ (t : Table) (w : WellFormed t) where
   i = placeOf (c .0) rs
 
   abbrev stop : Plan
-  stop = record { out = leaves asDormant; ins = waking (endWaiter t c); rest = t .rest }
+  stop = record { out = leaves asDormant; ins = waking (endWaiter t c); rest = withMail (c .0) noMail (t .rest) }
 
   sleeps : 0 < t .ready → taskAt (apply stop t .tasks) (c .0) .state ≡ Dormant
   unfolding puts waking
@@ -135,7 +137,7 @@ module _ (t : Table) (w : WellFormed t) where
       run = record {
         out = leaves asDormant;
         ins = waking (endWaiter t c) ++ (begins c q (t .rest .clock) ∷ waking (q .«start_waiter»));
-        rest = withRequests (removed i rs) (t .rest);
+        rest = withMail (c .0) noMail (withRequests (removed i rs) (t .rest));
       }
 
       go : (b : Bool) → ltb i (length rs) ≡ b → MovesAreLegal (cond b run stop) t → Ending rs (apply (cond b run stop) t) (c .0)
@@ -157,7 +159,7 @@ module _ (t : Table) (w : WellFormed t) where
   either b p q x y = picked (λ (p : Plan). requests (p .rest)) b p q rs x y
 
   call-does : (c : Call) → firstOf (callRefusals t c) ≡ 0 → MovesAreLegal (planOf t c) t → Does rs (apply (planOf t c) t) (turnOf t c)
-  unfolding planOf turnOf apply restartPlan pausePlan cancelPausePlan startIfDormantPlan startNowPlan flagPlan resetPlan setPlan waitPlan alarmPlan tickPlan enterPlan exitPlan
+  unfolding planOf turnOf apply restartPlan pausePlan cancelPausePlan startIfDormantPlan startNowPlan flagPlan resetPlan setPlan waitPlan alarmPlan tickPlan enterPlan exitPlan sendPlan receivePlan
   call-does call.Terminate z s = end-does (end-owed t w z .1) s
   call-does (call.Restart p n) z s = refl
   call-does (call.Pause u n) z s = either (eqb n 0) _ _ refl refl
@@ -173,9 +175,11 @@ module _ (t : Table) (w : WellFormed t) where
   call-does call.End z s = refl
   call-does (call.Enter m) z s = either (isHeld (subAt (t .rest) (m .0))) _ _ refl refl
   call-does (call.Exit m) z s = refl
+  call-does (call.Send k x) z s = either (takes (caller t .0) (stateAt t k)) _ _ refl refl
+  call-does (call.Receive s) z m = either (ltb (firstFit (caller t .0) (s .0) (letters (t .rest))) (length (letters (t .rest)))) _ _ refl refl
 
 -- ---- the step
-planned-so : (t : Table) (s : List ℕ) → stepOf t s .answer .number ≡ 0 → planOfRecord t s ≡ planOf t (callIn s)
+pub planned-so : (t : Table) (s : List ℕ) → stepOf t s .answer .number ≡ 0 → planOfRecord t s ≡ planOf t (callIn s)
 unfolding planOfRecord
 planned-so t s e = rw (eq-eqb (firstOf (refusals t s)) 0 (allowed t s e)) refl
 

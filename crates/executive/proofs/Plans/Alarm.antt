@@ -21,6 +21,7 @@ use Rattle.executive.proofs.clock.Interval.{interval-most, interval-som
 use Rattle.executive.proofs.Lists.Sums.{set-all}
 use Rattle.executive.proofs.Plans.GoodIsKept.{puts, Good}
 use Rattle.executive.proofs.Plans.Flag.{set-good}
+use Rattle.executive.proofs.messages.Kept.{mail-beside}
 
 module _ (t : Table) (w : WellFormedByPart t) where
   -- ---- 0B
@@ -51,4 +52,5 @@ module _ (t : Table) (w : WellFormedByPart t) where
               neat = record { room = w .rested .neat .room; clear = w .rested .neat .clear };
             };
             lined = w .lined;
+            mailed = mail-beside (t .tasks) (t .rest) _ refl refl refl refl (w .mailed);
           }

@@ -50,6 +50,7 @@ module _ (t : Table) (w : WellFormedByPart t) where
         own = λ j. go r j (eqb j (k .0)) refl;
         rested = w .rested;
         lined = subs-else (raising k ∷ []) (t .tasks) (r .joining) (w .lined);
+        mailed = w .mailed;
       }
     where
       go : One (raising k ∷ []) (t .tasks) (requests (t .rest)) now (t .rest .flags) (t .rest .count) (k .0)

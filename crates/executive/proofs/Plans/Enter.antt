@@ -33,7 +33,8 @@ use Rattle.executive.proofs.Plans.LinksKept.{put-all, links-up, up-link
 use Rattle.executive.proofs.Plans.Links.{alike}
 use Rattle.executive.proofs.Plans.GoodIsKept.{puts, Good}
 use Rattle.executive.proofs.Plans.SubsKept.{waits-none, waits-other, sub-put, sub-set}
-use Rattle.executive.proofs.Plans.Shared.{Runs, runs, waits-own, subs-rested}
+use Rattle.executive.proofs.Plans.Shared.{Runs, runs, waits-own, subs-rested, leaves-mailed}
+use Rattle.executive.proofs.messages.Kept.{mail-beside}
 
 -- a line is the one that was stored
 pub held-neat : (k : TaskNo) (xs : List TaskNo) → length xs ≤ 16 → LineInOrder (heldBy k xs)
@@ -104,6 +105,7 @@ module _ (t : Table) (w : WellFormedByPart t) (h : 0 < t .ready) (m : SubNo) (lo
         waiters = o .waiters;
       }) (w .lined .each);
     };
+    mailed = mail-beside (t .tasks) (t .rest) _ refl refl refl refl (w .mailed);
   }
 
   same-priority : (j : ℕ) → taskAt us j .priority ≡ taskAt (t .tasks) j .priority
@@ -136,6 +138,7 @@ module _ (t : Table) (w : WellFormedByPart t) (h : 0 < t .ready) (m : SubNo) (lo
           sub-put (t .tasks) (c .0) e k (getD (t .rest .subs) k noSub) (r .names) (waits-none k (taskAt (t .tasks) (c .0) .state) (r .no-sub))
           (waits-other (m .0) k (AwaitSub m) d (ap one (eqb-self (m .0)))) (λ z. absurd (omega arith)) (w .lined .each k));
     };
+    mailed = mail-beside us (t .rest) _ refl refl refl refl (leaves-mailed t w h e refl);
   }
 
   pub enter-good : Good (enterPlan t m) t

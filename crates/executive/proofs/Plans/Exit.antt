@@ -29,6 +29,7 @@ use Rattle.executive.proofs.Plans.Links.{alike}
 use Rattle.executive.proofs.Plans.GoodIsKept.{puts, Good}
 use Rattle.executive.proofs.Plans.SubsKept.{waits-some, waits-other, sub-put, sub-set}
 use Rattle.executive.proofs.Plans.Shared.{own-put, ready-own, subs-rested}
+use Rattle.executive.proofs.messages.Kept.{mail-beside}
 use Rattle.executive.proofs.Plans.Enter.{held-neat}
 
 module _ (t : Table) (w : WellFormedByPart t) (m : SubNo) (low : m .0 ≤ lastSub) where
@@ -59,6 +60,7 @@ module _ (t : Table) (w : WellFormedByPart t) (m : SubNo) (low : m .0 ≤ lastSu
         waiters = rw g at (o .waiters);
       }) (λ k _. w .lined .each k);
     };
+    mailed = mail-beside (t .tasks) (t .rest) _ refl refl refl refl (w .mailed);
   }
   handed-good (k ∷ ls) g =
       let old : Task = taskAt (t .tasks) (k .0) in
@@ -86,6 +88,7 @@ module _ (t : Table) (w : WellFormedByPart t) (m : SubNo) (low : m .0 ≤ lastSu
           }) (λ n d.
               sub-put (t .tasks) (k .0) e n (getD (t .rest .subs) n noSub) (i .names) (waits-other (m .0) n (old .state) d (i .is-of)) refl (λ y. absurd (omega arith)) (w .lined .each n));
         };
+        mailed = mail-beside (t .tasks) (t .rest) _ refl refl refl refl (w .mailed);
       })
 
   pub exit-good : Good (exitPlan t m) t

@@ -23,6 +23,7 @@ use Rattle.executive.proofs.Plans.Rising.{Tells, Done, all-risen}
 use Rattle.executive.proofs.flags.Masks.{met-fewer}
 use Rattle.executive.proofs.waking.Over.{over, over-holds, holds-over}
 use Rattle.executive.proofs.Plans.Tick.{over-tells}
+use Rattle.executive.proofs.messages.Kept.{mail-beside}
 
 -- ---- the test of 09: who waits for flags, and whose condition holds now
 holds-tells : (c fa fs : ℕ) → Tells (holds fs) c fa c fs
@@ -67,6 +68,7 @@ module _ (t : Table) (w : WellFormedByPart t) where
         own = d .own;
         rested = flagged fs;
         lined = subs-else (risers (holds fs) 1 (t .tasks)) (t .tasks) (d .joining) (w .lined);
+        mailed = mail-beside (t .tasks) (t .rest) _ refl refl refl refl (w .mailed);
       }
 
   pub reset-good : (f : FlagNo) → Good (resetPlan t f) t
@@ -87,6 +89,7 @@ module _ (t : Table) (w : WellFormedByPart t) where
         };
     rested = flagged (flagReset (t .rest .flags) (f .0));
     lined = w .lined;
+    mailed = mail-beside (t .tasks) (t .rest) _ refl refl refl refl (w .mailed);
   }
 
   pub flag-good : (operation : ℕ) (f : FlagNo) → Good (flagPlan t operation f) t

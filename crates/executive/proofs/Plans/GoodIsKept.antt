@@ -6,6 +6,7 @@ use native.Mathlib.Omega.{arith}
 use lib.ListN.{length}
 use Rattle.records.specs.declared.TaskNo.{TaskNo}
 use Rattle.executive.specs.declared.Task.{Task}
+use Rattle.executive.specs.declared.Rest.{Rest}
 use Rattle.executive.specs.declared.Table.{Table}
 use Rattle.executive.specs.declared.Work.{Work}
 use Rattle.executive.specs.Queue.{count}
@@ -17,7 +18,8 @@ use Rattle.executive.specs.WellFormed.{Line}
 use Rattle.executive.proofs.Plans.WorkingForm.{EntriesOk, LinksOk, RestOk, SubsOk, WellFormedByPart}
 use Rattle.executive.proofs.queue.ArraysAreLists.{enter-length, line-length, departed-fit, entered-fit}
 use Rattle.executive.proofs.Plans.Moves.{Entering, MovesAreLegal, out-tasks, leave-line}
-use Rattle.executive.proofs.Plans.QueueKept.{Joins, join-kept, head-is, line-out}
+use Rattle.executive.proofs.messages.Kept.{MailOk, mail-calm}
+use Rattle.executive.proofs.Plans.QueueKept.{Joins, not-both, join-kept, head-is, line-out}
 use Rattle.executive.proofs.Plans.Size.{room-to-enter}
 
 -- the tasks after the caller's departure, and after the entries
@@ -45,6 +47,17 @@ pub record Good (p : Plan) (t : Table) : Type 0 where
   pub own : EntriesOk (p .rest) (after-tasks p t)
   pub rested : RestOk (p .rest)
   pub lined : SubsOk (after-tasks p t) (p .rest .subs)
+  -- before anybody enters: who enters is ready then, and that keeps it
+  pub mailed : MailOk (outTasks (p .out) (t .tasks) (headOf (line t) .0)) (p .rest)
+
+-- those who enter wait for no message and are not dormant
+pub mail-joins : {r : Rest} (js : List Join) (ts : List Task) → JoinsAll js ts → MailOk ts r → MailOk (puts js ts) r
+unfolding puts
+mail-joins [] ts h o = o
+mail-joins {r} (j ∷ js) ts h o =
+    let e : Task = j .change (taskAt ts (j .who .0)) in
+    let x = not-both (e .state) in
+    mail-joins js (putAt ts (j .who .0) e) (h .1) (mail-calm ts (j .who .0) e r (h .0 .names) (omega (arith, x, h .0 .after)) o)
 
 pub joins-tasks : (js : List Join) (t : Table) → joins js t .tasks ≡ puts js (t .tasks)
 unfolding joins puts join entered
@@ -144,6 +157,7 @@ apply-kept p t w g =
         rested = g .rested;
         lit = refl;
         lined = rw f (g .lined);
+        mailed = rw f (mail-joins (p .ins) (outTasks (p .out) (t .tasks) (headOf (line t) .0)) (g .joining) (g .mailed));
       };
       sound = record { once = once (t .tasks) (line t) (w .queue); entering = k .entering };
       room = k .room;

@@ -16,7 +16,7 @@ use Rattle.executive.specs.Lists.{one}
 use Rattle.executive.specs.Queue.{count}
 use Rattle.executive.specs.Places.{Names, noTask, taskAt, putAt}
 use Rattle.executive.specs.Table.{line, items, enterAt, Join, entered, join}
-use Rattle.executive.specs.States.{dormant, ready, awaitStart, awaitEnd, awaitSub, stateKind, isOf, is, isDormant, isReady}
+use Rattle.executive.specs.States.{dormant, ready, awaitStart, awaitEnd, awaitSub, awaitMessage, stateKind, isOf, is, isDormant, isReady}
 use Rattle.executive.specs.WellFormed.{Line}
 use Rattle.executive.proofs.Lists.Tests.{Le, le-yes, le-no, leb-is, So-of-true, eqb-self}
 use Rattle.executive.proofs.queue.Law.{insert-count, insert-desc}
@@ -38,7 +38,7 @@ busy-names ts (suc i) h = (omega arith, go (leb (suc i) (length ts)) (leb-is (su
 pub not-both : (s : State) → counted (stateKind s) ≤ 1
 not-both s =
     by ready (lit≤ tt)
-    (λ a. by dormant (lit≤ tt) (λ b. by awaitStart (lit≤ tt) (λ c. by awaitEnd (lit≤ tt) (λ d. by awaitSub (lit≤ tt) (λ e. omega (arith, ap one a, ap one b, ap one c, ap one d, ap one e))))))
+    (λ a. by dormant (lit≤ tt) (λ b. by awaitStart (lit≤ tt) (λ c. by awaitEnd (lit≤ tt) (λ d. by awaitSub (lit≤ tt) (λ e. by awaitMessage (lit≤ tt) (λ f. omega (arith, ap one a, ap one b, ap one c, ap one d, ap one e, ap one f)))))))
   where
     by : (n : ℕ) → counted n ≤ 1 → (isOf n s ≡ false → counted (stateKind s) ≤ 1) → counted (stateKind s) ≤ 1
     by n h other = go (isOf n s) refl

@@ -27,7 +27,8 @@ use Rattle.executive.proofs.Plans.LinksKept.{put-all, links-up, up-link
 use Rattle.executive.proofs.Plans.Links.{alike, release}
 use Rattle.executive.proofs.Plans.GoodIsKept.{puts, Good, JoinsAll, JoinsKeep, moves-kept}
 use Rattle.executive.proofs.Plans.SubsKept.{AllElse, joined, subs-else}
-use Rattle.executive.proofs.Plans.Shared.{EntryOkIn, ready-own, runs, Woken, ender-in, joins-append, puts-append, wake-other, wake-length, inside, leaves-else}
+use Rattle.executive.proofs.Plans.Shared.{EntryOkIn, ready-own, runs, Woken, ender-in, joins-append, puts-append, wake-other, wake-length, inside, leaves-else, post-rested, gone-mailed}
+use Rattle.executive.proofs.messages.Kept.{MailOk}
 
 module _ (t : Table) (w : WellFormedByPart t) (h : 0 < t .ready) where
   abbrev c : TaskNo
@@ -86,7 +87,10 @@ module _ (t : Table) (w : WellFormedByPart t) (h : 0 < t .ready) where
     due-lined : SubsOk ts₄ (t .rest .subs)
     due-lined = leaves-else t w h e₁ refl (λ z. absurd (omega arith))
 
-    later-good : aim .0 ≤ now + longest → now < aim .0 → Good (record { out = leaves (dueAt aim); ins = waking (endWaiter t c) ++ []; rest = t .rest }) t
+    due-mailed : MailOk ts₄ (restartBy t c aim .rest)
+    due-mailed = gone-mailed t w h e₁ (t .rest) (w .mailed) (λ z. false-not-true z)
+
+    later-good : aim .0 ≤ now + longest → now < aim .0 → Good (record { out = leaves (dueAt aim); ins = waking (endWaiter t c) ++ []; rest = restartBy t c aim .rest }) t
     unfolding puts
     later-good far z =
         let u = puts-append (waking (endWaiter t c)) [] ts₄ in
@@ -95,8 +99,9 @@ module _ (t : Table) (w : WellFormedByPart t) (h : 0 < t .ready) where
           joining = joined (waking (endWaiter t c) ++ []) ts₄ later-all;
           linked = rw u (up-links (freed .linked));
           own = rw u (and-caller (busy-own (λ _. (z, far), false-not-true) (w .own (c .0) .started) (w .own (c .0) .level) (w .own (c .0) .home) refl (inside t w h)));
-          rested = w .rested;
+          rested = post-rested _ _ _ (w .rested);
           lined = subs-else (waking (endWaiter t c) ++ []) ts₄ later-all due-lined;
+          mailed = due-mailed;
         }
 
     -- the rest is the plan's own: one that took a request out of the pool would have other links
@@ -111,8 +116,9 @@ module _ (t : Table) (w : WellFormedByPart t) (h : 0 < t .ready) where
           joining = joined (waking (endWaiter t c) ++ (raising c ∷ [])) ts₄ now-all;
           linked = rw u (up-links (alike ts₅ rs (c .0) v 0 0 0 there refl (rw still refl) (rw still refl) refl (rw still refl) (freed .linked)));
           own = rw u (λ k. put-all (EntryOkIn (t .rest)) ts₅ (c .0) v there (rw still o) k (λ y. freed .own k y));
-          rested = w .rested;
+          rested = post-rested _ _ _ (w .rested);
           lined = subs-else (waking (endWaiter t c) ++ (raising c ∷ [])) ts₄ now-all due-lined;
+          mailed = due-mailed;
         }
 
   pub restart-good : (p n : ℕ) → n < 256 → Good (restartPlan t p n) t

@@ -18,7 +18,7 @@ use Rattle.executive.specs.Lists.{one, sumOf}
 use Rattle.executive.specs.Plans.{raising, passing, raisings, risers}
 use Rattle.executive.specs.Places.{Names, taskAt, putAt, timesIn}
 use Rattle.executive.specs.Table.{Join}
-use Rattle.executive.specs.States.{dormant, ready, awaitStart, awaitEnd, awaitSub, is, stateKind}
+use Rattle.executive.specs.States.{dormant, ready, awaitStart, awaitEnd, awaitSub, awaitMessage, is, stateKind}
 use Rattle.executive.proofs.Plans.WorkingForm.{StateOk, EntryOk, busy-within, busy-own}
 use Rattle.executive.proofs.Lists.Tests.{false-not-true, eqb-self}
 use Rattle.executive.proofs.places.TaskAt.{at-same, at-other}
@@ -61,7 +61,7 @@ module _ (f : State → Bool) (p : List Request) (a fa c fs n : ℕ) (tells : Te
   unfolding puts
   enters ts k l g y =
       let e : Task = taskAt ts (k .0) in
-      let z : is ready (e .state) + is dormant (e .state) + is awaitStart (e .state) + is awaitEnd (e .state) + is awaitSub (e .state) ≡ 0 = tells .waits (e .state) g in
+      let z : is ready (e .state) + is dormant (e .state) + is awaitStart (e .state) + is awaitEnd (e .state) + is awaitSub (e .state) + is awaitMessage (e .state) ≡ 0 = tells .waits (e .state) g in
       let m : Names (k .0) ts = busy-names ts (k .0) (omega arith) in
       let v : Task = risen e in
       let o : EntryOk c fs n (k .0) v = busy-own (false-not-true, false-not-true) (tells .aims (e .state) (e .start) g (y .started)) (y .level) (y .home) refl (busy-within y (omega arith)) in

@@ -13,16 +13,19 @@ use Rattle.executive.specs.declared.State.the-variants.{Ready}
 use Rattle.executive.specs.declared.Task.{Task}
 use Rattle.executive.specs.declared.Request.{Request}
 use Rattle.executive.specs.declared.Sub.{Sub}
+use Rattle.executive.specs.declared.Message.{Message}
+use Rattle.executive.specs.declared.Mail.{Mail}
 use Rattle.executive.specs.declared.Rest.{Rest}
 use Rattle.executive.specs.declared.Table.{Table}
 use Rattle.executive.specs.Entries.{withState}
-use Rattle.executive.specs.Rest.{withSubs}
+use Rattle.executive.specs.Rest.{withSubs, withPost}
 use Rattle.executive.specs.Plans.{waking, nothing}
 use Rattle.executive.specs.Pool.{withRequests, PoolInOrder, requests}
 use Rattle.executive.specs.Places.{noRequest, Names, taskAt, putAt}
 use Rattle.executive.specs.Table.{line, headOf, leaves, Join, change-at}
-use Rattle.executive.specs.States.{dormant, ready, awaitStart, awaitEnd, awaitSub, is, stateKind, isReady}
-use Rattle.executive.specs.WellFormed.{overPriority, Line}
+use Rattle.executive.specs.States.{dormant, ready, awaitStart, awaitEnd, awaitSub, awaitMessage, awaitedOf, isOf, is, stateKind, isReady}
+use Rattle.executive.specs.Messages.{noMail, letters, withMail}
+use Rattle.executive.specs.WellFormed.{overPriority, fitting, Line}
 use Rattle.executive.proofs.Plans.WorkingForm.{StateOk, EntryOk, EntriesOk, RestOk, SubsOk, WellFormedByPart, busy-within, busy-own}
 use Rattle.executive.proofs.Lists.Tests.{false-not-true}
 use Rattle.executive.proofs.Lists.Pad.{line-pad}
@@ -32,6 +35,8 @@ use Rattle.executive.proofs.Plans.QueueKept.{not-both, busy-names, head
 use Rattle.executive.proofs.Plans.LinksKept.{put-all, LinksUpTo, links-up, up-links}
 use Rattle.executive.proofs.Plans.Links.{alike, wake-ender, wake-starter}
 use Rattle.executive.proofs.Plans.GoodIsKept.{puts, Good}
+use Rattle.executive.proofs.messages.Kept.{MailOk, mail-calm, mail-put, mail-gone}
+use Rattle.executive.proofs.messages.Arrays.{mail-same}
 use Rattle.executive.proofs.Plans.SubsKept.{HoldsNone, AllElse, subs-put}
 use Rattle.executive.proofs.states.Laws.{counted}
 
@@ -51,7 +56,7 @@ ready-own b o = state-own Ready (false-not-true, false-not-true) refl b o
 
 pub nothing-good : (t : Table) → WellFormedByPart t → Good (nothing t) t
 unfolding puts
-nothing-good t w = record { leaving = refl; joining = tt; linked = w .links; own = w .own; rested = w .rested; lined = w .lined }
+nothing-good t w = record { leaving = refl; joining = tt; linked = w .links; own = w .own; rested = w .rested; lined = w .lined; mailed = w .mailed }
 
 -- what is known of the caller
 pub record Runs (ts : List Task) (c : ℕ) : Type 0 where
@@ -77,6 +82,11 @@ pub leaves-else : (t : Table) → WellFormedByPart t → 0 < t .ready → (e : T
     → SubsOk (putAt (t .tasks) (headOf (line t) .0) e) (t .rest .subs)
 leaves-else t w h e z d = let r = runs t w h in subs-put (t .tasks) (headOf (line t) .0) e (r .names) (r .no-sub) z d (w .lined)
 
+-- the caller departs, and neither sleeps nor waits for a message
+pub leaves-mailed : (t : Table) → WellFormedByPart t → 0 < t .ready → (e : Task) → is dormant (e .state) + is awaitMessage (e .state) ≡ 0
+    → MailOk (putAt (t .tasks) (headOf (line t) .0) e) (t .rest)
+leaves-mailed t w h e z = mail-calm (t .tasks) (headOf (line t) .0) e (t .rest) (runs t w h .names) z (w .mailed)
+
 -- the caller departs to wait for a time or for flags: no link names it
 pub waits-good : (t : Table) → WellFormedByPart t → 0 < t .ready → (s : State) → StateOk (t .rest .clock .0) (t .rest .flags) s → counted (stateKind s) ≡ 0
     → Good (record { out = leaves (withState s); ins = []; rest = t .rest }) t
@@ -93,11 +103,24 @@ waits-good t w h s m z =
       own = own-put (t .rest) (t .tasks) c e (r .names) (state-own s m d (r .is-busy) (w .own c)) (w .own);
       rested = w .rested;
       lined = leaves-else t w h e (omega arith) (λ x. absurd (omega arith));
+      mailed = leaves-mailed t w h e (omega arith);
     }
 
 -- the rest with other subprograms
 pub subs-rested : {r : Rest} (ss : List Sub) → RestOk r → RestOk (withSubs ss r)
 subs-rested ss o = record {
+  count = o .count;
+  granule = o .granule;
+  clocked = o .clocked;
+  sized = o .sized;
+  alarms = o .alarms;
+  priorities = o .priorities;
+  neat = record { room = o .neat .room; clear = o .neat .clear };
+}
+
+-- the rest with other messages and other mail
+pub post-rested : {r : Rest} (ms : List Message) (n : ℕ) (ml : List Mail) → RestOk r → RestOk (withPost ms n ml r)
+post-rested ms n ml o = record {
   count = o .count;
   granule = o .granule;
   clocked = o .clocked;
@@ -178,6 +201,18 @@ module _ (t : Table) (w : WellFormedByPart t) (h : 0 < t .ready) where
 
   pub inside : c .0 ≤ t .rest .count
   inside = busy-within (w .own (c .0)) (runs t w h .is-busy)
+
+  -- the caller's mail is gone; and the caller departs
+  pub mail-cleared : (r : Rest) → MailOk (t .tasks) r → MailOk (t .tasks) (withMail (c .0) noMail r)
+  mail-cleared r m = mail-gone (t .tasks) r (c .0) m (runs t w h .names .0) (omega (arith, inside, w .rested .count .1))
+
+  pub gone-mailed : (x : Task) (r : Rest) → MailOk (t .tasks) r
+      → (isOf awaitMessage (x .state) ≡ true → (fitting (c .0) (awaitedOf (x .state)) (letters r) ≡ 0) × (awaitedOf (x .state) ≤ r .count))
+      → MailOk (putAt (t .tasks) (c .0) x) (withMail (c .0) noMail r)
+  gone-mailed x r m f =
+      mail-put (t .tasks) (c .0) x (withMail (c .0) noMail r) (runs t w h .names) f
+      (λ _. mail-same r (c .0) noMail (runs t w h .names .0) (omega (arith, inside, w .rested .count .1, m .places)))
+      (mail-cleared r m)
 
   -- the rest with other requests
   pub pooled : (p : List Request) → PoolInOrder (withRequests p (t .rest)) → overPriority p ≡ 0 → RestOk (withRequests p (t .rest))

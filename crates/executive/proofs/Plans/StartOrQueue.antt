@@ -32,7 +32,8 @@ use Rattle.executive.proofs.Plans.LinksKept.{links-up, up-links}
 use Rattle.executive.proofs.Plans.Links.{begin, await-end, await-start, adopt}
 use Rattle.executive.proofs.Plans.GoodIsKept.{puts, outReady, Good}
 use Rattle.executive.proofs.Plans.SubsKept.{AllElse, joined, subs-else}
-use Rattle.executive.proofs.Plans.Shared.{own-put, runs, pooled, waits-own, leaves-else}
+use Rattle.executive.proofs.Plans.Shared.{own-put, runs, pooled, waits-own, leaves-else, leaves-mailed}
+use Rattle.executive.proofs.messages.Kept.{MailOk, mail-beside}
 
 module _ (t : Table) (w : WellFormedByPart t) (h : 0 < t .ready) where
   abbrev c : TaskNo
@@ -65,9 +66,9 @@ module _ (t : Table) (w : WellFormedByPart t) (h : 0 < t .ready) where
 
     module _ (hk : 0 < k .0) (busy : is dormant (taskAt (t .tasks) (k .0) .state) ≡ 0) (room : t .rest .queued < 32) where
       queued : (wt : AwaitedMoment) → (o : Out) (ts : List Task) → outOf wt ≡ o → outTasks o (t .tasks) (c .0) ≡ ts → outReady o e ≡ 0
-          → LinksOk ts (rs ++ (asks c wt k p a ∷ [])) → EntriesOk (t .rest) ts → SubsOk ts (t .rest .subs) → Good (queueRequestPlan t (asks c wt k p a) wt) t
+          → LinksOk ts (rs ++ (asks c wt k p a ∷ [])) → EntriesOk (t .rest) ts → SubsOk ts (t .rest .subs) → MailOk ts (t .rest) → Good (queueRequestPlan t (asks c wt k p a) wt) t
       unfolding queueRequestPlan puts
-      queued wt o ts eo et z l own lined =
+      queued wt o ts eo et z l own lined mailed =
           let q : Request = asks c wt k p a in
           let m : requests (withRequests (rs ++ (q ∷ [])) (t .rest)) ≡ rs ++ (q ∷ []) = line-pad noRequest 32 (rs ++ (q ∷ [])) in
           record {
@@ -77,21 +78,22 @@ module _ (t : Table) (w : WellFormedByPart t) (h : 0 < t .ready) where
             own = rw (eo, et) own;
             rested = (pooled t w h) (rs ++ (q ∷ [])) (queued-neat (t .rest) (w .fit .neat) q room) (steep-more q refl);
             lined = rw (eo, et) lined;
+            mailed = rw (eo, et) (mail-beside ts (t .rest) (withRequests (rs ++ (q ∷ [])) (t .rest)) refl refl refl refl mailed);
           }
 
       pub queue-good : (wt : AwaitedMoment) → MayWait wt (k .0) → Good (queueRequestPlan t (asks c wt k p a) wt) t
       queue-good ForNothing x = queued ForNothing stays (t .tasks) refl refl refl
-          (up-links (adopt (t .tasks) rs (asks c ForNothing k p a) hk busy (not-zero (k .0) hk) (not-zero (k .0) hk) refl (links-up (w .links)))) (w .own) (w .lined)
+          (up-links (adopt (t .tasks) rs (asks c ForNothing k p a) hk busy (not-zero (k .0) hk) (not-zero (k .0) hk) refl (links-up (w .links)))) (w .own) (w .lined) (w .mailed)
       queue-good ForStart x =
           let v : Task = withState AwaitStart e in
           queued ForStart (leaves (withState AwaitStart)) (putAt (t .tasks) (c .0) v) refl refl refl
           (up-links (adopt (putAt (t .tasks) (c .0) v) rs (asks c ForStart k p a) hk (rw (at-other (t .tasks) (c .0) (k .0) v x) busy) x (not-zero (k .0) hk) (sole (eqb (c .0) 0))
-          (await-start (t .tasks) rs (c .0) v 0 0 (runs t w h .is-ready) refl refl (links-up (w .links))))) ((waits-own t w h) AwaitStart (false-not-true, false-not-true) refl) (gone v refl)
+          (await-start (t .tasks) rs (c .0) v 0 0 (runs t w h .is-ready) refl refl (links-up (w .links))))) ((waits-own t w h) AwaitStart (false-not-true, false-not-true) refl) (gone v refl) (leaves-mailed t w h v refl)
       queue-good ForEnd x =
           let v : Task = withState AwaitEnd e in
           queued ForEnd (leaves (withState AwaitEnd)) (putAt (t .tasks) (c .0) v) refl refl refl
           (up-links (adopt (putAt (t .tasks) (c .0) v) rs (asks c ForEnd k p a) hk (rw (at-other (t .tasks) (c .0) (k .0) v x) busy) (not-zero (k .0) hk) x refl
-          (await-end (t .tasks) rs (c .0) v 0 0 (runs t w h .is-ready) refl refl (links-up (w .links))))) ((waits-own t w h) AwaitEnd (false-not-true, false-not-true) refl) (gone v refl)
+          (await-end (t .tasks) rs (c .0) v 0 0 (runs t w h .is-ready) refl refl (links-up (w .links))))) ((waits-own t w h) AwaitEnd (false-not-true, false-not-true) refl) (gone v refl) (leaves-mailed t w h v refl)
 
     module _ (n : Names (k .0) (t .tasks)) (few : k .0 ≤ t .rest .count) (idle : is dormant (taskAt (t .tasks) (k .0) .state) ≡ 1) where
       fresh : is ready (taskAt (t .tasks) (k .0) .state) + is awaitSub (taskAt (t .tasks) (k .0) .state) ≡ 0
@@ -109,6 +111,7 @@ module _ (t : Table) (w : WellFormedByPart t) (h : 0 < t .ready) where
             own = rw ek (own-put (t .rest) (t .tasks) (k .0) v n (busy-own (false-not-true, false-not-true) (omega arith) (omega (arith, ep)) (w .own (k .0) .home) refl few) (w .own));
             rested = w .rested;
             lined = subs-else (begins (q .target) q (t .rest .clock) ∷ []) (t .tasks) all (w .lined);
+            mailed = w .mailed;
           }
 
       pub start-good : (wt : AwaitedMoment) → MayWait wt (k .0) → Good (startNowPlan t (asks c wt k p a) wt) t
@@ -130,6 +133,7 @@ module _ (t : Table) (w : WellFormedByPart t) (h : 0 < t .ready) where
             own = own-put (t .rest) ts (k .0) b m (busy-own (false-not-true, false-not-true) (omega arith) lv (rw y (w .own (k .0) .home)) refl few) ((waits-own t w h) AwaitEnd (false-not-true, false-not-true) refl);
             rested = w .rested;
             lined = subs-else (begins k q (t .rest .clock) ∷ []) ts all (gone v refl);
+            mailed = leaves-mailed t w h v refl;
           }
 
 -- ---- 04 and 05: what their options say

@@ -14,6 +14,7 @@ use Rattle.executive.specs.declared.Table.{Table}
 use Rattle.executive.specs.Entries.{asDormant, begun}
 use Rattle.executive.specs.Plans.{endWaiter, begins, waking, terminatePlan}
 use Rattle.executive.specs.Lists.{one}
+use Rattle.executive.specs.Messages.{noMail, withMail}
 use Rattle.executive.specs.Pool.{placeOf, removed, withRequests, requests}
 use Rattle.executive.specs.Places.{noRequest, Names, taskAt, putAt}
 use Rattle.executive.specs.Table.{line, headOf, leaves, Join}
@@ -30,7 +31,8 @@ use Rattle.executive.proofs.Plans.Links.{retire, begin, settle, take, r
 use Rattle.executive.proofs.Plans.GoodIsKept.{puts, Good}
 use Rattle.executive.proofs.Plans.SubsKept.{HoldsNone, AllElse, joined, subs-else}
 use Rattle.executive.proofs.Plans.Shared.{EntryOkIn, own-put, ready-own, Runs, runs, Woken, ender-in, starter-in, joins-append, puts-append, wake-other}
-use Rattle.executive.proofs.Plans.Shared.{wake-length, inside, pooled, leaves-else}
+use Rattle.executive.proofs.Plans.Shared.{wake-length, inside, pooled, leaves-else, post-rested, gone-mailed}
+use Rattle.executive.proofs.messages.Kept.{mail-beside}
 
 module _ (t : Table) (w : WellFormedByPart t) (h : 0 < t .ready) (none : HoldsNone (headOf (line t) .0) (t .rest .subs)) where
   abbrev c : TaskNo
@@ -65,7 +67,7 @@ module _ (t : Table) (w : WellFormedByPart t) (h : 0 < t .ready) (none : HoldsNo
   asleep-lined : SubsOk ts₁ (t .rest .subs)
   asleep-lined = leaves-else t w h (asDormant e) refl (λ _. none)
 
-  stop-good : length rs ≤ placeOf (c .0) rs → Good (record { out = leaves asDormant; ins = waking (endWaiter t c); rest = t .rest }) t
+  stop-good : length rs ≤ placeOf (c .0) rs → Good (record { out = leaves asDormant; ins = waking (endWaiter t c); rest = withMail (c .0) noMail (t .rest) }) t
   unfolding puts
   stop-good n =
       let x : Woken Q (waking (endWaiter t c)) ts₁ rs 0 0 0 =
@@ -75,16 +77,17 @@ module _ (t : Table) (w : WellFormedByPart t) (h : 0 < t .ready) (none : HoldsNo
         joining = joined (waking (endWaiter t c)) ts₁ (x .joining);
         linked = up-links (x .linked);
         own = x .own;
-        rested = w .rested;
+        rested = post-rested _ _ _ (w .rested);
         lined = subs-else (waking (endWaiter t c)) ts₁ (x .joining) asleep-lined;
+        mailed = gone-mailed t w h (asDormant e) (t .rest) (w .mailed) (λ z. false-not-true z);
       }
 
   run-good : (i : ℕ) → placeOf (c .0) rs ≡ i → i < length rs → (q : Request) → getD rs i noRequest ≡ q
-      → Good (record { out = leaves asDormant; ins = waking (endWaiter t c) ++ (begins c q (t .rest .clock) ∷ waking (q .«start_waiter»)); rest = withRequests (removed i rs) (t .rest) }) t
+      → Good (record { out = leaves asDormant; ins = waking (endWaiter t c) ++ (begins c q (t .rest .clock) ∷ waking (q .«start_waiter»)); rest = withMail (c .0) noMail (withRequests (removed i rs) (t .rest)) }) t
   unfolding puts
   run-good i ei m q eq =
       let r : Runs (t .tasks) (c .0) = runs t w h in
-      let l : requests (withRequests (removed i rs) (t .rest)) ≡ removed i rs = line-pad noRequest 32 (removed i rs) in
+      let l : requests (withMail (c .0) noMail (withRequests (removed i rs) (t .rest))) ≡ removed i rs = line-pad noRequest 32 (removed i rs) in
       let o : eqb (c .0) (e .«end_waiter» .0) ≡ false = w .links .apart (c .0) (r .names .0) in
       let x : Woken Q (waking (endWaiter t c)) ts₁ rs 0 0 (c .0) = ender-in Q (λ k e. ready-own) ts₁ rs (endWaiter t c) 0 (c .0) retired asleep-own in
       let ts₂ : List Task = puts (waking (endWaiter t c)) ts₁ in
@@ -109,8 +112,9 @@ module _ (t : Table) (w : WellFormedByPart t) (h : 0 < t .ready) (none : HoldsNo
         joining = joined (waking (endWaiter t c) ++ js) ts₁ all;
         linked = rw (u, l) (up-links (v .linked));
         own = rw u (v .own);
-        rested = (pooled t w h) (removed i rs) (removed-neat (t .rest) (w .fit .neat) i (omega (arith, requests-length (t .rest) (w .fit .neat)))) (omega (arith, w .rested .priorities));
+        rested = post-rested _ _ _ (pooled t w h (removed i rs) (removed-neat (t .rest) (w .fit .neat) i (omega (arith, requests-length (t .rest) (w .fit .neat)))) (omega (arith, w .rested .priorities)));
         lined = subs-else (waking (endWaiter t c) ++ js) ts₁ all asleep-lined;
+        mailed = gone-mailed t w h (asDormant e) (withRequests (removed i rs) (t .rest)) (mail-beside (t .tasks) (t .rest) _ refl refl refl refl (w .mailed)) (λ z. false-not-true z);
       }
 
   pub terminate-good : Good (terminatePlan t) t
@@ -122,8 +126,8 @@ module _ (t : Table) (w : WellFormedByPart t) (h : 0 < t .ready) (none : HoldsNo
           (record {
             out = leaves asDormant;
             ins = waking (endWaiter t c) ++ (begins c (getD rs (placeOf (c .0) rs) noRequest) (t .rest .clock) ∷ waking (getD rs (placeOf (c .0) rs) noRequest .«start_waiter»));
-            rest = withRequests (removed (placeOf (c .0) rs) rs) (t .rest);
+            rest = withMail (c .0) noMail (withRequests (removed (placeOf (c .0) rs) rs) (t .rest));
           })
-          (record { out = leaves asDormant; ins = waking (endWaiter t c); rest = t .rest })) t
+          (record { out = leaves asDormant; ins = waking (endWaiter t c); rest = withMail (c .0) noMail (t .rest) })) t
       go true f = run-good (placeOf (c .0) rs) refl (ltb-true _ _ f) _ refl
       go false f = stop-good (ltb-false _ _ f)

@@ -34,6 +34,7 @@ use Rattle.executive.proofs.Plans.SubsKept.{joined, subs-else}
 use Rattle.executive.proofs.Plans.Rising.{Tells, Done, raisings-append, halfway, all-raised}
 use Rattle.executive.proofs.waking.Over.{over}
 use Rattle.executive.proofs.waking.Numbers.{woken, woken-counts}
+use Rattle.executive.proofs.messages.Kept.{mail-beside}
 use Rattle.executive.proofs.states.Laws.{counted, time-waits, mask-waits, mask-no-time, due-time}
 
 -- what an alarm leaves alone: anything but the flags and the alarms
@@ -175,6 +176,10 @@ tick-good t w m =
         neat = record { room = rw n (w .fit .neat .room); clear = rw (q, pl) (w .fit .neat .clear) };
       };
       lined = rw sb (subs-else js (t .tasks) (d .joining) (w .lined));
+      mailed = mail-beside (t .tasks) (t .rest) r cn
+          (advanced-alone (λ (r : Rest). r .messages) (λ r fs al. refl) (t .rest))
+          (advanced-alone (λ (r : Rest). r .sent) (λ r fs al. refl) (t .rest))
+          (advanced-alone (λ (r : Rest). r .mail) (λ r fs al. refl) (t .rest)) (w .mailed);
     }
   where
     below : (i : ℕ) → 0 < getD (advanced (t .rest) .alarms) i never .0 → i < 32

@@ -29,6 +29,8 @@ use Rattle.executive.proofs.Lists.Tests.{So-of-true, eqb-self, not-zero
 use Rattle.executive.proofs.Lists.Pad.{length-pad}
 use Rattle.executive.proofs.queue.ArraysAreLists.{queue-length, pool-length, take-le}
 use Rattle.executive.proofs.check.Levels.{levels-get, levels-make}
+use Rattle.executive.proofs.messages.Arrays.{messages-length}
+use Rattle.executive.proofs.messages.Kept.{MailOk, mail-messages}
 
 -- nothing in this state is due now, at the clock c with the flags fs
 abbrev pub StateOk : ℕ → ℕ → State → Type 0
@@ -87,6 +89,7 @@ pub record WellFormedByPart (t : Table) : Type 0 where
   pub rested : RestOk (t .rest)
   pub lit : t .levels ≡ levelsOf (view t)
   pub lined : SubsOk (t .tasks) (t .rest .subs)
+  pub mailed : MailOk (t .tasks) (t .rest)
 
 -- ---- one entry
 -- the blank entry is in order at any number
@@ -226,6 +229,16 @@ formed {t} w =
       };
       lit = levels-make t (w .queue .exactly) (n .priority) (w .levels);
       lined = record { sized = n .sizes .subs; each = sub-of t n (w .subprograms) };
+      mailed = record {
+        neat = record { room = n .sent; clear = w .messages .tidy };
+        places = n .sizes .mail;
+        names = n .letters;
+        sorted = w .messages .sorted;
+        unmet = w .messages .unmet;
+        senders = n .senders;
+        mail = n .mail;
+        emptied = w .emptied;
+      };
     }
 
 module _ (t : Table) (w : WellFormedByPart t) where
@@ -285,7 +298,16 @@ module _ (t : Table) (w : WellFormedByPart t) where
   pub well-formed : WellFormed t
   well-formed = record {
     numbers = record {
-      sizes = record { tasks = w .fit .all; queue = queue-length t (w .fit); alarms = w .rested .sized; pool = pool-length (t .rest) (w .rested .neat); subs = w .lined .sized; lines = λ m. line-places (sub m) (w .lined .each m .neat) };
+      sizes = record {
+        tasks = w .fit .all;
+        queue = queue-length t (w .fit);
+        alarms = w .rested .sized;
+        pool = pool-length (t .rest) (w .rested .neat);
+        subs = w .lined .sized;
+        lines = λ m. line-places (sub m) (w .lined .each m .neat);
+        messages = messages-length (t .rest) (w .mailed .neat);
+        mail = w .mailed .places;
+      };
       count = w .rested .count;
       granule = w .rested .granule;
       clock = w .rested .clocked;
@@ -300,6 +322,10 @@ module _ (t : Table) (w : WellFormedByPart t) where
       holders = holder-le;
       waiting = λ m. w .lined .each m .neat .room;
       inside = awaited-le;
+      sent = w .mailed .neat .room;
+      letters = w .mailed .names;
+      mail = w .mailed .mail;
+      senders = w .mailed .senders;
     };
     queue = record { exactly = w .queue; tidy = w .fit .tidy };
     times = record { tasks = λ k. w .own k .calm .0; alarms = w .rested .alarms };
@@ -308,6 +334,7 @@ module _ (t : Table) (w : WellFormedByPart t) where
     busy = idle-none ts p any-idle;
     waiters = record { starts = w .links .starts; ends = w .links .ends; others = w .links .others; apart = w .links .apart; single = w .links .single };
     dormant = λ k z. w .own k .zeros (dormant-kind _ z);
+    emptied = w .mailed .emptied;
     pool = w .rested .neat .clear;
     subprograms = record {
       busy = λ m. w .lined .each m .busy;
@@ -315,5 +342,6 @@ module _ (t : Table) (w : WellFormedByPart t) where
       lines = λ m _. w .lined .each m .waiters;
       tidy = λ m. w .lined .each m .neat .clear;
     };
+    messages = mail-messages ts (t .rest) (w .mailed);
     levels = levels-get t (w .queue) (λ k. w .own k .level) (w .lit);
   }

@@ -17,7 +17,7 @@ use Rattle.executive.specs.declared.decisions.How.the-variants.{Begun}
 use Rattle.executive.specs.declared.decisions.Change.the-variants as change
 use Rattle.executive.specs.Pool.{foundAt, placeOf}
 use Rattle.executive.specs.Places.{noRequest, taskAt}
-use Rattle.executive.specs.Decisions.{entrant, wakes, deed, terminateDeed}
+use Rattle.executive.specs.Decisions.{entrant, wakes, deedEmptying, terminateDeed}
 use Rattle.executive.proofs.pool.FoundAt.{found-is, none-is}
 
 module _ (ts : List Task) (pool : List Request) (n : ℕ) (c : TaskNo) (l : n ≤ length pool) where
@@ -25,7 +25,7 @@ module _ (ts : List Task) (pool : List Request) (n : ℕ) (c : TaskNo) (l : n �
   m = length-take-le n pool l
 
   pub ends-run : (i : ℕ) → foundAt (placeOf (c .0) (take n pool)) n ≡ At i
-      → deed leave.Sleeps ((wakes (taskAt ts (c .0) .«end_waiter») ++ (entrant c Begun ∷ [])) ++ wakes (getD pool i noRequest .«start_waiter»))
+      → deedEmptying c leave.Sleeps ((wakes (taskAt ts (c .0) .«end_waiter») ++ (entrant c Begun ∷ [])) ++ wakes (getD pool i noRequest .«start_waiter»))
       (getD pool i noRequest) (change.Taken i)
       ≡ terminateDeed ts (take n pool) c
   unfolding terminateDeed
@@ -37,7 +37,7 @@ module _ (ts : List Task) (pool : List Request) (n : ℕ) (c : TaskNo) (l : n �
       rw (x, y, g, append-assoc (wakes (taskAt ts (c .0) .«end_waiter»)) (entrant c Begun ∷ []) (wakes (getD pool i noRequest .«start_waiter»))) refl
 
   pub ends-none : foundAt (placeOf (c .0) (take n pool)) n ≡ Nothing
-      → deed leave.Sleeps (wakes (taskAt ts (c .0) .«end_waiter»)) noRequest change.Same ≡ terminateDeed ts (take n pool) c
+      → deedEmptying c leave.Sleeps (wakes (taskAt ts (c .0) .«end_waiter»)) noRequest change.Same ≡ terminateDeed ts (take n pool) c
   unfolding terminateDeed
   ends-none e =
       let y : ltb (placeOf (c .0) (take n pool)) (length (take n pool)) ≡ false = rw m (none-is (placeOf (c .0) (take n pool)) n e) in

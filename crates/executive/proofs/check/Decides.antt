@@ -7,10 +7,11 @@ use native.Mathlib.Omega.{arith}
 use borrow.Author.Tests.{eqb-true, eq-eqb}
 use Rattle.executive.specs.declared.Table.{Table}
 use Rattle.executive.specs.WellFormed.{Queue, WellFormed}
-use Rattle.executive.specs.Check.{numbersRight, orderRight, queueRight, timesRight, startedRight, masksRight, busyRight, waitersRight, dormantRight, poolRight, allButQueue, isWellFormed, Checked, Decided}
+use Rattle.executive.specs.Check.{numbersRight, orderRight, queueRight, timesRight, startedRight, masksRight, busyRight, waitersRight, dormantRight, poolRight, subsRight, allButQueue, isWellFormed, Checked, Decided}
 use Rattle.executive.proofs.Lists.Tests.{and-true, true-and}
-use Rattle.executive.proofs.check.RuleByRule.{Known, lined, numbers-get, numbers-make, queue-get, queue-make, times-get, times-make, started-get, started-make, masks-get, masks-make, busy-get, busy-make, waiters-get, waiters-make, dormant-get, dormant-make, pool-get, pool-make}
+use Rattle.executive.proofs.check.RuleByRule.{Known, lined, numbers-get, numbers-make, queue-get, queue-make, times-get, times-make, started-get, started-make, masks-get, masks-make, busy-get, busy-make, waiters-get, waiters-make, dormant-get, dormant-mail, dormant-make, pool-get, pool-make}
 use Rattle.executive.proofs.check.Subprograms.{subs-get, subs-make}
+use Rattle.executive.proofs.check.Messages.{messages-get, messages-make}
 use Rattle.executive.proofs.check.Levels.{levels-get, levels-make}
 
 module _ (t : Table) where
@@ -27,8 +28,9 @@ module _ (t : Table) where
       let f = and-true (masksRight ts r) _ (d .1) in
       let g = and-true (busyRight ts r) _ (f .1) in
       let h = and-true (waitersRight ts r) _ (g .1) in
-      let j = and-true (dormantRight ts) _ (h .1) in
+      let j = and-true (dormantRight ts r) _ (h .1) in
       let k = and-true (poolRight r) _ (j .1) in
+      let l = and-true (subsRight ts r) _ (k .1) in
       let w : Known t = numbers-get t (lined t (b .0)) (a .0) in
       let q : Queue t = queue-get t (w .range) (o .0) in
       record {
@@ -40,8 +42,10 @@ module _ (t : Table) where
         busy = busy-get t (g .0);
         waiters = waiters-get t w (h .0);
         dormant = dormant-get t (j .0);
+        emptied = dormant-mail t (w .range .sizes .mail) (j .0);
         pool = pool-get t (w .range .sizes .pool) (k .0);
-        subprograms = subs-get t (w .range) (k .1);
+        subprograms = subs-get t (w .range) (l .0);
+        messages = messages-get ts r (w .range .sizes .messages) (l .1);
         levels = levels-get t (q .exactly) (w .range .priority) (eqb-true _ _ (o .1));
       }
 
@@ -58,8 +62,10 @@ module _ (t : Table) where
       (true-and (masksRight ts r) _ (masks-make t (w .masks))
       (true-and (busyRight ts r) _ (busy-make t (w .busy))
       (true-and (waitersRight ts r) _ (waiters-make t (w .waiters))
-      (true-and (dormantRight ts) _ (dormant-make t (w .dormant))
-      (true-and (poolRight r) _ (pool-make t (w .numbers .sizes .pool) (w .pool)) (subs-make t (w .numbers) (w .subprograms))))))))))
+      (true-and (dormantRight ts r) _ (dormant-make t (w .dormant) (w .emptied))
+      (true-and (poolRight r) _ (pool-make t (w .numbers .sizes .pool) (w .pool))
+      (true-and (subsRight ts r) _ (subs-make t (w .numbers) (w .subprograms))
+      (messages-make ts r (r .count) (w .numbers .sizes .messages) (w .numbers .letters) (w .messages)))))))))))
 
   pub well-formed-iff : (isWellFormed t ≡ true) ↔ WellFormed t
   well-formed-iff = (formed, passes)

@@ -7,7 +7,7 @@ use mathlib.Core.List.{List, [], _∷_}
 use native.Mathlib.Omega.{arith}
 use native.Mathlib.Numerals.{add-one}
 use borrow.Author.Tests.{eqb-true, eq-eqb, ne-eqb}
-use lib.Dec.{eqb}
+use lib.Dec.{eqb, leb}
 use lib.ListN.{length, drop, getD}
 use Rattle.records.specs.declared.TaskNo.{TaskNo}
 use Rattle.executive.specs.declared.Task.{Task}
@@ -20,6 +20,11 @@ use Rattle.executive.specs.Pool.{requests}
 use Rattle.executive.specs.States.{ready, awaitStart, awaitEnd, isOf, is, isAs, isDormant, isReady}
 use Rattle.executive.specs.WellFormed.{startsOf, endsOf, runsOf}
 use Rattle.executive.specs.Check.{entryInRange, requestInRange, subInRange, isBlank, sizesRight, inBounds, numbersRight, standsIn, exactAt, alarmRight, taskTimely, timesRight, isStarted, startedRight, taskUnmet, masksRight, targetBusy, busyRight, waitersAt, namesOthers, waitersRight, dormantEntryRight, dormantRight, poolRight, subsRight, allButQueue, entryRight, requestFits, requestRight, isQuiet, isLone, askedRight, inPasses, Tallies}
+use Rattle.executive.specs.declared.Message.{Message}
+use Rattle.executive.specs.Numbers.{mostTasks, mostSent, highest}
+use Rattle.executive.specs.Messages.{letters}
+use Rattle.executive.specs.Check.{heldRight, messageInRange, isUntaken, lettersFall, messagesRight, lettersRight, sentRight}
+use Rattle.executive.proofs.check.Messages.{in-one-pass, mail-split, mail-join}
 use Rattle.executive.proofs.places.TaskAt.{at-place, at-no-place}
 use Rattle.executive.proofs.states.Laws.{ready-as}
 use Rattle.executive.proofs.Lists.Loops.{both, all-make}
@@ -139,15 +144,33 @@ module _ (ts : List Task) (r : Rest) where
   abbrev ps : List Request
   ps = requests r
 
+  abbrev ms : List Message
+  ms = letters r
+
+  mail-size : sizesRight ts r ≡ true → length (r .mail) ≡ mostTasks
+  mail-size z =
+      let a = and-true (eqb (length ts) mostTasks) _ z in
+      let b = and-true (eqb (length (r .alarms)) 32) _ (a .1) in
+      let d = and-true (eqb (length (r .pool)) 32) _ (b .1) in
+      let e = and-true (eqb (length (r .subs)) 8) _ (d .1) in
+      eqb-true _ _ (and-true (eqb (length (r .messages)) 32) _ (e .1) .1)
+
   there : sizesRight ts r ≡ true → inPasses ts r ≡ true → allButQueue ts r ≡ true
-  unfolding inPasses allButQueue numbersRight timesRight startedRight masksRight busyRight waitersRight dormantRight poolRight subsRight
+  unfolding inPasses allButQueue numbersRight timesRight startedRight masksRight busyRight waitersRight dormantRight poolRight subsRight messagesRight
   there z e =
       let b = and-true (inBounds n (r .granule) (r .clock) (r .queued)) _ e in
       let a = and-true (allOf (entryRight n c fs) ts) _ (b .1) in
       let d = and-true (allOf isBlank (drop n ts)) _ (a .1) in
       let f = and-true (allOf (alarmRight c) (r .alarms)) _ (d .1) in
       let u = and-true (askedRight ts n (r .queued) (r .pool)) _ (f .1) in
-      let v = and-true (allOf (subInRange n) (r .subs)) _ (u .1) in
+      let v0 = and-true (heldRight ts n (r .subs)) _ (u .1) in
+      let v = and-true (allOf (subInRange n) (r .subs)) _ (v0 .0) in
+      let x = and-true (sentRight ts n (r .sent) (r .messages)) _ (v0 .1) in
+      let x1 = and-true (leb (r .sent) mostSent) _ (x .0) in
+      let x2 = and-true (lettersRight ts n highest ms) _ (x1 .1) in
+      let y = and-true (allOf (messageInRange n) ms) _ (sym (in-one-pass ts n highest ms) ∙ x2 .0) in
+      let y1 = and-true (allOf (isUntaken ts) ms) _ (y .1) in
+      let ml = mail-split ts n (r .mail) (mail-size z) (x .1) in
       let q = and-true (allOf (requestRight ts n) ps) _ (u .0) in
       let w = and-true (upTo (waitersAt ts ps) n) _ (q .1) in
       let e1 = all-split (entryInRange n) _ ts (a .0) in
@@ -157,16 +180,18 @@ module _ (ts : List Task) (r : Rest) where
       let q1 = all-split (requestInRange n) _ ps (q .0) in
       let q2 = all-split namesOthers (targetBusy ts) ps (q1 .1) in
       true-and (numbersRight ts r) _
-      (true-and (sizesRight ts r) _ z (true-and (inBounds n (r .granule) (r .clock) (r .queued)) _ (b .0) (true-and (allOf (entryInRange n) ts) _ (e1 .0) (true-and (allOf isBlank (drop n ts)) _ (d .0) (true-and (allOf (requestInRange n) ps) _ (q1 .0) (v .0))))))
+      (true-and (sizesRight ts r) _ z (true-and (inBounds n (r .granule) (r .clock) (r .queued)) _ (b .0) (true-and (allOf (entryInRange n) ts) _ (e1 .0) (true-and (allOf isBlank (drop n ts)) _ (d .0) (true-and (allOf (requestInRange n) ps) _ (q1 .0) (true-and (allOf (subInRange n) (r .subs)) _ (v .0) (true-and (leb (r .sent) mostSent) _ (x1 .0) (true-and (allOf (messageInRange n) ms) _ (y .0) (ml .0)))))))))
       (true-and (timesRight ts r) _ (true-and (allOf (taskTimely c) ts) _ (e2 .0) (f .0))
       (true-and (startedRight ts r) _ (e3 .0)
       (true-and (masksRight ts r) _ (e4 .0)
       (true-and (busyRight ts r) _ (q2 .1)
       (true-and (waitersRight ts r) _ (true-and (upTo (waitersAt ts ps) n) _ (w .0) (q2 .0))
-      (true-and (dormantRight ts) _ (e4 .1) (true-and (poolRight r) _ (w .1) (v .1))))))))
+      (true-and (dormantRight ts r) _ (true-and (allOf dormantEntryRight ts) _ (e4 .1) (ml .1))
+      (true-and (poolRight r) _ (w .1)
+      (true-and (subsRight ts r) _ (v .1) (true-and (allOf (isUntaken ts) ms) _ (y1 .0) (true-and (lettersFall highest ms) _ (y1 .1) (x2 .1)))))))))))
 
   back : allButQueue ts r ≡ true → inPasses ts r ≡ true
-  unfolding inPasses allButQueue numbersRight timesRight startedRight masksRight busyRight waitersRight dormantRight poolRight subsRight
+  unfolding inPasses allButQueue numbersRight timesRight startedRight masksRight busyRight waitersRight dormantRight poolRight subsRight messagesRight
   back e =
       let a = and-true (numbersRight ts r) _ e in
       let d = and-true (timesRight ts r) _ (a .1) in
@@ -174,27 +199,40 @@ module _ (ts : List Task) (r : Rest) where
       let g = and-true (masksRight ts r) _ (f .1) in
       let h = and-true (busyRight ts r) _ (g .1) in
       let j = and-true (waitersRight ts r) _ (h .1) in
-      let k = and-true (dormantRight ts) _ (j .1) in
+      let k = and-true (dormantRight ts r) _ (j .1) in
+      let k1 = and-true (allOf dormantEntryRight ts) _ (k .0) in
       let l = and-true (poolRight r) _ (k .1) in
+      let l1 = and-true (subsRight ts r) _ (l .1) in
+      let m1 = and-true (allOf (isUntaken ts) ms) _ (l1 .1) in
+      let m2 = and-true (lettersFall highest ms) _ (m1 .1) in
       let n1 = and-true (sizesRight ts r) _ (a .0) in
       let n2 = and-true (inBounds n (r .granule) (r .clock) (r .queued)) _ (n1 .1) in
       let n3 = and-true (allOf (entryInRange n) ts) _ (n2 .1) in
       let n4 = and-true (allOf isBlank (drop n ts)) _ (n3 .1) in
       let n5 = and-true (allOf (requestInRange n) ps) _ (n4 .1) in
+      let n6 = and-true (allOf (subInRange n) (r .subs)) _ (n5 .1) in
+      let n7 = and-true (leb (r .sent) mostSent) _ (n6 .1) in
+      let n8 = and-true (allOf (messageInRange n) ms) _ (n7 .1) in
       let d1 = and-true (allOf (taskTimely c) ts) _ (d .0) in
       let j1 = and-true (upTo (waitersAt ts ps) n) _ (j .0) in
       true-and (inBounds n (r .granule) (r .clock) (r .queued)) _ (n2 .0)
-      (true-and (allOf (entryRight n c fs) ts) _ (all-join (entryInRange n) _ ts (n3 .0) (all-join (taskTimely c) _ ts (d1 .0) (all-join (isStarted c) _ ts (f .0) (all-join (taskUnmet fs) dormantEntryRight ts (g .0) (k .0)))))
+      (true-and (allOf (entryRight n c fs) ts) _ (all-join (entryInRange n) _ ts (n3 .0) (all-join (taskTimely c) _ ts (d1 .0) (all-join (isStarted c) _ ts (f .0) (all-join (taskUnmet fs) dormantEntryRight ts (g .0) (k1 .0)))))
       (true-and (allOf isBlank (drop n ts)) _ (n4 .0)
       (true-and (allOf (alarmRight c) (r .alarms)) _ (d1 .1)
       (true-and (askedRight ts n (r .queued) (r .pool)) _
       (true-and (allOf (requestRight ts n) ps) _ (all-join (requestInRange n) _ ps (n5 .0) (all-join namesOthers (targetBusy ts) ps (j1 .1) (h .0)))
       (true-and (upTo (waitersAt ts ps) n) _ (j1 .0) (l .0)))
-      (true-and (allOf (subInRange n) (r .subs)) _ (n5 .1) (l .1))))))
+      (true-and (heldRight ts n (r .subs)) _ (true-and (allOf (subInRange n) (r .subs)) _ (n6 .0) (l1 .0))
+      (true-and (sentRight ts n (r .sent) (r .messages)) _
+      (true-and (leb (r .sent) mostSent) _ (n7 .0)
+      (true-and (lettersRight ts n highest ms) _
+      (in-one-pass ts n highest ms ∙ true-and (allOf (messageInRange n) ms) _ (n8 .0) (true-and (allOf (isUntaken ts) ms) _ (m1 .0) (m2 .0))) (m2 .1)))
+      (mail-join ts n (r .mail) (n8 .1) (k1 .1))))))))
 
   pub in-passes : sizesRight ts r ≡ true → inPasses ts r ≡ allButQueue ts r
   in-passes z = same (inPasses ts r) (allButQueue ts r) (there z) back
 
   -- an answer that is right in passes is right, of arrays of the right sizes
-  pub sized : {b : Bool} → length ts ≡ 16 → length (r .alarms) ≡ 32 → length (r .pool) ≡ 32 → length (r .subs) ≡ 8 → b ≡ inPasses ts r → b ≡ allButQueue ts r
-  sized a d e g h = h ∙ in-passes (rw (eq-eqb _ _ a, eq-eqb _ _ d, eq-eqb _ _ e, eq-eqb _ _ g) refl)
+  pub sized : {b : Bool} → length ts ≡ 16 → length (r .alarms) ≡ 32 → length (r .pool) ≡ 32 → length (r .subs) ≡ 8 → length (r .messages) ≡ 32 → length (r .mail) ≡ 16
+      → b ≡ inPasses ts r → b ≡ allButQueue ts r
+  sized a d e g m l h = h ∙ in-passes (rw (eq-eqb _ _ a, eq-eqb _ _ d, eq-eqb _ _ e, eq-eqb _ _ g, eq-eqb _ _ m, eq-eqb _ _ l) refl)

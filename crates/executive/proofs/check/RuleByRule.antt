@@ -23,7 +23,7 @@ use Rattle.executive.specs.Places.{nobody, never, noTask, noRequest, tas
 use Rattle.executive.specs.Table.{line, items}
 use Rattle.executive.specs.Pool.{requests}
 use Rattle.executive.specs.Subprograms.{noSub, subAt}
-use Rattle.executive.specs.States.{dormant, awaitStart, awaitEnd, awaitSub, isOf, is, isDormant, timeOf, maskOf, awaitedOf, hasTime, hasMask, waitMode, isReady}
+use Rattle.executive.specs.States.{dormant, awaitStart, awaitEnd, awaitSub, isOf, is, isDormant, timeOf, maskOf, awaitedOf, hasTime, hasMask, waitMode, isReady, awaitMessage, stateKind}
 use Rattle.executive.specs.Flags.{met}
 use Rattle.executive.specs.WellFormed.{InRange, Line, Queue, Stored, Timely, Times, Unmet, Waiters, Zeros, startsOf, endsOf, runsOf, dormantTarget}
 use Rattle.executive.specs.Check.{awaitsInRange, entryInRange, requestInRange, subInRange, isBlank, sizesRight, inBounds, numbersRight, isTask, isNobody, falls, standsIn, exactAt, lineRight, orderRight, queueRight, isStored, isTimely, alarmRight, taskTimely, timesRight, isStarted, startedRight, isUnmet, taskUnmet, masksRight, targetBusy, busyRight, waitersAt, namesOthers, waitersRight, isZero, dormantEntryRight, dormantRight, isFree, poolRight}
@@ -31,6 +31,9 @@ use Rattle.executive.proofs.states.Laws.{dormant-named, dormant-kind}
 use Rattle.executive.proofs.places.TaskAt.{at-none}
 use Rattle.executive.proofs.Lists.Loops.{all-get, all-make, every-get, every-make}
 use Rattle.executive.proofs.Lists.Tests.{and-true, true-and, one-none, none-one, not-of, of-not, leb-none, in-reach, sum-none, none-all}
+use Rattle.executive.specs.Messages.{noMail, letters, mailAt}
+use Rattle.executive.specs.Check.{messageInRange}
+use Rattle.executive.proofs.check.Messages.{astray-get, astray-make, senders-get, senders-make, emptied-get, emptied-make}
 use Rattle.executive.proofs.check.Blanks.{blank-pad, pad-blank, nobody-is, free-is, zero-is, is-zero, tasks-get, tasks-make, past-get, past-make}
 use Rattle.executive.proofs.check.Descent.{falls-tasks, falls-desc, desc-falls, low, all-tasks}
 
@@ -65,7 +68,7 @@ module _ (n : ℕ) where
   blank-in-range : entryInRange n noTask ≡ true
   blank-in-range = rw (le-leb 0 n (omega arith)) refl
 
-  tail-of : (e : Task) → entryInRange n e ≡ true → (leb (e .«end_waiter» .0) n and awaitsInRange (e .state)) ≡ true
+  tail-of : (e : Task) → entryInRange n e ≡ true → (leb (e .«end_waiter» .0) n and awaitsInRange n (e .state)) ≡ true
   tail-of e h = and-true (leb (e .priority) highest) _ (and-true (leb (e .own) highest) _ h .1) .1
 
   waiter-of : (e : Task) → entryInRange n e ≡ true → e .«end_waiter» .0 ≤ n
@@ -73,6 +76,13 @@ module _ (n : ℕ) where
 
   awaited-of : (e : Task) → entryInRange n e ≡ true → isOf awaitSub (e .state) ≡ true → awaitedOf (e .state) ≤ lastSub
   awaited-of e h s = leb-true _ _ (rw s at (and-true (leb (e .«end_waiter» .0) n) _ (tail-of e h) .1))
+
+  sender-of : (e : Task) → entryInRange n e ≡ true → isOf awaitMessage (e .state) ≡ true → awaitedOf (e .state) ≤ n
+  sender-of e h s = go (isOf awaitSub (e .state)) refl (rw s at (and-true (leb (e .«end_waiter» .0) n) _ (tail-of e h) .1))
+    where
+      go : (b : Bool) → isOf awaitSub (e .state) ≡ b → cond b (leb (awaitedOf (e .state)) lastSub) (leb (awaitedOf (e .state)) n) ≡ true → awaitedOf (e .state) ≤ n
+      go true f z = absurd (omega (arith, eqb-true awaitSub (stateKind (e .state)) f, eqb-true awaitMessage (stateKind (e .state)) s))
+      go false f z = leb-true _ _ z
 
   -- a subprogram: the size of its line, its holder, how many wait; those of a free one
   sub-of : (s : Sub) → subInRange n s ≡ true → (length (s .line) ≡ mostTasks) × (s .holder .0 ≤ n) × (s .waiting ≤ mostTasks)
@@ -112,12 +122,13 @@ module _ (n : ℕ) where
   far : (k m : ℕ) → n < k → m ≤ n → one (eqb k m) ≡ 0
   far k m h l = ap one (ne-eqb k m (λ e. omega arith))
 
-awaits-make : (s : State) → (isOf awaitSub s ≡ true → awaitedOf s ≤ lastSub) → awaitsInRange s ≡ true
-awaits-make s h = go (isOf awaitSub s) h
+awaits-make : (n : ℕ) (s : State) → (isOf awaitSub s ≡ true → awaitedOf s ≤ lastSub) → (isOf awaitMessage s ≡ true → awaitedOf s ≤ n) → awaitsInRange n s ≡ true
+awaits-make n s h g = go (isOf awaitSub s) (isOf awaitMessage s) h g
   where
-    go : (b : Bool) → (b ≡ true → awaitedOf s ≤ lastSub) → cond b (leb (awaitedOf s) lastSub) true ≡ true
-    go true f = le-leb _ _ (f refl)
-    go false f = refl
+    go : (b c : Bool) → (b ≡ true → awaitedOf s ≤ lastSub) → (c ≡ true → awaitedOf s ≤ n) → cond b (leb (awaitedOf s) lastSub) (cond c (leb (awaitedOf s) n) true) ≡ true
+    go true c f g = le-leb _ _ (f refl)
+    go false true f g = le-leb _ _ (g refl)
+    go false false f g = refl
 
 -- what is known of the numbers, as the later rules use it
 pub record Known (t : Table) : Type 0 where
@@ -150,12 +161,17 @@ module _ (t : Table) where
       let p = and-true (allOf isBlank (drop n (t .tasks))) _ (m .1) in
       let q1 = and-true (allOf (requestInRange n) (requests (t .rest))) _ (p .1) in
       let s3 = and-true (eqb (length (t .rest .pool)) 32) _ (s2 .1) in
+      let s4 = and-true (eqb (length (t .rest .subs)) 8) _ (s3 .1) in
+      let s5 = and-true (eqb (length (t .rest .messages)) 32) _ (s4 .1) in
+      let q2 = and-true (allOf (subInRange n) (t .rest .subs)) _ (q1 .1) in
+      let q3 = and-true (leb (t .rest .sent) 32) _ (q2 .1) in
+      let q4 = and-true (allOf (messageInRange n) (letters (t .rest))) _ (q3 .1) in
       let w = bounds-get n (t .rest .granule) (t .rest .clock) (t .rest .queued) (b .0) in
       let h : (k : ℕ) → entryInRange n (taskAt (t .tasks) k) ≡ true = tasks-get (entryInRange n) (t .tasks) (blank-in-range n) (m .0) in
-      let g : (k : ℕ) → subInRange n (subAt (t .rest) k) ≡ true = every-get (subInRange n) noSub (t .rest .subs) (free-in-range n) (q1 .1) in
+      let g : (k : ℕ) → subInRange n (subAt (t .rest) k) ≡ true = every-get (subInRange n) noSub (t .rest .subs) (free-in-range n) (q2 .0) in
       record {
         range = record {
-          sizes = record { tasks = eqb-true _ _ (s1 .0); queue = q .size; alarms = eqb-true _ _ (s2 .0); pool = eqb-true _ _ (s3 .0); subs = eqb-true _ _ (s3 .1); lines = λ k. sub-of n (subAt (t .rest) k) (g k) .0 };
+          sizes = record { tasks = eqb-true _ _ (s1 .0); queue = q .size; alarms = eqb-true _ _ (s2 .0); pool = eqb-true _ _ (s3 .0); subs = eqb-true _ _ (s4 .0); messages = eqb-true _ _ (s5 .0); mail = eqb-true _ _ (s5 .1); lines = λ k. sub-of n (subAt (t .rest) k) (g k) .0 };
           count = w .count;
           granule = w .granule;
           clock = w .clock;
@@ -170,6 +186,10 @@ module _ (t : Table) where
           holders = λ k. sub-of n (subAt (t .rest) k) (g k) .1;
           waiting = λ k. sub-of n (subAt (t .rest) k) (g k) .2;
           inside = λ k. awaited-of n (taskAt (t .tasks) k) (h k);
+          sent = leb-true _ _ (q3 .0);
+          letters = astray-get n (letters (t .rest)) (q4 .0);
+          mail = senders-get n (t .rest .mail) (q4 .1);
+          senders = λ k. sender-of n (taskAt (t .tasks) k) (h k);
         };
         entries = m .0;
         asked = q1 .0;
@@ -180,20 +200,23 @@ module _ (t : Table) where
   numbers-make w =
       let n = t .rest .count in
       true-and (sizesRight (t .tasks) (t .rest)) _
-      (rw (eq-eqb (length (t .tasks)) 16 (w .sizes .tasks), eq-eqb (length (t .rest .alarms)) 32 (w .sizes .alarms), eq-eqb (length (t .rest .pool)) 32 (w .sizes .pool), eq-eqb (length (t .rest .subs)) 8 (w .sizes .subs)) refl)
+      (rw (eq-eqb (length (t .tasks)) 16 (w .sizes .tasks), eq-eqb (length (t .rest .alarms)) 32 (w .sizes .alarms), eq-eqb (length (t .rest .pool)) 32 (w .sizes .pool), eq-eqb (length (t .rest .subs)) 8 (w .sizes .subs), eq-eqb (length (t .rest .messages)) 32 (w .sizes .messages), eq-eqb (length (t .rest .mail)) 16 (w .sizes .mail)) refl)
       (true-and (inBounds n (t .rest .granule) (t .rest .clock) (t .rest .queued)) _
       (bounds-make n (t .rest .granule) (t .rest .clock) (t .rest .queued) (record { count = w .count; granule = w .granule; clock = w .clock; queued = w .queued }))
       (true-and (allOf (entryInRange n) (t .tasks)) _
       (tasks-make (entryInRange n) (t .tasks) (λ k.
       true-and (leb (taskAt (t .tasks) k .own) highest) _ (le-leb _ _ (w .own k))
       (true-and (leb (taskAt (t .tasks) k .priority) highest) _ (le-leb _ _ (w .priority k))
-      (true-and (leb (taskAt (t .tasks) k .«end_waiter» .0) n) _ (le-leb _ _ (w .waiter k)) (awaits-make (taskAt (t .tasks) k .state) (w .inside k))))))
+      (true-and (leb (taskAt (t .tasks) k .«end_waiter» .0) n) _ (le-leb _ _ (w .waiter k)) (awaits-make n (taskAt (t .tasks) k .state) (w .inside k) (w .senders k))))))
       (true-and (allOf isBlank (drop n (t .tasks))) _ (past-make (t .tasks) n (w .beyond))
       (true-and (allOf (requestInRange n) (requests (t .rest))) _
       (none-all (requestInRange n) (λ (r : Request). one (ltb highest (r .priority))) (λ (r : Request). one (ltb n (r .target .0)) + one (ltb n (r .«start_waiter» .0)) + one (ltb n (r .«end_waiter» .0))) (ranged n) (requests (t .rest)) (w .priorities) (w .names))
+      (true-and (allOf (subInRange n) (t .rest .subs)) _
       (every-make (subInRange n) noSub (t .rest .subs) (λ k.
       true-and (eqb (length (subAt (t .rest) k .line)) 16) _ (eq-eqb _ _ (w .sizes .lines k))
-      (true-and (leb (subAt (t .rest) k .holder .0) n) _ (le-leb _ _ (w .holders k)) (le-leb _ _ (w .waiting k)))))))))
+      (true-and (leb (subAt (t .rest) k .holder .0) n) _ (le-leb _ _ (w .holders k)) (le-leb _ _ (w .waiting k)))))
+      (true-and (leb (t .rest .sent) 32) _ (le-leb _ _ (w .sent))
+      (true-and (allOf (messageInRange n) (letters (t .rest))) _ (astray-make n (letters (t .rest)) (w .letters)) (senders-make n (t .rest .mail) (w .mail)))))))))
 
 -- ---- the ready queue
 module _ (ts : List Task) where
@@ -489,14 +512,22 @@ sleeps-make e h = go (isDormant (e .state)) h
     go false f = refl
 
 module _ (t : Table) where
-  pub dormant-get : dormantRight (t .tasks) ≡ true → (k : ℕ) → taskAt (t .tasks) k .state ≡ Dormant → Zeros (taskAt (t .tasks) k)
+  pub dormant-get : dormantRight (t .tasks) (t .rest) ≡ true → (k : ℕ) → taskAt (t .tasks) k .state ≡ Dormant → Zeros (taskAt (t .tasks) k)
   unfolding dormantRight
-  dormant-get e k z = sleeps-get (taskAt (t .tasks) k) (tasks-get dormantEntryRight (t .tasks) refl e k) (dormant-kind _ z)
+  dormant-get e k z = sleeps-get (taskAt (t .tasks) k) (tasks-get dormantEntryRight (t .tasks) refl (and-true (allOf dormantEntryRight (t .tasks)) _ e .0) k) (dormant-kind _ z)
+
+  -- and its mail
+  pub dormant-mail : length (t .rest .mail) ≡ 16 → dormantRight (t .tasks) (t .rest) ≡ true
+      → (k : ℕ) → taskAt (t .tasks) k .state ≡ Dormant → mailAt (t .rest .mail) k ≡ noMail
+  unfolding dormantRight
+  dormant-mail l e = emptied-get (t .tasks) (t .rest .mail) l (and-true (allOf dormantEntryRight (t .tasks)) _ e .1)
 
   pub dormant-make : ((k : ℕ) → taskAt (t .tasks) k .state ≡ Dormant → Zeros (taskAt (t .tasks) k))
-      → dormantRight (t .tasks) ≡ true
+      → ((k : ℕ) → taskAt (t .tasks) k .state ≡ Dormant → mailAt (t .rest .mail) k ≡ noMail) → dormantRight (t .tasks) (t .rest) ≡ true
   unfolding dormantRight
-  dormant-make w = tasks-make dormantEntryRight (t .tasks) (λ k. sleeps-make (taskAt (t .tasks) k) (λ z. w k (dormant-named _ z)))
+  dormant-make w m =
+      true-and (allOf dormantEntryRight (t .tasks)) _
+      (tasks-make dormantEntryRight (t .tasks) (λ k. sleeps-make (taskAt (t .tasks) k) (λ z. w k (dormant-named _ z)))) (emptied-make (t .tasks) (t .rest .mail) m)
 
   -- ---- the pool's free places
   module _ (l : length (t .rest .pool) ≡ 32) where

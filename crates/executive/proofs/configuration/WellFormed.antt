@@ -15,10 +15,11 @@ use Rattle.executive.specs.Lists.{one, pad, sumOf}
 use Rattle.executive.specs.Queue.{count}
 use Rattle.executive.specs.Places.{nobody, never, noTask, Names, taskAt, putAt}
 use Rattle.executive.specs.Table.{items, levelsOf, litInFlight, stays, Join, Plan, FindsRoom, depart, apply, begin, enterAllInFlight, applyInFlight}
-use Rattle.executive.specs.States.{dormant, ready, awaitStart, awaitEnd, is, isReady, waitsFor}
+use Rattle.executive.specs.States.{dormant, ready, awaitStart, awaitEnd, awaitMessage, awaitedOf, isOf, is, isReady, waitsFor}
 use Rattle.executive.specs.Plans.{asks, begins}
 use Rattle.executive.specs.WellFormed.{WellFormed, runsOf, Line}
 use Rattle.executive.specs.Subprograms.{noSub}
+use Rattle.executive.specs.Messages.{noMail, mailAt}
 use Rattle.executive.specs.Configuration.{granuleIn, ownIn, markIn, tasksIn, isConfiguration, blankRest, dormantAt, sleepers, dormantTable, markedStart, starters, freshTable, freshOf, zeroTable, madeBy}
 use Rattle.executive.specs.Promises.FreshLaw.{noConfiguration}
 use Rattle.executive.specs.Promises.Demands.{Dispatched}
@@ -34,6 +35,7 @@ use Rattle.executive.proofs.Plans.WorkingForm.{EntryOk, blank-own, busy
 use Rattle.executive.proofs.Plans.GoodIsKept.{puts, Good, GoodOutcome, plan-in-flight, apply-kept}
 use Rattle.executive.proofs.Plans.SubsKept.{joined, subs-else}
 use Rattle.executive.proofs.Plans.Rising.{Done}
+use Rattle.executive.proofs.messages.Kept.{MailOk}
 use Rattle.executive.proofs.configuration.Loops.{dormant-fit}
 use Rattle.executive.proofs.configuration.Shape.{Configured, configured}
 
@@ -100,6 +102,23 @@ module _ (s : List ℕ) (n : ℕ) where
     });
   }
 
+  asleep-mailed : (g : ℕ) → MailOk asleep (blankRest n g)
+  unfolding pad sumOf mailAt
+  asleep-mailed g = record {
+    neat = record { room = zero-le; clear = refl };
+    places = refl;
+    names = refl;
+    sorted = tt;
+    unmet = λ k _. refl;
+    senders = λ k. any-asleep (λ e. isOf awaitMessage (e .state) ≡ true → awaitedOf (e .state) ≤ n) (λ _ _. zero-le) k;
+    mail = λ k. rw (no-mail k) zero-le;
+    emptied = λ k _. no-mail k;
+  }
+    where
+      no-mail : (k : ℕ) → mailAt (pad 16 noMail []) k ≡ noMail
+      no-mail zero = refl
+      no-mail (suc i) = pad-at noMail 16 [] i
+
   asleep-own : ((k : ℕ) → 0 < k → k ≤ n → ownIn s k ≤ 15) → (k : ℕ) → EntryOk 0 0 n k (taskAt asleep k)
   asleep-own h = each-asleep (EntryOk 0 0 n) (λ k g l. record {
     calm = (false-not-true, false-not-true);
@@ -132,6 +151,7 @@ dormant-formed s b c = record {
   rested = blank-rested (tasksIn s) (granuleIn s) (c .some) (c .few) (c .granule) (b 1);
   lit = refl;
   lined = asleep-lined s (tasksIn s);
+  mailed = asleep-mailed s (tasksIn s) (granuleIn s);
 }
 
 -- ---- the starts: from number k on, the tasks are still dormant
@@ -195,6 +215,7 @@ starts-good s b c =
       own = d .own;
       rested = f .rested;
       lined = subs-else (starters s (tasksIn s) 1) (dormantTable s .tasks) (d .joining) (f .lined);
+      mailed = f .mailed;
     }
 
 pub starts-kept : (s : List ℕ) → Bytes s → isConfiguration s ≡ true → GoodOutcome (startsPlan s) (dormantTable s)

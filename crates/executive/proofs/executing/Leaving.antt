@@ -51,6 +51,9 @@ unaltered (change.Clock i) q t e = false-not-true (sym e)
 unaltered (change.Held m k) q t e = false-not-true (sym e)
 unaltered (change.Lined m k i) q t e = false-not-true (sym e)
 unaltered (change.HandedOn m) q t e = false-not-true (sym e)
+unaltered (change.Posted m i) q t e = false-not-true (sym e)
+unaltered (change.Delivered k x) q t e = false-not-true (sym e)
+unaltered (change.HandedOut i) q t e = false-not-true (sym e)
 
 -- a change that can be made keeps the requests in order
 pub changed-neat : (ch : Change) (q : Request) (r : Rest) → PoolInOrder r → Able ch r → PoolInOrder (changed ch q r)
@@ -66,6 +69,9 @@ changed-neat (change.Clock i) q r f a =
 changed-neat (change.Held m k) q r f a = record { room = f .room; clear = f .clear }
 changed-neat (change.Lined m k i) q r f a = record { room = f .room; clear = f .clear }
 changed-neat (change.HandedOn m) q r f a = record { room = f .room; clear = f .clear }
+changed-neat (change.Posted m i) q r f a = record { room = f .room; clear = f .clear }
+changed-neat (change.Delivered k x) q r f a = record { room = f .room; clear = f .clear }
+changed-neat (change.HandedOut i) q r f a = record { room = f .room; clear = f .clear }
 
 -- the caller leaves, the rest changes, and all enter, each with the word on the way: that is the plan, which says the
 -- word at its end

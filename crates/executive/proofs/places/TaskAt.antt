@@ -40,14 +40,14 @@ place-low (suc i) = go (ltb i 16) refl
 
 -- what lies at a number's place of sixteen, and what is put there
 module _ {A : Type 0} (xs : List A) (l : length xs ≡ 16) (i : ℕ) where
-  read-place : (d : A) → getD xs i d ≡ getD xs (cond (ltb i 16) i 16) d
+  pub read-place : (d : A) → getD xs i d ≡ getD xs (cond (ltb i 16) i 16) d
   read-place d = go (ltb i 16) refl
     where
       go : (b : Bool) → ltb i 16 ≡ b → getD xs i d ≡ getD xs (cond b i 16) d
       go true h = refl
       go false h = List·getD-eq-default xs d {n = i} (omega (arith, ltb-false i 16 h)) ∙ sym (List·getD-eq-default xs d {n = 16} (omega arith))
 
-  set-place : (x : A) → set xs i x ≡ set xs (cond (ltb i 16) i 16) x
+  pub set-place : (x : A) → set xs i x ≡ set xs (cond (ltb i 16) i 16) x
   set-place x = go (ltb i 16) refl
     where
       go : (b : Bool) → ltb i 16 ≡ b → set xs i x ≡ set xs (cond b i 16) x

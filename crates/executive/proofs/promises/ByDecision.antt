@@ -12,6 +12,7 @@ use Rattle.executive.specs.declared.decisions.Decision.{Decision}
 use Rattle.executive.specs.Table.{Plan, apply, applyInFlight}
 use Rattle.executive.specs.Plans.{caller}
 use Rattle.executive.specs.Check.{queueRight}
+use Rattle.executive.specs.Messages.{noMail, withMail}
 use Rattle.executive.specs.Decisions.{outFor, joinsFor, named, changed, meant}
 use Rattle.executive.specs.Sheet.{sheet, ruleOf, planOf, marksOf}
 use Rattle.executive.specs.Refusals.{callIn}
@@ -59,7 +60,8 @@ module _ (t u : Table) (a : AlikeButQueue t u) (c : Call) where
   same-meaning = λ i. record {
     out = outFor (sheet (a .tasks i) (a .rest i) (a .calls i) c .deed .leave);
     ins = joinsFor (sheet (a .tasks i) (a .rest i) (a .calls i) c .deed .request) (a .rest i .clock) (named (sheet (a .tasks i) (a .rest i) (a .calls i) c .deed .entrants));
-    rest = changed (sheet (a .tasks i) (a .rest i) (a .calls i) c .deed .change) (sheet (a .tasks i) (a .rest i) (a .calls i) c .deed .request) (a .rest i);
+    rest = withMail (sheet (a .tasks i) (a .rest i) (a .calls i) c .deed .empties .0) noMail
+        (changed (sheet (a .tasks i) (a .rest i) (a .calls i) c .deed .change) (sheet (a .tasks i) (a .rest i) (a .calls i) c .deed .request) (a .rest i));
   }
 
   -- a plan is what its deed means

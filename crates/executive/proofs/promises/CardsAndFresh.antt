@@ -14,8 +14,10 @@ use Rattle.executive.specs.Flags.{isSet}
 use Rattle.executive.specs.Plans.{waking, terminatePlan, restartPlan, pausePlan, cancelPausePlan, priorityOf, waitOf, argumentOf, startNowPlan, queueRequestPlan, startIfDormantPlan, requestOf, startOrQueuePlan, passing, raisings, putByTime, byTime, timed, setPlan, resetPlan, flagPlan, waitPlan, alarmPlan, tickPlan}
 use Rattle.executive.specs.Sheet.{planOf, marksOf}
 use Rattle.executive.specs.Subprograms.{holdsAnyOf}
-use Rattle.executive.specs.Refusals.{nobodyActive, badBody, holdsIt, holdsNot, holdsAny, namesCaller, alarmRunning, poolFull, endsTime, refusals}
+use Rattle.executive.specs.Refusals.{nobodyActive, badBody, holdsIt, holdsNot, holdsAny, namesCaller, alarmRunning, poolFull, mailFull, endsTime, refusals}
 use Rattle.executive.specs.Step.{accepted, refused, stepOf}
+use Rattle.executive.specs.Messages.{mailAt}
+use Rattle.executive.specs.Check.{emptiedAt, messagesRight, lettersFall}
 use Rattle.executive.specs.Check.{allButQueue, numbersRight, falls, exactAt, queueRight, timesRight, startedRight, masksRight, busyRight, waitersAt, waitersRight, dormantRight, poolRight, subsFrom, subsRight, isWellFormed}
 use Rattle.executive.specs.Configuration.{tasksFrom, tasksIn, configurationIn, taskRight, isConfiguration, sleepers, dormantTable, markedStart, starters, freshTable, freshOf}
 use Rattle.executive.specs.Promises.Demands.{after}
@@ -29,7 +31,7 @@ use Rattle.executive.proofs.configuration.SaidOut.{said-out}
 use Rattle.executive.proofs.configuration.WellFormed.{fresh-formed, fresh-room, fresh-clock, fresh-flags, fresh-made, fresh-refused, fresh-dispatched}
 
 pub cards : Cards
-unfolding behind pad taskAt putAt enterAt departed entered depart enterInFlight enterAllInFlight applyInFlight interval aimAt placeOf isSet each rung advanced waking terminatePlan restartPlan pausePlan cancelPausePlan priorityOf waitOf argumentOf startNowPlan queueRequestPlan startIfDormantPlan requestOf startOrQueuePlan setPlan resetPlan flagPlan waitPlan alarmPlan tickPlan upTo allOf sumOf numbersRight falls exactAt queueRight timesRight startedRight masksRight busyRight waitersAt waitersRight dormantRight poolRight subsFrom subsRight allButQueue isWellFormed kindOf readAs readOf planOf nobodyActive badBody holdsAnyOf holdsIt holdsNot holdsAny namesCaller alarmRunning poolFull endsTime refusals firstOf marksOf accepted refused stepOf tasksFrom tasksIn configurationIn taskRight isConfiguration sleepers dormantTable markedStart starters freshTable freshOf after along passing raisings putByTime byTime timed items levelsOf
+unfolding behind pad taskAt putAt enterAt departed entered depart enterInFlight enterAllInFlight applyInFlight interval aimAt placeOf isSet each rung advanced waking terminatePlan restartPlan pausePlan cancelPausePlan priorityOf waitOf argumentOf startNowPlan queueRequestPlan startIfDormantPlan requestOf startOrQueuePlan setPlan resetPlan flagPlan waitPlan alarmPlan tickPlan upTo allOf sumOf numbersRight falls exactAt queueRight timesRight startedRight masksRight busyRight waitersAt waitersRight dormantRight poolRight subsFrom subsRight allButQueue isWellFormed kindOf readAs readOf planOf nobodyActive badBody holdsAnyOf holdsIt holdsNot holdsAny namesCaller alarmRunning poolFull mailFull endsTime refusals firstOf marksOf accepted refused stepOf tasksFrom tasksIn configurationIn taskRight isConfiguration sleepers dormantTable markedStart starters freshTable freshOf after along passing raisings putByTime byTime timed items levelsOf emptiedAt mailAt messagesRight lettersFall
 cards = record {
   formed = (
     well-formed-iff (one 1) .0 refl,

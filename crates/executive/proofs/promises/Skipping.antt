@@ -27,10 +27,12 @@ use Rattle.executive.specs.Entries.{dueAt}
 use Rattle.executive.specs.Clock.{interval, missed, nextOnGrid, skipsMissed, aimAt, skippedOf, rung, advanced}
 use Rattle.executive.specs.Plans.{caller, endWaiter, waking, restartPlan, terminatePlan, pausePlan, cancelPausePlan, priorityOf, waitOf, argumentOf, startNowPlan, queueRequestPlan, startIfDormantPlan, requestOf, startOrQueuePlan, passing, raisings, putByTime, byTime, timed, setPlan, resetPlan, flagPlan, waitPlan, alarmPlan, tickPlan}
 use Rattle.executive.specs.WellFormed.{WellFormed}
+use Rattle.executive.specs.Messages.{mailAt}
+use Rattle.executive.specs.Check.{emptiedAt, messagesRight, lettersFall}
 use Rattle.executive.specs.Check.{isWellFormed, allButQueue, numbersRight, falls, exactAt, queueRight, timesRight, startedRight, masksRight, busyRight, waitersAt, waitersRight, dormantRight, poolRight, subsFrom, subsRight}
 use Rattle.executive.specs.Sheet.{planOf, marksOf, marks}
 use Rattle.executive.specs.Subprograms.{holdsAnyOf}
-use Rattle.executive.specs.Refusals.{nobodyActive, badBody, holdsIt, holdsNot, holdsAny, namesCaller, alarmRunning, poolFull, endsTime, refusals, callIn}
+use Rattle.executive.specs.Refusals.{nobodyActive, badBody, holdsIt, holdsNot, holdsAny, namesCaller, alarmRunning, poolFull, mailFull, endsTime, refusals, callIn}
 use Rattle.executive.specs.Step.{accepted, refused, outcomeOf, stepOf, noTable, answerOf, hasV}
 use Rattle.executive.specs.Promises.Demands.{planOfRecord, after}
 use Rattle.executive.specs.Promises.Skipping.{NextOnGrid, Skip, DueNext, Skips, Skipping}
@@ -128,7 +130,7 @@ module _ (t : Table) (p n : ℕ) (w : WellFormed t) (h : 0 < t .ready) (f : hold
   all-bytes (suc (suc (suc i))) = omega arith
 
   clear : Clear t (call.Restart p n)
-  unfolding nobodyActive badBody holdsIt holdsNot holdsAny namesCaller poolFull endsTime
+  unfolding nobodyActive badBody holdsIt holdsNot holdsAny namesCaller poolFull mailFull endsTime
   clear = record {
     active = ne-eqb (t .ready) 0 (omega arith);
     body = ne-eqb (p / 64 % 4) 3 (omega (arith, s .bits));
@@ -137,11 +139,12 @@ module _ (t : Table) (p n : ℕ) (w : WellFormed t) (h : 0 < t .ready) (f : hold
     holding = f;
     another = refl;
     room = refl;
+    mail = refl;
     time = refl;
   }
 
   allowed : firstOf (refusals t bytes) ≡ 0
-  unfolding refusals firstOf readOf readAs kindOf nobodyActive badBody holdsIt holdsNot holdsAny namesCaller alarmRunning poolFull endsTime
+  unfolding refusals firstOf readOf readAs kindOf nobodyActive badBody holdsIt holdsNot holdsAny namesCaller alarmRunning poolFull mailFull endsTime
   allowed = rw (well-formed-iff t .1 w, clear .active, clear .body, f) refl
 
   planOfCall : planOfRecord t bytes ≡ restartPlan t p n
@@ -220,7 +223,7 @@ elsewhere t s z =
     marks-skip t s (number-is t (firstOf (refusals t s)) (callIn s) ∙ o .0) (o .1)
 
 pub skipping : Skipping
-unfolding tasksFrom tasksIn configurationIn kindOf readAs readOf behind pad taskAt putAt enterAt departed entered depart enterInFlight enterAllInFlight applyInFlight interval aimAt placeOf isSet each rung advanced waking terminatePlan restartPlan pausePlan cancelPausePlan priorityOf waitOf argumentOf startNowPlan queueRequestPlan startIfDormantPlan requestOf startOrQueuePlan setPlan resetPlan flagPlan waitPlan alarmPlan tickPlan upTo allOf sumOf numbersRight falls exactAt queueRight timesRight startedRight masksRight busyRight waitersAt waitersRight dormantRight poolRight subsFrom subsRight allButQueue isWellFormed planOf nobodyActive badBody holdsAnyOf holdsIt holdsNot holdsAny namesCaller alarmRunning poolFull endsTime refusals firstOf marksOf accepted refused stepOf taskRight isConfiguration sleepers dormantTable markedStart starters freshTable freshOf after missed nextOnGrid skippedOf passing raisings putByTime byTime timed items levelsOf
+unfolding tasksFrom tasksIn configurationIn kindOf readAs readOf behind pad taskAt putAt enterAt departed entered depart enterInFlight enterAllInFlight applyInFlight interval aimAt placeOf isSet each rung advanced waking terminatePlan restartPlan pausePlan cancelPausePlan priorityOf waitOf argumentOf startNowPlan queueRequestPlan startIfDormantPlan requestOf startOrQueuePlan setPlan resetPlan flagPlan waitPlan alarmPlan tickPlan upTo allOf sumOf numbersRight falls exactAt queueRight timesRight startedRight masksRight busyRight waitersAt waitersRight dormantRight poolRight subsFrom subsRight allButQueue isWellFormed planOf nobodyActive badBody holdsAnyOf holdsIt holdsNot holdsAny namesCaller alarmRunning poolFull mailFull endsTime refusals firstOf marksOf accepted refused stepOf taskRight isConfiguration sleepers dormantTable markedStart starters freshTable freshOf after missed nextOnGrid skippedOf passing raisings putByTime byTime timed items levelsOf emptiedAt mailAt messagesRight lettersFall
 skipping = record {
   next = next;
   only = only;

@@ -31,14 +31,16 @@ use Rattle.executive.specs.Entries.{withState}
 use Rattle.executive.specs.Flags.{met, modeOf}
 use Rattle.executive.specs.Pool.{requests, placeOf}
 use Rattle.executive.specs.Subprograms.{noSub, subAt, lineOf, entersIt, waitsBehind, handedOn, withSub}
-use Rattle.executive.specs.States.{isDormant, isPaused, waitsFor}
+use Rattle.executive.specs.States.{isDormant, isPaused, waitsFor, takes}
+use Rattle.executive.specs.Messages.{letters, firstFit, mailAt}
+use Rattle.executive.specs.Plans.{sendPlan, receivePlan}
 use Rattle.executive.specs.Plans.{caller, stateAt, nothing, waking, terminatePlan, restartPlan, pausePlan, cancelPausePlan, startNowPlan, queueRequestPlan, startIfDormantPlan}
 use Rattle.executive.specs.Plans.{startOrQueuePlan, setPlan, resetPlan, flagPlan, waitPlan, alarmPlan, tickPlan, enterPlan, exitPlan}
 use Rattle.executive.specs.WellFormed.{WellFormed}
 use Rattle.executive.specs.Check.{allButQueue, numbersRight, falls, exactAt, queueRight, timesRight, startedRight, masksRight, busyRight, waitersAt, waitersRight}
-use Rattle.executive.specs.Check.{dormantRight, poolRight, subsFrom, subsRight, isWellFormed}
+use Rattle.executive.specs.Check.{dormantRight, emptiedAt, poolRight, subsFrom, subsRight, lettersFall, messagesRight, isWellFormed}
 use Rattle.executive.specs.Sheet.{planOf, marksOf}
-use Rattle.executive.specs.Refusals.{nobodyActive, badBody, holdsIt, holdsNot, holdsAny, namesCaller, alarmRunning, poolFull, endsTime, refusals, callIn}
+use Rattle.executive.specs.Refusals.{nobodyActive, badBody, holdsIt, holdsNot, holdsAny, namesCaller, alarmRunning, poolFull, mailFull, endsTime, refusals, callIn}
 use Rattle.executive.specs.Step.{accepted, stepOf}
 use Rattle.executive.specs.Promises.Demands.{planOfRecord, after}
 use Rattle.executive.specs.Promises.SubLaw.{holderOf, waitersOf, Waits, Does, sensor, HandedOver, OneAtATime, Lined, SubLaw}
@@ -111,7 +113,7 @@ module _ (t : Table) where
         by false e = other (n .0) (handedOn (subAt (t .rest) (n .0))) e
 
     call-holds : (c : Call) → (c ≡ call.Enter m → holderOf t m ≢ 0) → (c ≡ call.Exit m → ⊥) → Holds (planOf t c)
-    unfolding planOf terminatePlan restartPlan pausePlan cancelPausePlan startNowPlan queueRequestPlan startIfDormantPlan startOrQueuePlan resetPlan flagPlan waitPlan alarmPlan tickPlan
+    unfolding planOf terminatePlan restartPlan pausePlan cancelPausePlan startNowPlan queueRequestPlan startIfDormantPlan startOrQueuePlan resetPlan flagPlan waitPlan alarmPlan tickPlan sendPlan receivePlan
     call-holds call.Terminate a b = same (terminatePlan t)
         (either (ltb (placeOf (caller t .0) (requests (t .rest))) (length (requests (t .rest)))) _ _ refl refl)
     call-holds (call.Restart p n) a b = refl
@@ -128,6 +130,9 @@ module _ (t : Table) where
     call-holds call.End a b = refl
     call-holds (call.Enter n) a b = enter-holds n a
     call-holds (call.Exit n) a b = exit-holds n b
+    call-holds (call.Send k x) a b = same (sendPlan t k x) (either (takes (caller t .0) (stateAt t k)) _ _ refl refl)
+    call-holds (call.Receive s) a b = same (receivePlan t s)
+        (either (ltb (firstFit (caller t .0) (s .0) (letters (t .rest))) (length (letters (t .rest)))) _ _ refl refl)
 
 -- ---- a step
 module _ (t : Table) (s : List ℕ) (w : WellFormed t) (bytes : Bytes s) where
@@ -247,7 +252,7 @@ module _ (t : Table) (w : WellFormedByPart t) (m : SubNo) where
       gone z = rw (rule .free z) refl
 
 pub sub-law : SubLaw
-unfolding behind pad taskAt putAt enterAt entered depart enterInFlight enterAllInFlight applyInFlight waking exitPlan upTo allOf sumOf numbersRight falls exactAt queueRight timesRight startedRight masksRight busyRight waitersAt waitersRight dormantRight poolRight subsFrom subsRight allButQueue isWellFormed kindOf readAs readOf planOf nobodyActive badBody holdsIt holdsNot holdsAny namesCaller alarmRunning poolFull endsTime refusals firstOf marksOf accepted stepOf after sensor items levelsOf
+unfolding behind pad taskAt putAt enterAt entered depart enterInFlight enterAllInFlight applyInFlight waking exitPlan upTo allOf sumOf numbersRight falls exactAt queueRight timesRight startedRight masksRight busyRight waitersAt waitersRight dormantRight poolRight subsFrom subsRight allButQueue isWellFormed kindOf readAs readOf planOf nobodyActive badBody holdsIt holdsNot holdsAny namesCaller alarmRunning poolFull endsTime refusals firstOf marksOf accepted stepOf after sensor items levelsOf emptiedAt mailAt messagesRight lettersFall mailFull
 sub-law = record {
   handed-over = λ t s m w b d h. handed-over t s w b m d h;
   one-at-a-time = λ t s m w b. one-at-a-time t s w b m;

@@ -22,10 +22,12 @@ use Rattle.executive.specs.States.{timeOf, hasTime}
 use Rattle.executive.specs.Table.{Join, enterAt, departed, entered, depart, enterInFlight, enterAllInFlight, applyInFlight, items, levelsOf}
 use Rattle.executive.specs.Clock.{interval, rung, advanced}
 use Rattle.executive.specs.Plans.{stateAt, holds, timeUp, passing, raisings, putByTime, byTime, timed, pausePlan, tickPlan}
+use Rattle.executive.specs.Messages.{mailAt}
+use Rattle.executive.specs.Check.{emptiedAt, messagesRight, lettersFall}
 use Rattle.executive.specs.Check.{isWellFormed, allButQueue, numbersRight, falls, exactAt, queueRight, timesRight, startedRight, masksRight, busyRight, waitersAt, waitersRight, dormantRight, poolRight, subsFrom, subsRight}
 use Rattle.executive.specs.Sheet.{planOf, marksOf}
 use Rattle.executive.specs.Subprograms.{holdsAnyOf}
-use Rattle.executive.specs.Refusals.{nobodyActive, badBody, holdsIt, holdsNot, holdsAny, namesCaller, alarmRunning, poolFull, endsTime, refusals}
+use Rattle.executive.specs.Refusals.{nobodyActive, badBody, holdsIt, holdsNot, holdsAny, namesCaller, alarmRunning, poolFull, mailFull, endsTime, refusals}
 use Rattle.executive.specs.Step.{accepted, refused, stepOf}
 use Rattle.executive.specs.Configuration.{tasksFrom, tasksIn, configurationIn, taskRight, isConfiguration, sleepers, dormantTable, markedStart, starters, freshTable, freshOf}
 use Rattle.executive.specs.Promises.Demands.{planOfRecord, after}
@@ -118,5 +120,5 @@ module _ (t : Table) where
   only xs ys e c f d = one-order asym xs ys (λ k. e k ∙ sym (f k)) (places-chain (Before t) xs c) (places-chain (Before t) ys d)
 
 pub waking : Waking
-unfolding tasksFrom tasksIn configurationIn kindOf readAs readOf behind pad taskAt putAt enterAt departed entered depart enterInFlight enterAllInFlight applyInFlight interval placeOf isSet each rung advanced pausePlan passing raisings putByTime byTime timed tickPlan upTo allOf sumOf numbersRight falls exactAt queueRight timesRight startedRight masksRight busyRight waitersAt waitersRight dormantRight poolRight subsFrom subsRight allButQueue isWellFormed planOf nobodyActive badBody holdsAnyOf holdsIt holdsNot holdsAny namesCaller alarmRunning poolFull endsTime refusals firstOf marksOf accepted refused stepOf taskRight isConfiguration sleepers dormantTable markedStart starters freshTable freshOf after planOfRecord items levelsOf
+unfolding tasksFrom tasksIn configurationIn kindOf readAs readOf behind pad taskAt putAt enterAt departed entered depart enterInFlight enterAllInFlight applyInFlight interval placeOf isSet each rung advanced pausePlan passing raisings putByTime byTime timed tickPlan upTo allOf sumOf numbersRight falls exactAt queueRight timesRight startedRight masksRight busyRight waitersAt waitersRight dormantRight poolRight subsFrom subsRight allButQueue isWellFormed planOf nobodyActive badBody holdsAnyOf holdsIt holdsNot holdsAny namesCaller alarmRunning poolFull mailFull endsTime refusals firstOf marksOf accepted refused stepOf taskRight isConfiguration sleepers dormantTable markedStart starters freshTable freshOf after planOfRecord items levelsOf emptiedAt mailAt messagesRight lettersFall
 waking = record { exact = exact; order = order; only = only; example = (refl, refl) }

@@ -21,10 +21,12 @@ use Rattle.executive.specs.Table.{enterAt, aheadOf, entered, depart, ent
 use Rattle.executive.specs.Clock.{rung, advanced}
 use Rattle.executive.specs.Plans.{nothing, priorityOf, startNowPlan, startIfDormantPlan, passing, raisings, putByTime, byTime, timed, tickPlan}
 use Rattle.executive.specs.WellFormed.{WellFormed}
+use Rattle.executive.specs.Messages.{mailAt}
+use Rattle.executive.specs.Check.{emptiedAt, messagesRight, lettersFall}
 use Rattle.executive.specs.Check.{allButQueue, numbersRight, falls, exactAt, queueRight, timesRight, startedRight, masksRight, busyRight, waitersAt, waitersRight, dormantRight, poolRight, subsFrom, subsRight, isWellFormed}
 use Rattle.executive.specs.Sheet.{planOf, marks, marksOf}
 use Rattle.executive.specs.Subprograms.{holdsAnyOf}
-use Rattle.executive.specs.Refusals.{callIn, nobodyActive, badBody, holdsIt, holdsNot, holdsAny, namesCaller, alarmRunning, poolFull, endsTime, refusals}
+use Rattle.executive.specs.Refusals.{callIn, nobodyActive, badBody, holdsIt, holdsNot, holdsAny, namesCaller, alarmRunning, poolFull, mailFull, endsTime, refusals}
 use Rattle.executive.specs.Step.{noTable, answerOf, hasV, accepted, refused, outcomeOf, stepOf}
 use Rattle.executive.specs.Promises.Demands.{planFor, planOfRecord}
 use Rattle.executive.specs.Promises.Walks.{movesIn, queueFor, allPaused, lastDormant, Walks}
@@ -79,5 +81,5 @@ most-any t s b = go (isWellFormed t) refl
         rw (refusal-walks t s (λ z. omega (arith, n, z))) zero-le
 
 pub walks : Walks
-unfolding behind pad taskAt putAt enterAt aheadOf entered depart enterInFlight enterAllInFlight applyInFlight each rung advanced passing raisings putByTime byTime timed tickPlan priorityOf startNowPlan startIfDormantPlan upTo allOf sumOf numbersRight falls exactAt queueRight timesRight startedRight masksRight busyRight waitersAt waitersRight dormantRight poolRight subsFrom subsRight allButQueue isWellFormed kindOf readAs readOf planOf nobodyActive badBody holdsAnyOf holdsIt holdsNot holdsAny namesCaller alarmRunning poolFull endsTime refusals firstOf marksOf accepted stepOf allPaused lastDormant items levelsOf
+unfolding behind pad taskAt putAt enterAt aheadOf entered depart enterInFlight enterAllInFlight applyInFlight each rung advanced passing raisings putByTime byTime timed tickPlan priorityOf startNowPlan startIfDormantPlan upTo allOf sumOf numbersRight falls exactAt queueRight timesRight startedRight masksRight busyRight waitersAt waitersRight dormantRight poolRight subsFrom subsRight allButQueue isWellFormed kindOf readAs readOf planOf nobodyActive badBody holdsAnyOf holdsIt holdsNot holdsAny namesCaller alarmRunning poolFull mailFull endsTime refusals firstOf marksOf accepted stepOf allPaused lastDormant items levelsOf emptiedAt mailAt messagesRight lettersFall
 walks = record { counted = counted; each = each-walks; most = most-any; refused = refusal-walks; met = (refl, refl) }

@@ -10,15 +10,16 @@ use Rattle.records.specs.Firsts.{Refusal, when, firstOf}
 use Rattle.records.specs.declared.TaskNo.{TaskNo}
 use Rattle.records.specs.declared.FlagNo.{FlagNo}
 use Rattle.records.specs.declared.SubNo.{SubNo}
+use Rattle.records.specs.declared.Text.{Text}
 use Rattle.records.specs.declared.Call.{Call}
 use Rattle.records.specs.declared.Call.the-variants as call
 use Rattle.executive.specs.Numbers.{lastUnit, lastSub, subCount}
 use Rattle.executive.specs.declared.Table.{Table}
 use Rattle.executive.specs.Table.{ArraysInOrder, TimesInOrder}
-use Rattle.executive.specs.States.{isDormant}
-use Rattle.executive.specs.Plans.{stateAt}
+use Rattle.executive.specs.States.{isDormant, takes}
+use Rattle.executive.specs.Plans.{caller, stateAt}
 use Rattle.executive.specs.WellFormed.{WellFormed, Times}
-use Rattle.executive.specs.Refusals.{isTick, nobodyActive, badBody, holdsIt, holdsNot, holdsAny, namesCaller, alarmRunning, poolFull, endsTime, callRefusals}
+use Rattle.executive.specs.Refusals.{isTick, nobodyActive, badBody, holdsIt, holdsNot, holdsAny, namesCaller, alarmRunning, poolFull, mailFull, endsTime, callRefusals}
 use Rattle.executive.proofs.Lists.Tests.{false-not-true}
 use Rattle.executive.proofs.calls.InOrder.{fit-of, standing-of}
 
@@ -37,6 +38,7 @@ pub record Clear (t : Table) (c : Call) : Type 0 where
   pub holding : holdsAny t c ≡ false
   pub another : namesCaller t c ≡ false
   pub room : poolFull t c ≡ false
+  pub mail : mailFull t c ≡ false
   pub time : endsTime t c ≡ false
 
 pub clear-of : (t : Table) (c : Call) → firstOf (callRefusals t c) ≡ 0 → Clear t c
@@ -49,8 +51,9 @@ clear-of t c h =
     let d = first-none 7 (namesCaller t c) _ (omega arith) (n .1) in
     let e = first-none 9 (alarmRunning t c) _ (omega arith) (d .1) in
     let f = first-none 8 (poolFull t c) _ (omega arith) (e .1) in
-    let g = first-none 10 (endsTime t c) _ (omega arith) (f .1) in
-    record { active = a .0; body = b .0; inside = i .0; outside = o .0; holding = n .0; another = d .0; room = f .0; time = g .0 }
+    let p = first-none 16 (mailFull t c) _ (omega arith) (f .1) in
+    let g = first-none 10 (endsTime t c) _ (omega arith) (p .1) in
+    record { active = a .0; body = b .0; inside = i .0; outside = o .0; holding = n .0; another = d .0; room = f .0; mail = p .0; time = g .0 }
 
 pub or-none : (a b : Bool) → (a || b) ≡ false → (a ≡ false) × (b ≡ false)
 or-none false b h = (refl, h)
@@ -86,6 +89,12 @@ module _ (t : Table) (w : WellFormed t) where
       → (0 < t .ready) × (m .0 < subCount)
   sub-owed c m n b h =
       let l = ltb-false lastSub (m .0) (sym b ∙ clear-of t c h .body) in (active c n h, omega arith)
+
+  -- 14: a message that has to wait finds room
+  pub send-owed : (k : TaskNo) (x : Text) → firstOf (callRefusals t (call.Send k x)) ≡ 0
+      → (0 < t .ready) × (takes (caller t .0) (stateAt t k) ≡ false → t .rest .sent < 32)
+  unfolding mailFull
+  send-owed k x h = (active (call.Send k x) refl h, λ d. leb-false 32 (t .rest .sent) (rw d at (clear-of t (call.Send k x) h .mail)))
 
   pub tick-owed : firstOf (callRefusals t call.Tick) ≡ 0 → ArraysInOrder t × (t .rest .clock .0 + t .rest .granule ≤ 2 ^ 40)
   unfolding endsTime

@@ -10,9 +10,9 @@ use Rattle.records.specs.declared.SubNo.{SubNo}
 use Rattle.executive.specs.declared.Mode.{Mode}
 use Rattle.executive.specs.declared.Mode.the-variants.{Any, All}
 use Rattle.executive.specs.declared.State.{State}
-use Rattle.executive.specs.declared.State.the-variants.{Dormant, Ready, Paused, Due, Flags, AwaitStart, AwaitEnd, AwaitSub}
+use Rattle.executive.specs.declared.State.the-variants.{Dormant, Ready, Paused, Due, Flags, AwaitStart, AwaitEnd, AwaitSub, AwaitMessage}
 use Rattle.executive.specs.Lists.{one}
-use Rattle.executive.specs.States.{dormant, ready, paused, due, awaitAny, awaitAll, awaitStart, awaitEnd, awaitSub, stateKind, timeOf, maskOf, awaitedOf, stateOf}
+use Rattle.executive.specs.States.{dormant, ready, paused, due, awaitAny, awaitAll, awaitStart, awaitEnd, awaitMessage, awaitSub, stateKind, timeOf, maskOf, awaitedOf, stateOf}
 use Rattle.executive.specs.States.{isOf, is, isAs, isDormant, isReady, hasTime, hasMask, waitMode, waitsFor, StatesTold}
 use Rattle.executive.proofs.Lists.Tests.{eqb-self}
 use Rattle.executive.proofs.queue.Law.{one-true}
@@ -29,6 +29,7 @@ state-back (Flags All mask) = refl
 state-back AwaitStart = refl
 state-back AwaitEnd = refl
 state-back (AwaitSub m) = refl
+state-back (AwaitMessage k) = refl
 
 told : (s : State) (n : ℕ) → isOf n s ≡ true → s ≡ stateOf n (timeOf s) (maskOf s) (awaitedOf s)
 told s n e = sym (state-back s) ∙ ap (λ (k : ℕ). stateOf k (timeOf s) (maskOf s) (awaitedOf s)) (sym (eqb-true n (stateKind s) e))
@@ -42,6 +43,10 @@ dormant-named s e = dormant-is s (one-true (isDormant s) e)
 
 pub dormant-kind : (s : State) → s ≡ Dormant → is dormant s ≡ 1
 dormant-kind s e = ap (is dormant) e
+
+pub message-is : (s : State) → isOf awaitMessage s ≡ true → s ≡ AwaitMessage (record { 0 = awaitedOf s })
+unfolding stateOf
+message-is s e = told s awaitMessage e
 
 pub ready-named : (s : State) → is ready s ≡ 1 → s ≡ Ready
 unfolding stateOf
@@ -83,9 +88,9 @@ of-kinds P m n x y s = go (isOf m s) refl
     go true f e = of-kind P m x s f
     go false f e = of-kind P n y s e
 
--- the rules count the ready and the dormant tasks and those that wait for a start, an end or a subprogram
+-- the rules count the ready and the dormant tasks and those that wait for a start, an end, a subprogram or a message
 abbrev pub counted : ℕ → ℕ
-counted k = one (eqb ready k) + one (eqb dormant k) + one (eqb awaitStart k) + one (eqb awaitEnd k) + one (eqb awaitSub k)
+counted k = one (eqb ready k) + one (eqb dormant k) + one (eqb awaitStart k) + one (eqb awaitEnd k) + one (eqb awaitSub k) + one (eqb awaitMessage k)
 
 pub time-waits : (s : State) → hasTime s ≡ true → counted (stateKind s) ≡ 0
 time-waits s e = of-kinds (λ (k : ℕ). counted k ≡ 0) paused due refl refl s e

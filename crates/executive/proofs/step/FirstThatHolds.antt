@@ -40,7 +40,7 @@ number-is t n c = go (eqb n 0) refl (eqb n 1) refl
 numbers : (t : Table) (s : List ℕ) → Never 0 (refusals t s)
 unfolding refusals
 numbers t s =
-    (λ e. omega arith, (λ e. omega arith, (λ e. omega arith, (λ e. omega arith, (λ e. omega arith, (λ e. omega arith, (λ e. omega arith, (λ e. omega arith, (λ e. omega arith, (λ e. omega arith, (λ e. omega arith, (λ e. omega arith, (λ e. omega arith, tt)))))))))))))
+    (λ e. omega arith, (λ e. omega arith, (λ e. omega arith, (λ e. omega arith, (λ e. omega arith, (λ e. omega arith, (λ e. omega arith, (λ e. omega arith, (λ e. omega arith, (λ e. omega arith, (λ e. omega arith, (λ e. omega arith, (λ e. omega arith, (λ e. omega arith, tt))))))))))))))
 
 pub step-number : (t : Table) (s : List ℕ) → stepOf t s .answer .number ≡ firstOf (refusals t s)
 unfolding stepOf
@@ -62,7 +62,7 @@ allowed-formed t s e = well-formed-iff t .0 (holds-so (isWellFormed t) (first-no
     holds-so true f = refl
     holds-so false f = false-not-true (sym f)
 
-pub order : (t : Table) (s : List ℕ) → map (λ (r : Refusal). r .number) (refusals t s) ≡ 1 ∷ 3 ∷ 4 ∷ 3 ∷ 5 ∷ 6 ∷ 13 ∷ 14 ∷ 15 ∷ 7 ∷ 9 ∷ 8 ∷ 10 ∷ []
+pub order : (t : Table) (s : List ℕ) → map (λ (r : Refusal). r .number) (refusals t s) ≡ 1 ∷ 3 ∷ 4 ∷ 3 ∷ 5 ∷ 6 ∷ 13 ∷ 14 ∷ 15 ∷ 7 ∷ 9 ∷ 8 ∷ 16 ∷ 10 ∷ []
 unfolding refusals
 order t s = refl
 
@@ -86,7 +86,7 @@ active-is t n c z = rw (ne-eqb n 1 z) (go (eqb n 0))
 not-one : (t : Table) (s : List ℕ) → isWellFormed t ≡ true → firstOf (refusals t s) ≢ 1
 unfolding refusals firstOf
 not-one t s w = rw w (promises .first-not 1 (tail (refusals t s)) (λ e. omega arith)
-    (λ e. omega arith, (λ e. omega arith, (λ e. omega arith, (λ e. omega arith, (λ e. omega arith, (λ e. omega arith, (λ e. omega arith, (λ e. omega arith, (λ e. omega arith, (λ e. omega arith, (λ e. omega arith, (λ e. omega arith, tt)))))))))))))
+    (λ e. omega arith, (λ e. omega arith, (λ e. omega arith, (λ e. omega arith, (λ e. omega arith, (λ e. omega arith, (λ e. omega arith, (λ e. omega arith, (λ e. omega arith, (λ e. omega arith, (λ e. omega arith, (λ e. omega arith, (λ e. omega arith, tt))))))))))))))
 
 pub answers-active : (t : Table) (s : List ℕ) → isWellFormed t ≡ true → stepOf t s .answer .active ≡ caller (stepOf t s .table)
 unfolding stepOf

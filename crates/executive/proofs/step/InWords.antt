@@ -2,7 +2,7 @@
 use Prim.Native.Nat.{ℕ, zero, suc, _+_, _/_, _%_, _≤_, _<_}
 use mathlib.Core.Path.{_≡_, refl, sym, ap, _∙_}
 use mathlib.Core.Logic.{_↔_, _≢_, _⊎_, inl, inr, ⊎-elim}
-use mathlib.Core.Bool.{Bool, true, false, not, cond, _||_}
+use mathlib.Core.Bool.{Bool, true, false, not, cond, _||_, _&&_}
 use mathlib.Core.List.{List, [], _∷_}
 use native.Mathlib.Omega.{arith}
 use native.Mathlib.Nat.{div-div-eq-div-mul}
@@ -19,24 +19,24 @@ use Rattle.records.specs.declared.Call.{Call}
 use Rattle.records.specs.declared.Call.the-variants as call
 use Rattle.records.specs.Kinds.{lengthOf, isCall}
 use Rattle.executive.specs.declared.State.{State}
-use Rattle.executive.specs.declared.State.the-variants.{Dormant}
+use Rattle.executive.specs.declared.State.the-variants.{Dormant, AwaitMessage}
 use Rattle.executive.specs.declared.Sub.{Sub}
 use Rattle.executive.specs.declared.Table.{Table}
 use Rattle.executive.specs.Lists.{_and_, allOf}
 use Rattle.executive.specs.Subprograms.{noSub, subAt, holds?, holdsAnyOf}
-use Rattle.executive.specs.Numbers.{mostQueued, endOfTime}
-use Rattle.executive.specs.Places.{never}
+use Rattle.executive.specs.Numbers.{mostQueued, mostSent, endOfTime}
+use Rattle.executive.specs.Places.{nobody, never}
 use Rattle.executive.specs.Plans.{caller, stateAt}
-use Rattle.executive.specs.States.{isDormant}
+use Rattle.executive.specs.States.{awaitMessage, awaitedOf, isOf, isDormant, takes, takesFrom}
 use Rattle.executive.specs.Check.{isWellFormed}
 use Rattle.executive.specs.Sheet.{noSuchTask, marksOf}
-use Rattle.executive.specs.Refusals.{kindOfRecord, callIn, isTick, nobodyActive, badBody, holdsIt, holdsNot, holdsAny, namesCaller, alarmRunning, poolFull, endsTime, refusals}
+use Rattle.executive.specs.Refusals.{kindOfRecord, callIn, isTick, nobodyActive, badBody, holdsIt, holdsNot, holdsAny, namesCaller, alarmRunning, poolFull, mailFull, endsTime, refusals}
 use Rattle.executive.specs.Step.{stepOf}
-use Rattle.executive.specs.Promises.InWords.{Bit, NoCall, NoTask, BadBody, Holds, HoldsIt, HoldsNot, HoldsOne, HoldsAny, NamesCaller, AlarmRunning, PoolFull, Case, cases, First, Given}
-use Rattle.executive.proofs.Lists.Tests.{false-not-true}
+use Rattle.executive.specs.Promises.InWords.{Bit, NoCall, NoTask, BadBody, Holds, HoldsIt, HoldsNot, HoldsOne, HoldsAny, NamesCaller, AlarmRunning, PoolFull, AwaitsCaller, MailFull, Case, cases, First, Given}
+use Rattle.executive.proofs.Lists.Tests.{false-not-true, eqb-self}
 use Rattle.executive.proofs.check.Decides.{well-formed-iff}
 use Rattle.executive.proofs.step.FirstThatHolds.{step-number}
-use Rattle.executive.proofs.states.Laws.{dormant-is}
+use Rattle.executive.proofs.states.Laws.{dormant-is, message-is}
 
 -- ---- a test says a sentence
 abbrev Says : Bool → Type 0 → Type 0
@@ -144,6 +144,8 @@ says-no-call k = (to k, λ z. ⊎-elim (λ e. rw e refl) (λ y. ⊎-elim (λ e. 
     to kind.End e = inr (inr (inr refl))
     to kind.Enter e = false-not-true e
     to kind.Exit e = false-not-true e
+    to kind.Send e = false-not-true e
+    to kind.Receive e = false-not-true e
 
 says-dormant : (x : State) → Says (isDormant x) (x ≡ Dormant)
 says-dormant x = (dormant-is x, λ e. rw e refl)
@@ -192,6 +194,8 @@ module _ (t : Table) where
   says-bad call.End = says-nothing
   says-bad (call.Enter m) = says-lt _ (m .0)
   says-bad (call.Exit m) = says-lt _ (m .0)
+  says-bad (call.Send k x) = says-no-task k
+  says-bad (call.Receive s) = says-lt _ (s .0)
 
   -- 13 of a 06, 14 of a 07, 15 of a 00 or a 01
   holds-said : (m : SubNo) → Says (holds? (caller t) (subAt (t .rest) (m .0))) (Holds t (m .0))
@@ -209,6 +213,25 @@ module _ (t : Table) where
 
   full-said : (k : TaskNo) → Says (not (isDormant (stateAt t k)) and leb mostQueued (t .rest .queued)) ((stateAt t k ≢ Dormant) × (mostQueued ≤ t .rest .queued))
   full-said k = says-and _ _ (says-not _ (says-dormant (stateAt t k))) (says-le 32 (t .rest .queued))
+
+  -- 16 of a 14
+  awaits-said : (c : TaskNo) (s : State) → Says (takes (c .0) s) ((s ≡ AwaitMessage c) ⊎ (s ≡ AwaitMessage nobody))
+  awaits-said c s = (to (isOf awaitMessage s) refl, ⊎-elim (λ e. rw (e, eqb-self (c .0)) (or-true (eqb (c .0) 0))) (λ e. rw e refl))
+    where
+      or-true : (b : Bool) → b || true ≡ true
+      or-true true = refl
+      or-true false = refl
+
+      to : (b : Bool) → isOf awaitMessage s ≡ b → b && takesFrom (awaitedOf s) (c .0) ≡ true → (s ≡ AwaitMessage c) ⊎ (s ≡ AwaitMessage nobody)
+      to true w e = by (eqb (awaitedOf s) 0) refl e
+        where
+          by : (b : Bool) → eqb (awaitedOf s) 0 ≡ b → b || eqb (awaitedOf s) (c .0) ≡ true → (s ≡ AwaitMessage c) ⊎ (s ≡ AwaitMessage nobody)
+          by true z e = let q = eqb-true (awaitedOf s) 0 z in inr (message-is s w ∙ ap (λ (n : ℕ). AwaitMessage (record { 0 = n })) q)
+          by false z e = let q = eqb-true (awaitedOf s) (c .0) e in inl (message-is s w ∙ ap (λ (n : ℕ). AwaitMessage (record { 0 = n })) q)
+      to false w e = false-not-true e
+
+  crowded-said : (k : TaskNo) → Says (not (takes (caller t .0) (stateAt t k)) and leb mostSent (t .rest .sent)) ((AwaitsCaller t k → ⊥) × (mostSent ≤ t .rest .sent))
+  crowded-said k = says-and _ _ (says-not _ (awaits-said (caller t) (stateAt t k))) (says-le 32 (t .rest .sent))
 
   running-said : (f : FlagNo) → Says (not (eqb (getD (t .rest .alarms) (f .0) never .0) 0)) (getD (t .rest .alarms) (f .0) never .0 ≢ 0)
   running-said f = says-not _ (says-eq (getD (t .rest .alarms) (f .0) never .0) 0)
@@ -230,11 +253,12 @@ module _ (t : Table) where
     pub caller : namesCaller t c ≡ true → NamesCaller t c
     pub running : alarmRunning t c ≡ true → AlarmRunning t c
     pub full : poolFull t c ≡ true → PoolFull t c
+    pub crowded : mailFull t c ≡ true → MailFull t c
     pub late : endsTime t c ≡ true → (c ≡ call.Tick) × (endOfTime < t .rest .clock .0 + t .rest .granule)
     pub skips : marksOf t c .skipped ≢ 0 → Restarts c
 
   abbrev Silent : Call → Type 0
-  Silent c = (isTick t c ≡ false) × (namesCaller t c ≡ false) × (alarmRunning t c ≡ false) × (poolFull t c ≡ false) × (endsTime t c ≡ false)
+  Silent c = (isTick t c ≡ false) × (namesCaller t c ≡ false) × (alarmRunning t c ≡ false) × (poolFull t c ≡ false) × (endsTime t c ≡ false) × (mailFull t c ≡ false)
 
   none : {P : Type 0} {b : Bool} → b ≡ false → b ≡ true → P
   none f e = false-not-true (sym f ∙ e)
@@ -242,18 +266,18 @@ module _ (t : Table) where
   -- of a subprogram's call, or one that ends a run, nothing else is told; of others, nothing at all
   held-tells : (c : Call) → Silent c → (holdsIt t c ≡ true → HoldsIt t c) → (holdsNot t c ≡ true → HoldsNot t c) → (holdsAny t c ≡ true → HoldsAny t c)
       → (marksOf t c .skipped ≢ 0 → Restarts c) → Tells c
-  held-tells c s i o h k = record { tick = none (s .0); inside = i; outside = o; holding = h; caller = none (s .1); running = none (s .2); full = none (s .3); late = none (s .4); skips = k }
+  held-tells c s i o h k = record { tick = none (s .0); inside = i; outside = o; holding = h; caller = none (s .1); running = none (s .2); full = none (s .3); crowded = none (s .5); late = none (s .4); skips = k }
 
   nothing-tells : (c : Call) → Silent c → holdsIt t c ≡ false → holdsNot t c ≡ false → holdsAny t c ≡ false → marksOf t c .skipped ≡ 0 → Tells c
   nothing-tells c s i o h z = held-tells c s (none i) (none o) (none h) (λ n. absurd (n z))
 
   pub tells : (c : Call) → Tells c
-  unfolding holdsIt holdsNot holdsAny namesCaller alarmRunning poolFull endsTime marksOf
-  tells call.Terminate = held-tells _ (refl, refl, refl, refl, refl) (none refl) (none refl) (λ e. (inl refl, any-said .0 e)) (λ z. absurd (z refl))
-  tells (call.Restart p n) = held-tells _ (refl, refl, refl, refl, refl) (none refl) (none refl) (λ e. (inr (record { parameter = p; count = n; call = refl }), any-said .0 e)) (λ z. record { parameter = p; count = n; call = refl })
-  tells (call.Pause u n) = nothing-tells _ (refl, refl, refl, refl, refl) refl refl refl refl
-  tells (call.CancelPause k) = nothing-tells _ (refl, refl, refl, refl, refl) refl refl refl refl
-  tells (call.StartIfDormant o k) = nothing-tells _ (refl, refl, refl, refl, refl) refl refl refl refl
+  unfolding holdsIt holdsNot holdsAny namesCaller alarmRunning poolFull mailFull endsTime marksOf
+  tells call.Terminate = held-tells _ (refl, refl, refl, refl, refl, refl) (none refl) (none refl) (λ e. (inl refl, any-said .0 e)) (λ z. absurd (z refl))
+  tells (call.Restart p n) = held-tells _ (refl, refl, refl, refl, refl, refl) (none refl) (none refl) (λ e. (inr (record { parameter = p; count = n; call = refl }), any-said .0 e)) (λ z. record { parameter = p; count = n; call = refl })
+  tells (call.Pause u n) = nothing-tells _ (refl, refl, refl, refl, refl, refl) refl refl refl refl
+  tells (call.CancelPause k) = nothing-tells _ (refl, refl, refl, refl, refl, refl) refl refl refl refl
+  tells (call.StartIfDormant o k) = nothing-tells _ (refl, refl, refl, refl, refl, refl) refl refl refl refl
   tells (call.StartOrQueue o k a) = record {
     tick = none refl;
     inside = none refl;
@@ -262,11 +286,12 @@ module _ (t : Table) where
     caller = λ e. record { option = o; target = k; argument = a; call = refl; said = caller-said o k .0 e };
     running = none refl;
     full = λ e. record { option = o; target = k; argument = a; call = refl; said = full-said k .0 e };
+    crowded = none refl;
     late = none refl;
     skips = λ z. absurd (z refl);
   }
-  tells (call.Flag o f) = nothing-tells _ (refl, refl, refl, refl, refl) refl refl refl refl
-  tells (call.Wait m mask) = nothing-tells _ (refl, refl, refl, refl, refl) refl refl refl refl
+  tells (call.Flag o f) = nothing-tells _ (refl, refl, refl, refl, refl, refl) refl refl refl refl
+  tells (call.Wait m mask) = nothing-tells _ (refl, refl, refl, refl, refl, refl) refl refl refl refl
   tells (call.Alarm u n f) = record {
     tick = none refl;
     inside = none refl;
@@ -275,6 +300,7 @@ module _ (t : Table) where
     caller = none refl;
     running = λ e. record { unit = u; count = n; flag = f; call = refl; said = running-said f .0 e };
     full = none refl;
+    crowded = none refl;
     late = none refl;
     skips = λ z. absurd (z refl);
   }
@@ -286,16 +312,30 @@ module _ (t : Table) where
     caller = none refl;
     running = none refl;
     full = none refl;
+    crowded = none refl;
     late = λ e. (refl, late-said .0 e);
     skips = λ z. absurd (z refl);
   }
-  tells (call.Granule g) = nothing-tells _ (refl, refl, refl, refl, refl) refl refl refl refl
-  tells (call.Task p m) = nothing-tells _ (refl, refl, refl, refl, refl) refl refl refl refl
-  tells call.End = nothing-tells _ (refl, refl, refl, refl, refl) refl refl refl refl
+  tells (call.Granule g) = nothing-tells _ (refl, refl, refl, refl, refl, refl) refl refl refl refl
+  tells (call.Task p m) = nothing-tells _ (refl, refl, refl, refl, refl, refl) refl refl refl refl
+  tells call.End = nothing-tells _ (refl, refl, refl, refl, refl, refl) refl refl refl refl
   tells (call.Enter m) =
-      held-tells _ (refl, refl, refl, refl, refl) (λ e. record { subprogram = m; call = refl; said = holds-said m .0 e }) (none refl) (none refl) (λ z. absurd (z refl))
+      held-tells _ (refl, refl, refl, refl, refl, refl) (λ e. record { subprogram = m; call = refl; said = holds-said m .0 e }) (none refl) (none refl) (λ z. absurd (z refl))
   tells (call.Exit m) =
-      held-tells _ (refl, refl, refl, refl, refl) (none refl) (λ e. record { subprogram = m; call = refl; said = says-not _ (holds-said m) .0 e }) (none refl) (λ z. absurd (z refl))
+      held-tells _ (refl, refl, refl, refl, refl, refl) (none refl) (λ e. record { subprogram = m; call = refl; said = says-not _ (holds-said m) .0 e }) (none refl) (λ z. absurd (z refl))
+  tells (call.Send k x) = record {
+    tick = none refl;
+    inside = none refl;
+    outside = none refl;
+    holding = none refl;
+    caller = none refl;
+    running = none refl;
+    full = none refl;
+    crowded = λ e. record { addressee = k; text = x; call = refl; said = crowded-said k .0 e };
+    late = none refl;
+    skips = λ z. absurd (z refl);
+  }
+  tells (call.Receive s) = nothing-tells _ (refl, refl, refl, refl, refl, refl) refl refl refl refl
 
   module _ (c : Call) where
     says-tick : Says (isTick t c) (c ≡ call.Tick)
@@ -328,6 +368,10 @@ module _ (t : Table) where
     says-full : Says (poolFull t c) (PoolFull t c)
     unfolding poolFull
     says-full = (tells c .full, λ x. rw (x .call) (full-said (x .target) .1 (x .said)))
+
+    says-crowded : Says (mailFull t c) (MailFull t c)
+    unfolding mailFull
+    says-crowded = (tells c .crowded, λ x. rw (x .call) (crowded-said (x .addressee) .1 (x .said)))
 
     says-late : Says (endsTime t c) ((c ≡ call.Tick) × (endOfTime < t .rest .clock .0 + t .rest .granule))
     unfolding endsTime
@@ -379,7 +423,7 @@ matches t s =
                   (
                     refl,
                     says-outside t c,
-                    (refl, says-holding t c, (refl, says-caller t c, (refl, says-running t c, (refl, says-full t c, (refl, says-late t c, tt))))),
+                    (refl, says-holding t c, (refl, says-caller t c, (refl, says-running t c, (refl, says-full t c, (refl, says-crowded t c, (refl, says-late t c, tt)))))),
                   ),
                 ),
               ),

@@ -1,4 +1,4 @@
--- A call's record, written to a buffer of at least six bytes, stands there whole.
+-- A call's record, written to a buffer of at least ten bytes, stands there whole.
 use Prim.Native.Nat.{ℕ, _≤_}
 use mathlib.Core.Path.{_≡_, sym, _∙_}
 use mathlib.Core.List.{List, _++_}
@@ -11,7 +11,7 @@ use Rattle.records.specs.declared.Written.the-variants as written
 use Rattle.records.specs.Writing.{bytesOf, writtenOf, outOf}
 use Rattle.records.proofs.Assured.{promises}
 
-module _ (c : Call) (o : List ℕ) (h : 6 ≤ length o) where
+module _ (c : Call) (o : List ℕ) (h : 10 ≤ length o) where
   fits : length (bytesOf c) ≤ length o
   fits = omega (arith, promises .short c)
 

@@ -24,11 +24,11 @@ use Rattle.executive.specs.declared.Outcome.{Outcome}
 use Rattle.executive.specs.Lists.{_and_}
 use Rattle.executive.specs.Places.{taskAt}
 use Rattle.executive.specs.Table.{line, headOf, Out, Plan, depart, joins, apply}
-use Rattle.executive.specs.States.{isDormant}
-use Rattle.executive.specs.Plans.{stateAt, nothing, pausePlan, alarmPlan}
+use Rattle.executive.specs.States.{isDormant, takes}
+use Rattle.executive.specs.Plans.{caller, stateAt, nothing, pausePlan, alarmPlan}
 use Rattle.executive.specs.WellFormed.{WellFormed}
 use Rattle.executive.specs.Sheet.{planOf, noSuchTask, marks}
-use Rattle.executive.specs.Refusals.{nobodyActive, badBody, holdsAny, namesCaller, poolFull, endsTime, callRefusals, refusals, calledBy, callIn}
+use Rattle.executive.specs.Refusals.{nobodyActive, badBody, holdsAny, namesCaller, poolFull, mailFull, endsTime, callRefusals, refusals, calledBy, callIn}
 use Rattle.executive.specs.Step.{noTable, answerOf, hasV, accepted, refused, outcomeOf, performed, stepOf}
 use Rattle.executive.specs.Promises.Demands.{planFor, planOfCall, planOfRecord}
 use Rattle.executive.proofs.Lists.Tests.{false-not-true}
@@ -49,6 +49,8 @@ use Rattle.executive.proofs.Plans.Alarm.{alarm-good}
 use Rattle.executive.proofs.Plans.Tick.{tick-good}
 use Rattle.executive.proofs.Plans.Enter.{enter-good}
 use Rattle.executive.proofs.Plans.Exit.{exit-good}
+use Rattle.executive.proofs.Plans.Send.{send-good}
+use Rattle.executive.proofs.Plans.Receive.{receive-good}
 
 and-other : (a b : Bool) → a and b ≡ false → a ≡ true → b ≡ false
 and-other true b e f = e
@@ -96,7 +98,7 @@ module _ (t : Table) (w : WellFormedByPart t) where
   alarm-room u n f = either (eqb n 0) _ _ (sized _ (set-good t w f)) (alone _ refl)
 
   call-sound : (c : Call) → Clear t c → Sound c
-  unfolding planOf nobodyActive badBody holdsAny namesCaller poolFull endsTime
+  unfolding planOf nobodyActive badBody holdsAny namesCaller poolFull mailFull endsTime
   call-sound call.Terminate a =
       let h = some-ready t (a .active) in
       sound _ (terminate-good t w h (holds-none _ (t .rest .subs) (runs t w h .names .0) (a .holding)))
@@ -128,6 +130,12 @@ module _ (t : Table) (w : WellFormedByPart t) where
   call-sound call.End a = sound _ (nothing-good t w)
   call-sound (call.Enter m) a = sound _ (enter-good t w (some-ready t (a .active)) m (ltb-false lastSub (m .0) (a .body)))
   call-sound (call.Exit m) a = sound _ (exit-good t w m (ltb-false lastSub (m .0) (a .body)))
+  call-sound (call.Send k x) a =
+      let s = such t k (a .body) in
+      sound _
+      (send-good t w (some-ready t (a .active)) k x (s .0) (s .1)
+      (λ b. leb-false 32 (t .rest .sent) (and-other (not (takes (caller t .0) (stateAt t k))) (leb 32 (t .rest .sent)) (a .mail) (ap not b))))
+  call-sound (call.Receive s) a = sound _ (receive-good t w (some-ready t (a .active)) s (ltb-false (t .rest .count) (s .0) (a .body)))
 
 pub call-good : (t : Table) (c : Call) → WellFormedByPart t → InRange c → Clear t c → Good (planOf t c) t
 call-good t c w r a = call-sound t w c a .good r

@@ -8,17 +8,21 @@ use Rattle.records.specs.declared.TaskNo.{TaskNo}
 use Rattle.executive.specs.declared.Millis.{Millis}
 use Rattle.executive.specs.declared.Mode.the-variants.{All}
 use Rattle.executive.specs.declared.State.{State}
-use Rattle.executive.specs.declared.State.the-variants.{Dormant, Ready, Paused, Due, Flags, AwaitStart, AwaitEnd, AwaitSub}
+use Rattle.executive.specs.declared.State.the-variants.{Dormant, Ready, Paused, Due, Flags, AwaitStart, AwaitEnd, AwaitSub, AwaitMessage}
 use Rattle.executive.specs.declared.Task.{Task}
 use Rattle.executive.specs.declared.Request.{Request}
 use Rattle.executive.specs.declared.Sub.{Sub}
+use Rattle.executive.specs.declared.Message.{Message}
 use Rattle.executive.specs.declared.Table.{Table}
-use Rattle.executive.specs.Numbers.{mostTasks, mostQueued, flagCount, subCount, longest}
+use Rattle.executive.specs.Numbers.{mostTasks, mostQueued, mostSent, flagCount, subCount, longest}
 use Rattle.executive.specs.Places.{nobody, never, noTask, noRequest, putAt}
 use Rattle.executive.specs.Lists.{pad}
 use Rattle.executive.specs.Subprograms.{noSub, heldBy}
+use Rattle.executive.specs.Messages.{noMessage, noMail}
 use Rattle.executive.specs.Check.{numbersRight, orderRight, levelsRight, timesRight, startedRight, masksRight, busyRight, waitersRight, dormantRight}
-use Rattle.executive.specs.Check.{poolRight, subsRight, isWellFormed}
+use Rattle.executive.specs.Check.{poolRight, subsRight, messagesRight, isWellFormed}
+use Rattle.executive.specs.Rest.{withPost}
+use Rattle.executive.specs.Table.{withRest}
 
 -- ---- the sound table: eleven tasks, the clock at 1,000 ms, flag 0 set
 abbrev pub no : ℕ → TaskNo
@@ -73,7 +77,19 @@ tableOf g ts q levels p rings subs = record {
   queue = q;
   ready = 2;
   levels = levels;
-  rest = record { count = 11; granule = g; clock = record { 0 = now }; flags = 1; alarms = rings; pool = p; queued = 1; subs = subs };
+  rest = record {
+    count = 11;
+    granule = g;
+    clock = record { 0 = now };
+    flags = 1;
+    alarms = rings;
+    pool = p;
+    queued = 1;
+    subs = subs;
+    messages = pad mostSent noMessage [];
+    sent = 0;
+    mail = pad mostTasks noMail [];
+  };
 }
 
 -- the ready levels are 5 and 7
@@ -182,8 +198,45 @@ wrongLight = withQueue entries (no 2 ∷ no 1 ∷ []) (lit + 2 ^ 3)
 unfoldable pub lightOut : Table
 lightOut = withQueue entries (no 2 ∷ no 1 ∷ []) (2 ^ 5)
 
+-- task 2, ready, has a message for 3 and one for 1, which is ready and has not asked; a table with other messages
+abbrev pub mailed : ℕ → ℕ → ℕ → Message
+mailed k s p = record { to = no k; sender = no s; priority = p; text = record { 0 = 7 } }
+
+abbrev pub withWaiting : List Task → List Message → ℕ → Table
+withWaiting ts ms n = withRest (withPost (pad mostSent noMessage ms) n (pad mostTasks noMail []) (sound .rest)) (withEntries ts)
+
+unfoldable pub soundMail : Table
+soundMail = withWaiting entries (mailed 3 2 7 ∷ mailed 1 2 7 ∷ mailed 3 1 5 ∷ []) 3
+
+-- a fitting message left waiting: 4 waits for one from 2, or from any; two messages out of order; a free place that is not
+-- zero; a message from nobody
+unfoldable pub leftWaiting : Table
+leftWaiting = withWaiting (putAt entries 4 (entry (AwaitMessage (no 2)) 3 0 0 nobody)) (mailed 4 2 7 ∷ []) 1
+
+unfoldable pub anyWaiting : Table
+anyWaiting = withWaiting (putAt entries 4 (entry (AwaitMessage nobody) 3 0 0 nobody)) (mailed 1 2 7 ∷ mailed 4 1 5 ∷ []) 2
+
+unfoldable pub lateLetter : Table
+lateLetter = withWaiting entries (mailed 3 1 5 ∷ mailed 3 2 7 ∷ []) 2
+
+unfoldable pub strayLetter : Table
+strayLetter = withWaiting entries (mailed 3 2 7 ∷ []) 0
+
+unfoldable pub fromNobody : Table
+fromNobody = withWaiting entries (mailed 3 0 7 ∷ []) 1
+
+-- a message in a dormant task's entry, and in one past the task count
+abbrev pub mailIn : ℕ → Table
+mailIn i = withRest (withPost (pad mostSent noMessage []) 0 (set (pad mostTasks noMail []) i (record { sender = no 2; text = record { 0 = 7 } })) (sound .rest)) sound
+
+unfoldable pub sleeperMail : Table
+sleeperMail = mailIn 6
+
+unfoldable pub mailBeyond : Table
+mailBeyond = mailIn 11
+
 -- ---- what the check finds of each
--- the eleven tests, in the order of the rules; refused, and by the test at place i alone
+-- the twelve tests, in the order of the rules; refused, and by the test at place i alone
 abbrev pub tests : Table → List Bool
 tests t =
     numbersRight (t .tasks) (t .rest)
@@ -193,25 +246,28 @@ tests t =
     ∷ masksRight (t .tasks) (t .rest)
     ∷ busyRight (t .tasks) (t .rest)
     ∷ waitersRight (t .tasks) (t .rest)
-    ∷ dormantRight (t .tasks)
+    ∷ dormantRight (t .tasks) (t .rest)
     ∷ poolRight (t .rest)
     ∷ subsRight (t .tasks) (t .rest)
+    ∷ messagesRight (t .tasks) (t .rest)
     ∷ levelsRight t
     ∷ []
 
 abbrev pub OnlyBy : ℕ → Table → Type 0
-OnlyBy i t = (isWellFormed t ≡ false) × (tests t ≡ set (replicate 11 true) i false)
+OnlyBy i t = (isWellFormed t ≡ false) × (tests t ≡ set (replicate 12 true) i false)
 
 pub record Broken : Type 0 where
   pub kept : isWellFormed sound ≡ true
-  pub numbers : OnlyBy 0 noGranule × OnlyBy 0 entryBeyond × OnlyBy 0 waitsForEight
+  pub kept-mail : isWellFormed soundMail ≡ true
+  pub numbers : OnlyBy 0 noGranule × OnlyBy 0 entryBeyond × OnlyBy 0 waitsForEight × OnlyBy 0 fromNobody
   pub queue : OnlyBy 1 outOfOrder × OnlyBy 1 twiceReady
   pub times : OnlyBy 2 pauseOver × OnlyBy 2 alarmFar
   pub started : OnlyBy 3 lateStart
   pub masks : OnlyBy 4 noMask × OnlyBy 4 waitOver
   pub busy : OnlyBy 5 idleTarget
   pub waiters : OnlyBy 6 namedTwice × OnlyBy 6 unnamed × OnlyBy 6 ownWaiter
-  pub dormant : OnlyBy 7 sleepTalk
+  pub dormant : OnlyBy 7 sleepTalk × OnlyBy 7 sleeperMail × OnlyBy 7 mailBeyond
   pub pool : OnlyBy 8 strayPlace
   pub subprograms : OnlyBy 9 sleepingHolder × OnlyBy 9 nobodyInside × OnlyBy 9 twiceInLine × OnlyBy 9 lowerFirst × OnlyBy 9 strayInLine × OnlyBy 9 leftOut
-  pub levels : OnlyBy 10 wrongLight × OnlyBy 10 lightOut
+  pub messages : OnlyBy 10 leftWaiting × OnlyBy 10 anyWaiting × OnlyBy 10 lateLetter × OnlyBy 10 strayLetter
+  pub levels : OnlyBy 11 wrongLight × OnlyBy 11 lightOut

@@ -117,7 +117,7 @@ pub record Demands : Type 0 where
   pub decided : (t : Table) (s : List ℕ) → Decides (refusals t s) (stepOf t s .answer .number)
   pub given : (t : Table) (s : List ℕ) (n : ℕ) → (stepOf t s .answer .number ≡ n) ↔ Given t s n
   pub unformed : (t : Table) (s : List ℕ) → (stepOf t s .answer .number ≡ 1) ↔ (WellFormed t → ⊥)
-  pub order : (t : Table) (s : List ℕ) → map (λ (r : Refusal). r .number) (refusals t s) ≡ 1 ∷ 3 ∷ 4 ∷ 3 ∷ 5 ∷ 6 ∷ 13 ∷ 14 ∷ 15 ∷ 7 ∷ 9 ∷ 8 ∷ 10 ∷ []
+  pub order : (t : Table) (s : List ℕ) → map (λ (r : Refusal). r .number) (refusals t s) ≡ 1 ∷ 3 ∷ 4 ∷ 3 ∷ 5 ∷ 6 ∷ 13 ∷ 14 ∷ 15 ∷ 7 ∷ 9 ∷ 8 ∷ 16 ∷ 10 ∷ []
   pub kept : (t : Table) (ss : List (List ℕ)) → WellFormed t → AllBytes ss → WellFormed (after t ss)
   -- the step executes its plan
   pub executed : (t : Table) (s : List ℕ) → WellFormed t → Bytes s → stepOf t s .table ≡ apply (planOfRecord t s) t

@@ -70,6 +70,8 @@ turnOf t (call.Task p m) = other
 turnOf t call.End = other
 turnOf t (call.Enter m) = other
 turnOf t (call.Exit m) = other
+turnOf t (call.Send k x) = other
+turnOf t (call.Receive k) = other
 
 -- of a record's bytes: a refused one is nothing to the book
 unfoldable pub turnIn : Table → List ℕ → Turn

@@ -15,6 +15,7 @@ use Rattle.executive.specs.Numbers.{mostTasks, mostQueued, flagCount, hi
 use Rattle.executive.specs.Queue.{Item, inserts}
 use Rattle.executive.specs.Lists.{pad}
 use Rattle.executive.specs.Places.{nobody, never, noTask, noRequest}
+use Rattle.executive.specs.Messages.{noText}
 use Rattle.executive.specs.Table.{view, FindsRoom}
 use Rattle.executive.specs.WellFormed.{WellFormed}
 use Rattle.executive.specs.Configuration.{tasksIn, configurationIn, isConfiguration, zeroTable, dormantAt, dormantTable}
@@ -69,7 +70,18 @@ pub record SaidOut (g : ℕ) (es : List Entry) (t : Table) : Type 0 where
 
 -- the answer to bytes that are no configuration
 abbrev pub noConfiguration : Answer
-noConfiguration = record { number = 2; z = false; v = false; c = false; active = nobody; argument = 0; skipped = 0; walked = 0 }
+noConfiguration = record {
+  number = 2;
+  z = false;
+  v = false;
+  c = false;
+  active = nobody;
+  argument = 0;
+  skipped = 0;
+  walked = 0;
+  sender = nobody;
+  text = noText;
+}
 
 -- the configuration of 01's listing
 abbrev pub listing : List ℕ

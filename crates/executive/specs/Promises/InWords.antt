@@ -8,15 +8,16 @@ use lib.ListN.{length, getD}
 use Rattle.records.specs.declared.TaskNo.{TaskNo}
 use Rattle.records.specs.declared.FlagNo.{FlagNo}
 use Rattle.records.specs.declared.SubNo.{SubNo}
+use Rattle.records.specs.declared.Text.{Text}
 use Rattle.records.specs.declared.Kind.{Kind}
 use Rattle.records.specs.declared.Kind.the-variants as kind
 use Rattle.records.specs.declared.Call.{Call}
 use Rattle.records.specs.declared.Call.the-variants as call
 use Rattle.records.specs.Kinds.{lengthOf}
-use Rattle.executive.specs.declared.State.the-variants.{Dormant}
+use Rattle.executive.specs.declared.State.the-variants.{Dormant, AwaitMessage}
 use Rattle.executive.specs.declared.Table.{Table}
-use Rattle.executive.specs.Numbers.{lastUnit, lastSub, mostQueued, endOfTime}
-use Rattle.executive.specs.Places.{never}
+use Rattle.executive.specs.Numbers.{lastUnit, lastSub, mostQueued, mostSent, endOfTime}
+use Rattle.executive.specs.Places.{nobody, never}
 use Rattle.executive.specs.Subprograms.{subAt}
 use Rattle.executive.specs.Plans.{caller, stateAt}
 use Rattle.executive.specs.WellFormed.{WellFormed}
@@ -31,7 +32,8 @@ abbrev pub NoCall : Kind → Type 0
 NoCall k = (k ≡ kind.Unknown) ⊎ ((k ≡ kind.Granule) ⊎ ((k ≡ kind.Task) ⊎ (k ≡ kind.End)))
 
 -- ---- 6: task not 1 to the task count; flag over 31; unit over 5 in 02 or 0B; operation over 2; mode over 1; mask 0;
--- in 01 both bits 7 and 6 (02); in 04 any of bits 6..4; in 05 both bits 6 and 5; subprogram over 7 in 06 or 07 (02)
+-- in 01 both bits 7 and 6 (02); in 04 any of bits 6..4; in 05 both bits 6 and 5; subprogram over 7 in 06 or 07, in
+-- 15 a sender over the task count (02)
 abbrev pub NoTask : Table → TaskNo → Type 0
 NoTask t k = (k .0 ≡ 0) ⊎ (t .rest .count < k .0)
 
@@ -51,6 +53,8 @@ BadBody t (call.Task p m) = ⊥
 BadBody t call.End = ⊥
 BadBody t (call.Enter m) = lastSub < m .0
 BadBody t (call.Exit m) = lastSub < m .0
+BadBody t (call.Send k x) = NoTask t k
+BadBody t (call.Receive k) = t .rest .count < k .0
 
 -- ---- 13 to 15 (02): the call is a 06 or a 07 of which something is said; a 00 or a 01
 pub record IsSub (kind : SubNo → Call) (P : SubNo → Type 0) (c : Call) : Type 0 where
@@ -110,6 +114,21 @@ AlarmRunning t = IsAlarm (λ f. getD (t .rest .alarms) (f .0) never .0 ≢ 0)
 abbrev pub PoolFull : Table → Call → Type 0
 PoolFull t = IsQueue (λ o k. (stateAt t k ≢ Dormant) × (mostQueued ≤ t .rest .queued))
 
+-- ---- 16 (02): the call is a 14 of which something is said
+pub record IsSend (P : TaskNo → Type 0) (c : Call) : Type 0 where
+  pub addressee : TaskNo
+  pub text : Text
+  pub call : c ≡ call.Send addressee text
+  pub said : P addressee
+
+-- task k waits for a message from the caller, or from any task
+abbrev pub AwaitsCaller : Table → TaskNo → Type 0
+AwaitsCaller t k = (stateAt t k ≡ AwaitMessage (caller t)) ⊎ (stateAt t k ≡ AwaitMessage nobody)
+
+-- 14, the message would have to wait, 32 wait
+abbrev pub MailFull : Table → Call → Type 0
+MailFull t = IsSend (λ k. (AwaitsCaller t k → ⊥) × (mostSent ≤ t .rest .sent))
+
 -- ---- the cases, in their order: a number, and when it is given
 pub record Case : Type 1 where
   pub number : ℕ
@@ -132,6 +151,7 @@ cases t s =
     ∷ case 7 (NamesCaller t (callIn s))
     ∷ case 9 (AlarmRunning t (callIn s))
     ∷ case 8 (PoolFull t (callIn s))
+    ∷ case 16 (MailFull t (callIn s))
     ∷ case 10 ((callIn s ≡ call.Tick) × (endOfTime < t .rest .clock .0 + t .rest .granule))
     ∷ []
 

@@ -23,6 +23,12 @@ with-waiter-requires c κs = rw (c .before .change6 .given .1) at (c .before .be
 handed-on-requires : tie.Need-handed-on-requires
 handed-on-requires c κs = rw (c .before .change7 .given .1) at (c .before .before .before .pre .1)
 
+with-letter-requires : tie.Need-with-letter-requires
+with-letter-requires c κs = rw (c .before .change8 .given .1) at (c .before .before .before .pre .1)
+
+without-letter-requires : tie.Need-without-letter-requires
+without-letter-requires c κs = rw (c .before .change10 .given .1) at (c .before .before .before .pre .1)
+
 returns : tie.Need-returns
 returns c = simp (c .enum-told .given .1)
 
@@ -50,6 +56,15 @@ returns-8 c = simp (c .before .before .change6 .given .1, c .with-waiter .ensure
 returns-9 : tie.Need-returns-9
 returns-9 c = simp (c .before .before .change7 .given .1, c .handed-on .ensures)
 
+returns-10 : tie.Need-returns-10
+returns-10 c = simp (c .before .before .change8 .given .1, c .with-letter .ensures)
+
+returns-11 : tie.Need-returns-11
+returns-11 c = simp (c .before .before .change9 .given .1, c .with-mail .ensures)
+
+returns-12 : tie.Need-returns-12
+returns-12 c = simp (c .before .before .change10 .given .1, c .without-letter .ensures)
+
 pub changed-spec : {M : Type 1} → statement M
 changed-spec =
     tie.close
@@ -71,6 +86,12 @@ changed-spec =
     with-waiter-requires
     (λ c. search needs)
     handed-on-requires
+    (λ c. search needs)
+    with-letter-requires
+    (λ c. search needs)
+    (λ c κs. search needs)
+    (λ c. search needs)
+    without-letter-requires
     returns
     returns-2
     returns-3
@@ -79,4 +100,7 @@ changed-spec =
     returns-6
     returns-7
     returns-8
-    returns-9)
+    returns-9
+    returns-10
+    returns-11
+    returns-12)

@@ -1,4 +1,4 @@
--- `Table::step_call` meets its contract: the record fits six bytes, its start is the call's bytes, and the step is theirs.
+-- `Table::step_call` meets its contract: the record fits ten bytes, its start is the call's bytes, and the step is theirs.
 use Prim.Native.Nat.{ℕ, _≤_}
 use mathlib.Core.Path.{_≡_, sym, ap, _∙_}
 use mathlib.Core.List.{List}
@@ -15,7 +15,7 @@ use Rattle.executive.proofs.Table.step_call.Statement.{statement}
 use Rattle.executive.proofs.Table.step_call.Tie as tie
 
 abbrev zeros : List ℕ
-zeros = replicate 6 0
+zeros = replicate 10 0
 
 abbrev count : tie.After-known-told → ℕ
 count c = c .before .n .given .0 .0

@@ -17,7 +17,9 @@ of-size s =
     let l1 : length (r .alarms) ≡ 32 = sym (length-map (r .alarms) _) ∙ s .good .1 .0 .1 .1 .1 .1 .1 .1 .0 .1 .0 .1 in
     let l2 : length (r .pool) ≡ 32 = sym (length-map (r .pool) _) ∙ s .good .1 .0 .1 .1 .1 .1 .1 .1 .1 .0 .1 .0 .1 in
     let l3 : length (r .subs) ≡ 8 = sym (length-map (r .subs) _) ∙ s .good .1 .0 .1 .1 .1 .1 .1 .1 .1 .1 .1 .0 .1 .0 .1 in
-    sized (s .args .tasks) r (s .good .0 .1 .0 .1) l1 l2 l3
+    let l4 : length (r .messages) ≡ 32 = sym (length-map (r .messages) _) ∙ s .good .1 .0 .1 .1 .1 .1 .1 .1 .1 .1 .1 .1 .0 .1 .0 .1 in
+    let l5 : length (r .mail) ≡ 16 = sym (length-map (r .mail) _) ∙ s .good .1 .0 .1 .1 .1 .1 .1 .1 .1 .1 .1 .1 .1 .1 .0 .1 .0 .1 in
+    sized (s .args .tasks) r (s .good .0 .1 .0 .1) l1 l2 l3 l4 l5
 
 -- the counts, where they are in bounds
 of-bounds : (s : tie.Start) → inBounds (s .args .rest .count) (s .args .rest .granule) (s .args .rest .clock) (s .args .rest .queued) ≡ true
@@ -105,7 +107,7 @@ subs-right-requires c κs =
 returns-6 : tie.Need-returns-6
 unfolding inPasses
 returns-6 c =
-    let f = c .before .before in
+    let f = c .before .before .before in
     let e = f .before .before .before .before in
     let d = e .before .before .before in
     let b = d .before .before in
@@ -115,7 +117,45 @@ returns-6 c =
     (and-true-left _ _ _ (sym (b .before .entries-right .ensures) ∙ not-false _ (b .if2 .left))
     (and-true-left _ _ _ (sym (d .before .blank-past .ensures) ∙ not-false _ (d .if3 .left))
     (and-true-left _ _ _ (sym (e .before .all-alarms .ensures) ∙ not-false _ (e .if4 .left))
-    (and-true-left _ _ _ (sym (f .before .pool-right .ensures) ∙ not-false _ (f .if5 .left)) (c .subs-right .ensures))))))
+    (and-true-left _ _ _ (sym (f .before .pool-right .ensures) ∙ not-false _ (f .if5 .left))
+    (and-false-left _ _ (sym (c .before .subs-right .ensures) ∙ not-true _ (c .if6 .taken))))))))
+
+returns-7 : tie.Need-returns-7
+unfolding inPasses
+returns-7 c =
+    let g = c .before .before .before in
+    let f = g .before .before .before in
+    let e = f .before .before .before .before in
+    let d = e .before .before .before in
+    let b = d .before .before in
+    let a = b .before .before in
+    of-size (a .before .before .before)
+    (and-true-left _ _ _ (sym (a .before .in-bounds .ensures) ∙ not-false _ (a .if1 .left))
+    (and-true-left _ _ _ (sym (b .before .entries-right .ensures) ∙ not-false _ (b .if2 .left))
+    (and-true-left _ _ _ (sym (d .before .blank-past .ensures) ∙ not-false _ (d .if3 .left))
+    (and-true-left _ _ _ (sym (e .before .all-alarms .ensures) ∙ not-false _ (e .if4 .left))
+    (and-true-left _ _ _ (sym (f .before .pool-right .ensures) ∙ not-false _ (f .if5 .left))
+    (and-true-left _ _ _ (sym (g .before .subs-right .ensures) ∙ not-false _ (g .if6 .left))
+    (and-false-left _ _ (sym (c .before .sent-right .ensures) ∙ not-true _ (c .if7 .taken)))))))))
+
+returns-8 : tie.Need-returns-8
+unfolding inPasses
+returns-8 c =
+    let h = c .before .before in
+    let g = h .before .before .before in
+    let f = g .before .before .before in
+    let e = f .before .before .before .before in
+    let d = e .before .before .before in
+    let b = d .before .before in
+    let a = b .before .before in
+    of-size (a .before .before .before)
+    (and-true-left _ _ _ (sym (a .before .in-bounds .ensures) ∙ not-false _ (a .if1 .left))
+    (and-true-left _ _ _ (sym (b .before .entries-right .ensures) ∙ not-false _ (b .if2 .left))
+    (and-true-left _ _ _ (sym (d .before .blank-past .ensures) ∙ not-false _ (d .if3 .left))
+    (and-true-left _ _ _ (sym (e .before .all-alarms .ensures) ∙ not-false _ (e .if4 .left))
+    (and-true-left _ _ _ (sym (f .before .pool-right .ensures) ∙ not-false _ (f .if5 .left))
+    (and-true-left _ _ _ (sym (g .before .subs-right .ensures) ∙ not-false _ (g .if6 .left))
+    (and-true-left _ _ _ (sym (h .before .sent-right .ensures) ∙ not-false _ (h .if7 .left)) (c .mail-right .ensures))))))))
 
 pub all-but-queue-spec : {M : Type 1} → statement M
 all-but-queue-spec =
@@ -134,4 +174,8 @@ all-but-queue-spec =
     pool-right-requires
     returns-5
     subs-right-requires
-    returns-6)
+    returns-6
+    (λ c κs. search needs)
+    returns-7
+    (λ c κs. search needs)
+    returns-8)

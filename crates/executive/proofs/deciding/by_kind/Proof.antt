@@ -19,6 +19,12 @@ alarm-requires c κs = c .before .before .before .before .before .before .pre .c
 enter-requires : tie.Need-enter-requires
 enter-requires c κs = rw (c .sub-at .ensures) (c .before .before .before .before .before .before .pre .waiting _)
 
+send-requires : tie.Need-send-requires
+send-requires c κs = c .before .before .before .before .before .before .before .pre .sent
+
+receive-requires : tie.Need-receive-requires
+receive-requires c κs = c .before .before .before .before .before .pre .sent
+
 tick-requires : tie.Need-tick-requires
 tick-requires c κs = (c .before .before .before .before .pre .clock, c .before .before .before .before .pre .unmet)
 
@@ -82,6 +88,14 @@ returns-15 : tie.Need-returns-15
 unfolding decided
 returns-15 c = rw (c .exit .ensures, c .before .sub-at2 .ensures, c .before .before .before .before .call10 .given .1) refl
 
+returns-16 : tie.Need-returns-16
+unfolding decided
+returns-16 c = rw (c .send .ensures, c .before .before .task-at6 .ensures, c .before .before .before .task-at5 .ensures, c .before .before .before .before .before .call11 .given .1) refl
+
+returns-17 : tie.Need-returns-17
+unfolding decided
+returns-17 c = rw (c .receive .ensures, c .before .before .before .call12 .given .1) refl
+
 pub by-kind-spec : {M : Type 1} → statement M
 by-kind-spec =
     tie.close
@@ -125,6 +139,12 @@ by-kind-spec =
     (λ c. search needs)
     (λ c κs. search needs)
     (λ c κs. search needs)
+    (λ c. search needs)
+    (λ c κs. search needs)
+    (λ c κs. search needs)
+    send-requires
+    (λ c. search needs)
+    receive-requires
     returns
     returns-2
     returns-3
@@ -139,4 +159,6 @@ by-kind-spec =
     returns-12
     returns-13
     returns-14
-    returns-15)
+    returns-15
+    returns-16
+    returns-17)

@@ -11,9 +11,10 @@ use Rattle.executive.proofs.promises.Waking.{waking}
 use Rattle.executive.proofs.promises.Walks.{walks}
 use Rattle.executive.proofs.promises.LampLaw.{lamp-law}
 use Rattle.executive.proofs.promises.SubLaw.{sub-law}
+use Rattle.executive.proofs.promises.MailLaw.{mail-law}
 
 returns : tie.Need-returns
-returns c = (demands, queue-law, worked, skipping, every-start, by-decision, waking, walks, lamp-law, sub-law)
+returns c = (demands, queue-law, worked, skipping, every-start, by-decision, waking, walks, lamp-law, sub-law, mail-law)
 
 pub promised-spec : {M : Type 1} → statement M
 promised-spec = tie.close (tie.spec returns)

@@ -26,6 +26,9 @@ enum-told-5 c = search needs
 enum-told-6 : tie.Need-enum-told-6
 enum-told-6 c = search needs
 
+enum-told-7 : tie.Need-enum-told-7
+enum-told-7 c = search needs
+
 returns : tie.Need-returns
 returns c = search needs
 
@@ -50,6 +53,9 @@ returns-7 c = rw (c .enum-told5 .given .1)
 returns-8 : tie.Need-returns-8
 returns-8 c = rw (c .enum-told6 .given .1)
 
+returns-9 : tie.Need-returns-9
+returns-9 c = rw (c .enum-told7 .given .1)
+
 pub time-of-spec : {M : Type 1} → statement M
 time-of-spec =
     tie.close
@@ -62,6 +68,7 @@ time-of-spec =
     enum-told-4
     enum-told-5
     enum-told-6
+    enum-told-7
     returns
     returns-2
     returns-3
@@ -69,4 +76,5 @@ time-of-spec =
     returns-5
     returns-6
     returns-7
-    returns-8)
+    returns-8
+    returns-9)
