@@ -181,6 +181,7 @@ module _ (t : Table) (w : WellFormed t) (k : ℕ) (pos : 0 < k) where
           (λ z. omega (arith, ends e, leb-true (endsOf k rs) 0 z))
           (λ z. absurd (omega (arith, named-some (λ r. r .«end_waiter») false k rs end-same (leb-false (endsOf k rs) 0 z), leb-false (namedAt false k rs) (length rs) h)))
   holds-in (state.AwaitSub m) e = (e, refl)
+  holds-in (state.AwaitMessage s) e = e
 
   pub holds-of : Holds t k (causeOf t k)
   unfolding causeOf
@@ -221,3 +222,4 @@ module _ (t : Table) (w : WellFormed t) (k : ℕ) (pos : 0 < k) where
       let y : causeIn t k state.AwaitEnd ≡ cause.EndOfRun (record { 0 = runAt k (t .tasks) }) = rw (lt-leb (namedAt false k rs) (length rs) l) refl in
       ap (λ i. cause.EndOfRun (record { 0 = i })) n ∙ sym y ∙ cause-is state.AwaitEnd (h .0)
   only (cause.Subprogram m j) h = ap (cause.Subprogram m) (sym (h .1)) ∙ cause-is (state.AwaitSub m) (h .0)
+  only (cause.Message s) h = cause-is (state.AwaitMessage s) h

@@ -65,6 +65,7 @@ module _ {A : Type 0} (part : Reasons → A) (t : Table) (a : A) where
   keep-cause go (cause.EndOfRequest i j) p f e = f _
   keep-cause go (cause.EndOfRun j) p f e = f _
   keep-cause go (cause.Subprogram m j) p f e = f _
+  keep-cause go (cause.Message s) p f e = e
 
   either : (b : Bool) (x y : Reasons) → part x ≡ a → part y ≡ a → part (cond b x y) ≡ a
   either true x y e f = e

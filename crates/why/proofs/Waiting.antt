@@ -45,6 +45,7 @@ named (cause.Start p j) = j .0
 named (cause.EndOfRequest p j) = j .0
 named (cause.EndOfRun j) = j .0
 named (cause.Subprogram m j) = j .0
+named (cause.Message s) = 0
 
 abbrev pub onto : Table → ℕ → ℕ
 onto t k = named (causeOf t k)
@@ -65,6 +66,7 @@ names-named (cause.Start p i) j n = n
 names-named (cause.EndOfRequest p i) j n = n
 names-named (cause.EndOfRun i) j n = n
 names-named (cause.Subprogram m i) j n = n
+names-named (cause.Message s) j n = absurd n
 
 named-names : (c : Cause) → 0 < named c → Names c (named c)
 named-names cause.Dormant h = absurd (omega arith)
@@ -77,6 +79,7 @@ named-names (cause.Start p i) h = refl
 named-names (cause.EndOfRequest p i) h = refl
 named-names (cause.EndOfRun i) h = refl
 named-names (cause.Subprogram m i) h = refl
+named-names (cause.Message s) h = absurd (omega arith)
 
 -- no element adds to a sum that is 0
 none-adds : {A : Type 0} (f : A → ℕ) (d : A) (l : List A) (i : ℕ) → sumOf f l ≡ 0 → i < length l → f (getD l i d) ≡ 0
@@ -164,6 +167,7 @@ module _ (t : Table) (w : WellFormed t) where
         inr (request-within _ k p j (h .1), λ go q. ap go (sym (target-is (requests (t .rest)) p (h .1 .from)) ∙ h .1 .target))
     leads (cause.EndOfRun j) h = inr (run-within (j .0) (h .1), λ go p. refl)
     leads (cause.Subprogram m j) h = inr (holder-within m j (h .0) (h .1), λ go p. ap go (h .1))
+    leads (cause.Message s) h = inl (refl, λ go p. refl)
 
     -- ---- waiting is by the one cause
     within-of : (c : Cause) → Holds t k c → (j : ℕ) → Names c j → Within j
@@ -177,6 +181,7 @@ module _ (t : Table) (w : WellFormed t) where
     within-of (cause.EndOfRequest p i) h j n = rw (← n) (request-within _ k p i (h .1))
     within-of (cause.EndOfRun i) h j n = rw (← n) (run-within (i .0) (h .1))
     within-of (cause.Subprogram m i) h j n = rw (← n) (holder-within m i (h .0) (h .1))
+    within-of (cause.Message s) h j n = absurd n
 
     pub waits-onto : (j : ℕ) → WaitsOn t k j → (onto t k ≡ j) × Within j
     waits-onto j x = (

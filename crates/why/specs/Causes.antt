@@ -87,6 +87,7 @@ causeIn t k (state.Flags m mask) = cause.Flags m (missing (t .rest .flags) mask)
 causeIn t k state.AwaitStart = startCause k (requests (t .rest))
 causeIn t k state.AwaitEnd = endCause k (t .tasks) (requests (t .rest))
 causeIn t k (state.AwaitSub m) = subCause m (t .rest .subs)
+causeIn t k (state.AwaitMessage s) = cause.Message s
 
 unfoldable pub causeOf : Table → ℕ → Cause
 causeOf t k = causeIn t k (stateAt t k)
@@ -115,6 +116,7 @@ Holds t k (cause.Start p j) = (stateAt t k ≡ state.AwaitStart) × NamedBy (λ 
 Holds t k (cause.EndOfRequest p j) = (stateAt t k ≡ state.AwaitEnd) × NamedBy (λ r. r .«end_waiter») (requests (t .rest)) k p j
 Holds t k (cause.EndOfRun j) = (stateAt t k ≡ state.AwaitEnd) × (taskAt (t .tasks) (j .0) .«end_waiter» .0 ≡ k)
 Holds t k (cause.Subprogram m j) = (stateAt t k ≡ state.AwaitSub m) × (holderAt (m .0) (t .rest .subs) ≡ j)
+Holds t k (cause.Message s) = stateAt t k ≡ state.AwaitMessage s
 
 -- the cause names task j
 abbrev pub Names : Cause → ℕ → Type 0
@@ -128,6 +130,7 @@ Names (cause.Start p i) j = i .0 ≡ j
 Names (cause.EndOfRequest p i) j = i .0 ≡ j
 Names (cause.EndOfRun i) j = i .0 ≡ j
 Names (cause.Subprogram m i) j = i .0 ≡ j
+Names (cause.Message s) j = ⊥
 
 -- some cause that names j holds of k
 abbrev pub WaitsOn : Table → ℕ → ℕ → Type 0

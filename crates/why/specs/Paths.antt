@@ -65,6 +65,7 @@ byCause go (cause.Start i k) p = go (on.Request i)
 byCause go (cause.EndOfRequest i k) p = go (on.Request i)
 byCause go (cause.EndOfRun k) p = go (on.Run k)
 byCause go (cause.Subprogram m k) p = go (on.Held m)
+byCause go (cause.Message s) p = p
 
 -- the path p goes on at task k, with so many tasks not met yet: a task that has been met closes a ring
 unfoldable pub taskPath : ℕ → Table → TaskNo → Reasons → Reasons

@@ -3,6 +3,7 @@ use Prim.Native.Nat.{ℕ, zero, suc, _/_, _%_, _^_}
 use mathlib.Core.Bool.{cond}
 use mathlib.Core.List.{List, [], _∷_, _++_}
 use lib.Dec.{eqb}
+use Rattle.records.specs.declared.TaskNo.{TaskNo}
 use Rattle.executive.specs.declared.Millis.{Millis}
 use Rattle.executive.specs.declared.Mode.{Mode}
 use Rattle.executive.specs.declared.Mode.the-variants.{Any, All}
@@ -91,6 +92,14 @@ subprogramWord = 115 ∷ 117 ∷ 98 ∷ 112 ∷ 114 ∷ 111 ∷ 103 ∷ 114 ∷ 
 abbrev pub heldWords : List ℕ
 heldWords = 44 ∷ 32 ∷ 104 ∷ 101 ∷ 108 ∷ 100 ∷ 32 ∷ 98 ∷ 121 ∷ 32 ∷ 116 ∷ 97 ∷ 115 ∷ 107 ∷ 32 ∷ []
 
+-- a message from
+abbrev pub messageFromWords : List ℕ
+messageFromWords = 97 ∷ 32 ∷ 109 ∷ 101 ∷ 115 ∷ 115 ∷ 97 ∷ 103 ∷ 101 ∷ 32 ∷ 102 ∷ 114 ∷ 111 ∷ 109 ∷ 32 ∷ []
+
+-- any task
+abbrev pub anyTaskWords : List ℕ
+anyTaskWords = 97 ∷ 110 ∷ 121 ∷ 32 ∷ 116 ∷ 97 ∷ 115 ∷ 107 ∷ []
+
 -- ring
 abbrev pub ringWord : List ℕ
 ringWord = 114 ∷ 105 ∷ 110 ∷ 103 ∷ []
@@ -115,6 +124,10 @@ abbrev pub modeWords : Mode → List ℕ
 modeWords Any = waitsWords ++ (anyWord ++ flagsWords)
 modeWords All = waitsWords ++ (allWord ++ flagsWords)
 
+abbrev pub messageWords : TaskNo → List ℕ
+messageWords s =
+    cond (eqb (s .0) 0) (waitsWords ++ (messageFromWords ++ anyTaskWords)) (wordedOf (waitsWords ++ (messageFromWords ++ taskWord)) (s .0))
+
 -- why a task is not running
 abbrev pub causeText : Cause → List ℕ
 causeText cause.Dormant = dormantWords
@@ -127,6 +140,7 @@ causeText (cause.Start p j) = saidOf (waitsWords ++ requestWord) p beginWords ++
 causeText (cause.EndOfRequest p j) = saidOf (waitsWords ++ (endOfWords ++ requestWord)) p runOnWords ++ decimalOf (j .0)
 causeText (cause.EndOfRun j) = saidOf (waitsWords ++ (endOfWords ++ taskWord)) (j .0) runWords
 causeText (cause.Subprogram m j) = saidOf (waitsWords ++ subprogramWord) (m .0) heldWords ++ decimalOf (j .0)
+causeText (cause.Message s) = messageWords s
 
 -- the line of a step, and those of some steps
 unfoldable pub stepLine : Step → List ℕ

@@ -171,5 +171,6 @@ pub(crate) fn cause_of(t: Table, k: TaskNo) -> Cause
             let subs = t.rest.subs;
             by_sub(subs, m)
         }
+        State::AwaitMessage(s) => Cause::Message(s),
     }
 }

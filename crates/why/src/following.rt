@@ -113,6 +113,7 @@ fn follow_task(t: Table, k: TaskNo, path: Reasons) -> Reasons
         Cause::EndOfRequest(p, _) => follow_link(t, On::Request(p), on),
         Cause::EndOfRun(j) => follow_link(t, On::Run(j), on),
         Cause::Subprogram(m, _) => follow_link(t, On::Held(m), on),
+        Cause::Message(_) => on,
     }
 }
 

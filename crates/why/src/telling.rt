@@ -4,6 +4,7 @@ use crate::Reasons;
 use crate::Step;
 use executive::Millis;
 use executive::Mode;
+use records::TaskNo;
 use text::glyphs;
 ghost use mathlib.Core.Path.{_≡_};
 ghost use mathlib.Core.Bool.{cond};
@@ -12,7 +13,7 @@ ghost use Prim.Native.Nat.{_+_, _-_, _%_, _≤_};
 ghost use lib.Dec.{eqb};
 ghost use lib.ListN.{length, take, drop};
 ghost use Rattle.text.specs.Glyphs.{Adds, decimalOf};
-ghost use Rattle.why.specs.Texts.{wordedOf, saidOf, bitsOf, modeWords, causeText, stepLine, stepLines, taskNumbers, ringLine, textOf, Tells};
+ghost use Rattle.why.specs.Texts.{wordedOf, saidOf, bitsOf, modeWords, messageWords, causeText, stepLine, stepLines, taskNumbers, ringLine, textOf, Tells};
 
 // A number, of up to 20 digits.
 fn number(out: &mut [u8], at: usize, n: u64) -> usize
@@ -78,6 +79,17 @@ fn mode_words(out: &mut [u8], at: usize, mode: Mode) -> usize
     }
 }
 
+// That a task waits for a message, from one task or from any.
+fn message_words(out: &mut [u8], at: usize, s: TaskNo) -> usize
+    requires { ⌜ at + 64 ≤ length (now out) ⌝ }
+    ensures { λ r. ⌜ Adds (now (out .entry)) at (now (out .exit)) r (messageWords s) × (r ≤ at + 64) ⌝ }
+{
+    if s.0 == 0 {
+        return glyphs::text(out, at, b" waits for a message from any task");
+    }
+    worded(out, at, b" waits for a message from task ", s.0 as u64)
+}
+
 // Why a task is not running.
 fn cause_text(out: &mut [u8], at: usize, cause: Cause) -> usize
     requires { ⌜ at + 1728 ≤ length (now out) ⌝ }
@@ -130,6 +142,7 @@ fn cause_text(out: &mut [u8], at: usize, cause: Cause) -> usize
             );
             number(out, a, j.0 as u64)
         }
+        Cause::Message(s) => message_words(out, at, s),
     }
 }
 

@@ -47,6 +47,11 @@ returns-8 c =
     let a = c .before .before .before .before .before .before .before .before .before .args in
     cause-at (a .t) (a .k .0) (c .before .before .before .before .before .task-at .ensures) (c .before .before .before .s4 .given .1) (c .by-sub .ensures)
 
+returns-9 : tie.Need-returns-9
+returns-9 c =
+    let a = c .before .before .before .before .before .before .before .args in
+    cause-at (a .t) (a .k .0) (c .before .before .before .task-at .ensures) (c .before .s5 .given .1) refl
+
 pub cause-of-spec : {M : Type 1} → statement M
 cause-of-spec =
     tie.close
@@ -65,6 +70,7 @@ cause-of-spec =
     (λ c κs. search needs)
     (λ c. search needs)
     (λ c κs. search needs)
+    (λ c. search needs)
     returns
     returns-2
     returns-3
@@ -72,4 +78,5 @@ cause-of-spec =
     returns-5
     returns-6
     returns-7
-    returns-8)
+    returns-8
+    returns-9)

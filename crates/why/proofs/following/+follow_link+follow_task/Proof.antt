@@ -475,6 +475,20 @@ follow-task-follow-link-requires-4 t c κs =
     let m = ap (λ (x : Reasons). x .length) (c .before .before .before .with-step .ensures) in
     (omega (arith, m), (c .before .before .before .before .before .before .before .before .before .before .before .pre .1 .0, omega (arith, m)))
 
+follow-task-enum-told-7 : (t : ℕ) → follow-task-lts.Need-enum-told-7 (
+  met-at-reads.Asked,
+  met-at-reads.Learnt,
+  with-ring-reads.Asked,
+  with-ring-reads.Learnt,
+  cause-of-reads.Asked,
+  cause-of-reads.Learnt,
+  with-step-reads.Asked,
+  with-step-reads.Learnt,
+  follow-link-below t,
+  follow-link.Post,
+) (follow-task-at t) follow-task.Post
+follow-task-enum-told-7 t c = search needs
+
 follow-task-returns-3 : (t : ℕ) → follow-task-lts.Need-returns-3 (
   met-at-reads.Asked,
   met-at-reads.Learnt,
@@ -615,6 +629,20 @@ follow-task-returns-12 : (t : ℕ) → follow-task-lts.Need-returns-12 (
 ) (follow-task-at t) follow-task.Post
 follow-task-returns-12 t c = met-first t (c .before .before .before .before) (c .before .before .cause4 .given .1) (c .follow-link4 .ensures)
 
+follow-task-returns-13 : (t : ℕ) → follow-task-lts.Need-returns-13 (
+  met-at-reads.Asked,
+  met-at-reads.Learnt,
+  with-ring-reads.Asked,
+  with-ring-reads.Learnt,
+  cause-of-reads.Asked,
+  cause-of-reads.Learnt,
+  with-step-reads.Asked,
+  with-step-reads.Learnt,
+  follow-link-below t,
+  follow-link.Post,
+) (follow-task-at t) follow-task.Post
+follow-task-returns-13 t c = met-first t (c .before .before) (c .enum-told7 .given .1) refl
+
 pub +follow-link+follow-task-spec : {M : Type 1} → statement M
 +follow-link+follow-task-spec = close μ-follow-link μ-follow-task (λ t. follow-link-lts.spec (
   target-at-reads.Asked,
@@ -671,6 +699,7 @@ pub +follow-link+follow-task-spec : {M : Type 1} → statement M
     (follow-task-follow-link-requires-3 t)
     (follow-task-enum-known-cause-4 t)
     (follow-task-follow-link-requires-4 t)
+    (follow-task-enum-told-7 t)
     (follow-task-returns-3 t)
     (follow-task-returns-4 t)
     (follow-task-returns-5 t)
@@ -681,3 +710,4 @@ pub +follow-link+follow-task-spec : {M : Type 1} → statement M
     (follow-task-returns-10 t)
     (follow-task-returns-11 t)
     (follow-task-returns-12 t)
+    (follow-task-returns-13 t)

@@ -77,6 +77,12 @@ returns-10 c =
     let at-cause8 = at-said6 .before .before .before .before .before .before in
     rw (at-cause8 .cause8 .given .1) (then (at-said6 .said6 .ensures .0) (at-number3 .number3 .ensures .0), omega (arith, at-said6 .said6 .ensures .1, at-number3 .number3 .ensures .1))
 
+returns-11 : tie.Need-returns-11
+returns-11 c =
+    let at-message-words = c .before .before in
+    let at-cause9 = at-message-words .before .before .before in
+    rw (at-cause9 .cause9 .given .1) (at-message-words .message-words .ensures .0, omega (arith, at-message-words .message-words .ensures .1))
+
 pub cause-text-spec : {M : Type 1} → statement M
 cause-text-spec =
     tie.close
@@ -129,6 +135,8 @@ cause-text-spec =
     (λ c. search needs)
     (λ c κs. search needs)
     (λ c. search needs)
+    (λ c κs. search needs)
+    (λ c. search needs)
     returns
     (λ c. search needs)
     returns-2
@@ -147,4 +155,6 @@ cause-text-spec =
     (λ c. search needs)
     returns-9
     (λ c. search needs)
-    returns-10)
+    returns-10
+    (λ c. search needs)
+    returns-11)
