@@ -21,6 +21,7 @@ use Rattle.board.specs.Blocks.{row, blocks}
 use Rattle.board.specs.Image.{taskWidths, placeWidths, headWidths, alarmWidths, requestWidths, levelsWidths, awaitedWidths, subWidths}
 use Rattle.board.specs.Image.{taskNumbers, awaitedNumbers, taskBytes, placeBytes, alarmBytes, requestBytes, awaitedBytes, subBytes}
 use Rattle.board.specs.Image.{taskFrom, placeFrom, alarmFrom, requestFrom, subFrom, queueAt, headAt, alarmsAt, poolAt, levelsAt, awaitedAt, subsAt, imageLength, taskLength, subLength}
+use Rattle.board.specs.Image.{messageWidths, sentWidths, mailWidths, messageBytes, mailBytes, messageFrom, mailFrom, messagesAt, sentAt, mailsAt, messageLength, mailLength}
 use Rattle.board.specs.Image.{imageOf, loadOf, isImage}
 use Rattle.board.specs.Coding.{areOf, isCode}
 use Rattle.board.proofs.Alike.{decide, never}
@@ -124,9 +125,14 @@ module _ (s : List ℕ) where
         (behind 2 levelsAt (omega arith) (promises .lay-cut s h levelsWidths levelsAt)
         (behind 16 awaitedAt (omega arith)
         (row-blocks awaitedBytes (taskFrom s) 1 1 16 0 awaitedAt (λ i l. awaited-again (0 + i * 1) (each-task i l) ∙ ap (λ k. part 1 k s) (omega arith)))
+        (behind 144 subsAt (omega arith) (row-blocks subBytes (subFrom s) subLength subLength 8 subsAt subsAt (λ i l. sub-again (subsAt + i * subLength)))
+        (behind 352 messagesAt (omega arith)
+        (row-blocks messageBytes (messageFrom s) messageLength messageLength 32 messagesAt messagesAt (λ i l. promises .lay-cut s h messageWidths (messagesAt + i * messageLength)))
+        (behind 1 sentAt (omega arith) (promises .lay-cut s h sentWidths sentAt)
         (sym (append-nil _)
-        ∙ behind 144 subsAt (omega arith) (row-blocks subBytes (subFrom s) subLength subLength 8 subsAt subsAt (λ i l. sub-again (subsAt + i * subLength)))
-        (sym (drop-of-length-le s {i = imageLength} (omega arith))))))))))
+        ∙ behind 144 mailsAt (omega arith)
+        (row-blocks mailBytes (mailFrom s) mailLength mailLength 16 mailsAt mailsAt (λ i l. promises .lay-cut s h mailWidths (mailsAt + i * mailLength)))
+        (sym (drop-of-length-le s {i = imageLength} (omega arith)))))))))))))
 
     pub canonical-image : length s ≡ imageLength → ((i : ℕ) → i < 16 → Canonical i) → true ≡ isImage s
     canonical-image n c = sym (made-image s n (canonical-back n c))

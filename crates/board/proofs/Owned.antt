@@ -25,6 +25,10 @@ use Rattle.executive.proofs.Request.{the-type as request-type}
 use Rattle.executive.proofs.Request.Laws.{the-laws as request-laws}
 use Rattle.executive.proofs.Sub.{the-type as sub-type}
 use Rattle.executive.proofs.Sub.Laws.{the-laws as sub-laws}
+use Rattle.executive.proofs.Message.{the-type as message-type}
+use Rattle.executive.proofs.Message.Laws.{the-laws as message-laws}
+use Rattle.executive.proofs.Mail.{the-type as mail-type}
+use Rattle.executive.proofs.Mail.Laws.{the-laws as mail-laws}
 use Rattle.executive.proofs.Rest.{the-type as rest-type}
 use Rattle.executive.proofs.Rest.Laws.{the-laws as rest-laws}
 use Rattle.executive.proofs.Table.{the-type as table-type}
@@ -38,15 +42,18 @@ use Rattle.records.specs.Numbers.{Fits}
 use Rattle.executive.specs.declared.Millis.{Millis}
 use Rattle.executive.specs.declared.Mode.the-variants.{Any, All}
 use Rattle.executive.specs.declared.State.{State}
-use Rattle.executive.specs.declared.State.the-variants.{Dormant, Ready, Paused, Due, Flags, AwaitStart, AwaitEnd, AwaitSub}
+use Rattle.executive.specs.declared.State.the-variants.{Dormant, Ready, Paused, Due, Flags, AwaitStart, AwaitEnd, AwaitSub, AwaitMessage}
 use Rattle.executive.specs.declared.Task.{Task}
 use Rattle.executive.specs.declared.Request.{Request}
 use Rattle.executive.specs.declared.Sub.{Sub}
+use Rattle.executive.specs.declared.Message.{Message}
+use Rattle.executive.specs.declared.Mail.{Mail}
 use Rattle.executive.specs.declared.Table.{Table}
 use Rattle.executive.specs.declared.Outcome.{Outcome}
 use Rattle.executive.specs.declared.Fresh.{Fresh}
 use Rattle.board.specs.Blocks.{Each}
 use Rattle.board.specs.Image.{taskWidths, placeWidths, alarmWidths, requestWidths, awaitedWidths, taskNumbers, placeNumbers, alarmNumbers, requestNumbers, awaitedNumbers, FitsSub, FitsTable}
+use Rattle.board.specs.Image.{messageWidths, mailWidths, messageNumbers, mailNumbers}
 use Rattle.board.proofs.Trips.{FitsState, line-sizes}
 
 state-owned : (x : State) (vs : List Val) → Is (enum-row state-type) x vs → FitsState x
@@ -59,6 +66,7 @@ state-owned (Flags All mask) vs q = let f = enum-owed state-type state-laws (Fla
 state-owned AwaitStart vs q = (omega arith, (omega arith, (omega arith, (omega arith, tt))))
 state-owned AwaitEnd vs q = (omega arith, (omega arith, (omega arith, (omega arith, tt))))
 state-owned (AwaitSub m) vs q = let f = enum-owed state-type state-laws (AwaitSub m) vs q in (omega arith, (omega arith, (omega arith, (omega arith, tt))))
+state-owned (AwaitMessage k) vs q = let f = enum-owed state-type state-laws (AwaitMessage k) vs q in (omega arith, (omega arith, (omega arith, (omega arith, tt))))
 
 task-owned : (e : Task) (vs : List Val) → Is (row task-type) e vs → Fits taskWidths (taskNumbers e)
 task-owned e vs q =
@@ -71,6 +79,12 @@ awaited-owned e vs q = let f = owed task-type task-laws e vs q in state-owned (e
 
 request-owned : (r : Request) (vs : List Val) → Is (row request-type) r vs → Fits requestWidths (requestNumbers r)
 request-owned r vs q = let f = owed request-type request-laws r vs q in (omega arith, (omega arith, (omega arith, (omega arith, (omega arith, tt)))))
+
+message-owned : (m : Message) (vs : List Val) → Is (row message-type) m vs → Fits messageWidths (messageNumbers m)
+message-owned m vs q = let f = owed message-type message-laws m vs q in (omega arith, (omega arith, (omega arith, (omega arith, tt))))
+
+mail-owned : (x : Mail) (vs : List Val) → Is (row mail-type) x vs → Fits mailWidths (mailNumbers x)
+mail-owned x vs q = let f = owed mail-type mail-laws x vs q in (omega arith, (omega arith, tt))
 
 place-owned : (k : TaskNo) (vs : List Val) → Is (row task-no-type) k vs → Fits placeWidths (placeNumbers k)
 place-owned k vs q = let f = owed task-no-type task-no-laws k vs q in (omega arith, tt)
@@ -104,8 +118,19 @@ table-owned t vs q =
     let rs = array-owned (field request-type) (λ r. Fits requestWidths (requestNumbers r)) request-owned 32 (t .rest .pool) _ (g .1 .1 .1 .1 .1 .0) in
     let ws = array-owned (field task-type) (λ e. Fits awaitedWidths (awaitedNumbers e)) awaited-owned 16 (t .tasks) _ (f .0) in
     let ss = array-owned (field sub-type) FitsSub sub-owned 8 (t .rest .subs) _ (g .1 .1 .1 .1 .1 .1 .1 .0) in
+    let ms = array-owned (field message-type) (λ m. Fits messageWidths (messageNumbers m)) message-owned 32 (t .rest .messages) _ (g .1 .1 .1 .1 .1 .1 .1 .1 .0) in
+    let ml = array-owned (field mail-type) (λ x. Fits mailWidths (mailNumbers x)) mail-owned 16 (t .rest .mail) _ (g .1 .1 .1 .1 .1 .1 .1 .1 .1 .1 .0) in
     record {
-      sizes = record { tasks = ts .0; queue = qs .0; alarms = al .0; pool = rs .0; subs = ss .0; lines = line-sizes (t .rest .subs) (ss .1) };
+      sizes = record {
+        tasks = ts .0;
+        queue = qs .0;
+        alarms = al .0;
+        pool = rs .0;
+        subs = ss .0;
+        lines = line-sizes (t .rest .subs) (ss .1);
+        messages = ms .0;
+        mail = ml .0;
+      };
       tasks = ts .1;
       queue = qs .1;
       head = (omega arith, (omega arith, (omega arith, (omega arith, (omega arith, (omega arith, tt))))));
@@ -114,6 +139,9 @@ table-owned t vs q =
       levels = (omega arith, tt);
       awaited = ws .1;
       subs = ss .1;
+      messages = ms .1;
+      sent = (omega arith, tt);
+      mail = ml .1;
     }
 
 pub outcome-owned : (x : Outcome) (vs : List Val) → Is (row outcome-type) x vs → FitsTable (x .table)

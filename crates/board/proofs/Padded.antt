@@ -14,6 +14,7 @@ use Rattle.board.specs.Blocks.{blocks}
 use Rattle.board.specs.Image.{taskWidths, placeWidths, headWidths, alarmWidths, requestWidths, levelsWidths, awaitedWidths, subWidths}
 use Rattle.board.specs.Image.{taskOf, placeOf, alarmOf, requestOf, subOf, tableOf, taskFrom, placeFrom, alarmFrom, requestFrom, lineFrom, subFrom}
 use Rattle.board.specs.Image.{queueAt, headAt, alarmsAt, poolAt, levelsAt, awaitedAt, subsAt, taskLength, subLength, loadOf}
+use Rattle.board.specs.Image.{messageWidths, sentWidths, mailWidths, messageOf, mailOf, messageFrom, mailFrom, messagesAt, sentAt, mailsAt, messageLength, mailLength}
 use Rattle.board.proofs.Alike.{decide}
 
 -- ---- the same elements at each place
@@ -51,7 +52,10 @@ module _ (s r : List ℕ) (h : (i : ℕ) → getD s i 0 ≡ getD r i 0) where
       let ep = blocks-same (requestFrom s) (requestFrom r) (λ i. ap requestOf (cut-same requestWidths i)) 6 32 poolAt in
       let eg = cut-same levelsWidths levelsAt in
       let es = blocks-same (subFrom s) (subFrom r) sub-same subLength 8 subsAt in
-      λ i. tableOf (eh i) (et i) (eq i) (ea i) (ep i) (eg i) (es i)
+      let em = blocks-same (messageFrom s) (messageFrom r) (λ i. ap messageOf (cut-same messageWidths i)) messageLength 32 messagesAt in
+      let en = cut-same sentWidths sentAt in
+      let el = blocks-same (mailFrom s) (mailFrom r) (λ i. ap mailOf (cut-same mailWidths i)) mailLength 16 mailsAt in
+      λ i. tableOf (eh i) (et i) (eq i) (ea i) (ep i) (eg i) (es i) (em i) (en i) (el i)
 
 -- ---- q has the first i bytes of s, and 0 behind them
 pub record Pads (s q : List ℕ) (i : ℕ) : Type 0 where

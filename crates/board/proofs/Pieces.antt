@@ -27,10 +27,11 @@ wrote-front o at own s k m n ek em en f g h l =
     let b = bytesIn 8 (m .0) in
     and-then o at (a ++ b) (bytesIn 4 n) (and-then o at a b f g (omega arith)) h (omega arith) ∙ rw (ek, em, en)
 
-pub wrote-answer : (o : List ℕ) {p q r s u : List ℕ} (a : Answer) (z v c : ℕ) → z ≡ one (a .z) → v ≡ one (a .v) → c ≡ one (a .c)
+pub wrote-answer : (o : List ℕ) {p q r s u v₁ w₁ : List ℕ} (a : Answer) (z v c : ℕ) → z ≡ one (a .z) → v ≡ one (a .v) → c ≡ one (a .c)
     → p ≡ written o 0 (a .number ∷ z ∷ []) → q ≡ written p 2 (v ∷ c ∷ []) → r ≡ written q 4 (a .active .0 ∷ a .walked ∷ []) → s ≡ written r 6 (bytesIn 2 (a .argument))
-    → u ≡ written s 8 (bytesIn 8 (a .skipped)) → answerLength ≤ length o → u ≡ written o 0 (answerBytes a)
-wrote-answer o a z v c ez ev ec e f g h i l =
+    → u ≡ written s 8 (bytesIn 8 (a .skipped)) → v₁ ≡ written u 16 (bytesIn 1 (a .sender .0)) → w₁ ≡ written v₁ 17 (bytesIn 8 (a .text .0))
+    → answerLength ≤ length o → w₁ ≡ written o 0 (answerBytes a)
+wrote-answer o a z v c ez ev ec e f g h i i₁ i₂ l =
     let x = a .number ∷ z ∷ [] in
     let y = v ∷ c ∷ [] in
     let w = a .active .0 ∷ a .walked ∷ [] in
@@ -38,7 +39,11 @@ wrote-answer o a z v c ez ev ec e f g h i l =
     let m = and-then o 0 x y e f (omega arith) in
     let n = and-then o 0 (x ++ y) w m g (omega arith) in
     let k = and-then o 0 ((x ++ y) ++ w) b n h (omega arith) in
-    and-then o 0 (((x ++ y) ++ w) ++ b) (bytesIn 8 (a .skipped)) k i (omega arith) ∙ rw (ez, ev, ec)
+    let d = bytesIn 8 (a .skipped) in
+    let j = and-then o 0 (((x ++ y) ++ w) ++ b) d k i (omega arith) in
+    let b₁ = bytesIn 1 (a .sender .0) in
+    let j₁ = and-then o 0 ((((x ++ y) ++ w) ++ b) ++ d) b₁ j i₁ (omega arith) in
+    and-then o 0 (((((x ++ y) ++ w) ++ b) ++ d) ++ b₁) (bytesIn 8 (a .text .0)) j₁ i₂ (omega arith) ∙ rw (ez, ev, ec)
 
 pub wrote-step : (o : List ℕ) {p q r : List ℕ} (at : ℕ) (s : Step) (k : ℕ) (j : TaskNo) (b u : ℕ)
     → k ≡ causeKind (s .cause) → j ≡ waitedOn (s .cause) → b ≡ ownByte (s .cause) → u ≡ untilOf (s .cause)

@@ -14,11 +14,13 @@ use Rattle.executive.specs.declared.Millis.{Millis}
 use Rattle.executive.specs.declared.State.{State}
 use Rattle.executive.specs.declared.Task.{Task}
 use Rattle.executive.specs.declared.Sub.{Sub}
+use Rattle.executive.specs.declared.Rest.{Rest}
 use Rattle.executive.specs.declared.Table.{Table}
-use Rattle.executive.specs.States.{dormant, ready, paused, due, awaitAny, awaitAll, awaitStart, awaitEnd, awaitSub, stateKind, timeOf, maskOf, awaitedOf, stateOf}
+use Rattle.executive.specs.States.{dormant, ready, paused, due, awaitAny, awaitAll, awaitStart, awaitEnd, awaitSub, awaitMessage, stateKind, timeOf, maskOf, awaitedOf, stateOf}
 use Rattle.executive.specs.Lists.{pad}
 use Rattle.executive.specs.Places.{nobody, never as no-time, noTask, noRequest}
 use Rattle.executive.specs.Subprograms.{noSub}
+use Rattle.executive.specs.Messages.{noMessage, noMail}
 use Rattle.executive.specs.WellFormed.{Sizes}
 use Rattle.executive.proofs.Assured.{states-told}
 use Rattle.board.specs.Blocks.{row, blocks, Each, written, same}
@@ -26,9 +28,11 @@ use Rattle.board.specs.Image.{taskWidths, placeWidths, headWidths, alarm
 use Rattle.board.specs.Image.{taskNumbers, placeNumbers, headNumbers, alarmNumbers, requestNumbers, levelsNumbers, awaitedNumbers, subNumbers}
 use Rattle.board.specs.Image.{taskOf, placeOf, alarmOf, requestOf, subOf, tableOf, taskBytes, placeBytes, headBytes, alarmBytes, requestBytes, levelsBytes, awaitedBytes, subBytes}
 use Rattle.board.specs.Image.{taskFrom, placeFrom, alarmFrom, requestFrom, lineFrom, subFrom, queueAt, headAt, alarmsAt, poolAt, levelsAt, awaitedAt, subsAt, imageLength, taskLength, subLength}
+use Rattle.board.specs.Image.{messageWidths, sentWidths, mailWidths, messageNumbers, sentNumbers, mailNumbers, messageOf, mailOf, messageBytes, sentBytes, mailBytes}
+use Rattle.board.specs.Image.{messageFrom, mailFrom, messagesAt, sentAt, mailsAt, messageLength, mailLength, postBytes}
 use Rattle.board.specs.Image.{imageOf, loadOf, isImageOf, isImage, FitsSub, FitsTable}
 use Rattle.board.proofs.Digits.{digit-fits}
-use Rattle.board.proofs.Spans.{each-or, each-of, each-so, Wide, row-length, length-row, length-blocks, blocks-are}
+use Rattle.board.proofs.Spans.{and-then, each-or, each-of, each-so, Wide, row-length, length-row, length-blocks, blocks-are}
 use Rattle.board.proofs.Alike.{decide, never, same-self, same-true}
 use Rattle.board.proofs.Images.{Filled, fill, filled, At, at-start, at-next, at-end, at-length, at-parted, cut-at, element-back, row-back, blocks-back}
 
@@ -53,8 +57,14 @@ sub-back x f s r n z =
     λ i. subOf (a i) (b i)
 
 -- ---- the parts of the image, each with all that stand behind it
+abbrev fromSent : Table → List ℕ
+fromSent t = sentBytes (t .rest) ++ row mailBytes (t .rest .mail)
+
+abbrev fromSubs : Table → List ℕ
+fromSubs t = row subBytes (t .rest .subs) ++ postBytes (t .rest)
+
 abbrev fromAwaited : Table → List ℕ
-fromAwaited t = row awaitedBytes (t .tasks) ++ row subBytes (t .rest .subs)
+fromAwaited t = row awaitedBytes (t .tasks) ++ fromSubs t
 
 abbrev fromLevels : Table → List ℕ
 fromLevels t = levelsBytes t ++ fromAwaited t
@@ -73,6 +83,23 @@ fromQueue t = row placeBytes (t .queue) ++ fromHead t
 
 abbrev fromTasks : Table → List ℕ
 fromTasks t = row taskBytes (t .tasks) ++ fromQueue t
+
+-- what three writes leave of the messages, their number and the mail
+pub post-made : (x : Rest) (o p q r : List ℕ) → length o ≡ imageLength → length (x .messages) ≡ 32 → length (x .mail) ≡ 16
+    → p ≡ written o messagesAt (row messageBytes (x .messages)) → q ≡ written p sentAt (sentBytes x) → r ≡ written q mailsAt (row mailBytes (x .mail))
+    → r ≡ written o messagesAt (postBytes x)
+post-made x o p q r n zm zl ep eq er =
+    let a = row messageBytes (x .messages) in
+    let b = sentBytes x in
+    let c = row mailBytes (x .mail) in
+    let la : length a ≡ 352 = length-row messageBytes messageLength (λ m. refl) (x .messages) ∙ ap (λ k. k * messageLength) zm in
+    let lc : length c ≡ 144 = length-row mailBytes mailLength (λ m. refl) (x .mail) ∙ ap (λ k. k * mailLength) zl in
+    let lb : length (a ++ b) ≡ 353 = length-append a b ∙ omega arith in
+    let y : messagesAt + length a ≡ sentAt = omega arith in
+    let z : messagesAt + length (a ++ b) ≡ mailsAt = omega arith in
+    and-then o messagesAt (a ++ b) c (and-then o messagesAt a b ep (eq ∙ ap (λ i. written p i b) (sym y)) (omega arith))
+    (er ∙ ap (λ i. written q i c) (sym z)) (omega arith)
+    ∙ ap (written o messagesAt) (append-assoc a b c)
 
 module _ (t : Table) (z : Sizes t) where
   tasks-length : length (row taskBytes (t .tasks)) ≡ 416
@@ -96,12 +123,24 @@ module _ (t : Table) (z : Sizes t) where
       (each-so (λ x. length (x .line) ≡ 16) (Wide subBytes subLength) sub-length (t .rest .subs) (each-of (λ x. length (x .line) ≡ 16) noSub (t .rest .subs) (z .lines)))
       ∙ ap (λ n. n * subLength) (z .subs)
 
-  -- what eight writes leave, each where the image has its part
-  pub image-made : (o p q r s u v x y : List ℕ) → length o ≡ imageLength → p ≡ written o 0 (row taskBytes (t .tasks)) → q ≡ written p queueAt (row placeBytes (t .queue))
+  messages-length : length (row messageBytes (t .rest .messages)) ≡ 352
+  messages-length = length-row messageBytes messageLength (λ x. refl) (t .rest .messages) ∙ ap (λ n. n * messageLength) (z .messages)
+
+  mail-length : length (row mailBytes (t .rest .mail)) ≡ 144
+  mail-length = length-row mailBytes mailLength (λ x. refl) (t .rest .mail) ∙ ap (λ n. n * mailLength) (z .mail)
+
+  post-length : length (postBytes (t .rest)) ≡ 497
+  post-length =
+      length-append (row messageBytes (t .rest .messages)) (fromSent t)
+      ∙ omega (arith, messages-length, mail-length, length-append (sentBytes (t .rest)) (row mailBytes (t .rest .mail)))
+
+  -- what nine writes leave, each where the image has its part
+  pub image-made : (o p q r s u v x y w : List ℕ) → length o ≡ imageLength → p ≡ written o 0 (row taskBytes (t .tasks)) → q ≡ written p queueAt (row placeBytes (t .queue))
       → r ≡ written q headAt (headBytes t) → s ≡ written r alarmsAt (row alarmBytes (t .rest .alarms)) → u ≡ written s poolAt (row requestBytes (t .rest .pool))
-      → v ≡ written u levelsAt (levelsBytes t) → x ≡ written v awaitedAt (row awaitedBytes (t .tasks)) → y ≡ written x subsAt (row subBytes (t .rest .subs)) → y ≡ imageOf t
+      → v ≡ written u levelsAt (levelsBytes t) → x ≡ written v awaitedAt (row awaitedBytes (t .tasks)) → y ≡ written x subsAt (row subBytes (t .rest .subs)) → w ≡ written y messagesAt (postBytes (t .rest))
+      → w ≡ imageOf t
   unfolding imageOf
-  image-made o p q r s u v x y n ep eq er es eu ev ex ey =
+  image-made o p q r s u v x y w n ep eq er es eu ev ex ey ew =
       let a = row taskBytes (t .tasks) in
       let b = row placeBytes (t .queue) in
       let c = headBytes t in
@@ -110,6 +149,7 @@ module _ (t : Table) (z : Sizes t) where
       let f = levelsBytes t in
       let g = row awaitedBytes (t .tasks) in
       let h = row subBytes (t .rest .subs) in
+      let k = postBytes (t .rest) in
       let fa : Filled o p a queueAt = record { bytes = ep; long = tasks-length } in
       let fb = fill o p q a b queueAt 16 fa eq queue-length (omega arith) in
       let fc = fill o q r (a ++ b) c headAt 16 fb er refl (omega arith) in
@@ -118,7 +158,8 @@ module _ (t : Table) (z : Sizes t) where
       let ff = fill o u v ((((a ++ b) ++ c) ++ d) ++ e) f levelsAt 2 fe ev refl (omega arith) in
       let fg = fill o v x (((((a ++ b) ++ c) ++ d) ++ e) ++ f) g awaitedAt 16 ff ex awaited-length (omega arith) in
       let fh = fill o x y ((((((a ++ b) ++ c) ++ d) ++ e) ++ f) ++ g) h subsAt 144 fg ey subs-length (omega arith) in
-      filled o y (((((((a ++ b) ++ c) ++ d) ++ e) ++ f) ++ g) ++ h) imageLength fh n ∙ simp append-assoc
+      let fk = fill o y w (((((((a ++ b) ++ c) ++ d) ++ e) ++ f) ++ g) ++ h) k messagesAt 497 fh ew post-length (omega arith) in
+      filled o w ((((((((a ++ b) ++ c) ++ d) ++ e) ++ f) ++ g) ++ h) ++ k) imageLength fk n ∙ simp append-assoc
 
   -- where each part stands
   at-tasks : At (imageOf t) 0 (fromTasks t)
@@ -143,11 +184,20 @@ module _ (t : Table) (z : Sizes t) where
   at-awaited : At (imageOf t) awaitedAt (fromAwaited t)
   at-awaited = at-next (imageOf t) (levelsBytes t) (fromAwaited t) levelsAt 2 at-levels refl
 
-  at-subs : At (imageOf t) subsAt (row subBytes (t .rest .subs))
-  at-subs = at-next (imageOf t) (row awaitedBytes (t .tasks)) (row subBytes (t .rest .subs)) awaitedAt 16 at-awaited awaited-length
+  at-subs : At (imageOf t) subsAt (fromSubs t)
+  at-subs = at-next (imageOf t) (row awaitedBytes (t .tasks)) (fromSubs t) awaitedAt 16 at-awaited awaited-length
+
+  at-messages : At (imageOf t) messagesAt (postBytes (t .rest))
+  at-messages = at-next (imageOf t) (row subBytes (t .rest .subs)) (postBytes (t .rest)) subsAt 144 at-subs subs-length
+
+  at-sent : At (imageOf t) sentAt (fromSent t)
+  at-sent = at-next (imageOf t) (row messageBytes (t .rest .messages)) (fromSent t) messagesAt 352 at-messages messages-length
+
+  at-mail : At (imageOf t) mailsAt (row mailBytes (t .rest .mail))
+  at-mail = at-next (imageOf t) (sentBytes (t .rest)) (row mailBytes (t .rest .mail)) sentAt 1 at-sent refl
 
   pub image-length : length (imageOf t) ≡ imageLength
-  image-length = at-length (imageOf t) (row subBytes (t .rest .subs)) subsAt at-subs ∙ ap (λ n. subsAt + n) subs-length
+  image-length = at-length (imageOf t) (row mailBytes (t .rest .mail)) mailsAt at-mail ∙ ap (λ n. mailsAt + n) mail-length
 
 -- ---- storing and loading
 module _ (t : Table) (f : FitsTable t) where
@@ -166,7 +216,7 @@ module _ (t : Table) (f : FitsTable t) where
       let z : awaitedAt + i ≡ awaitedAt + i * 1 = omega arith in
       ap (λ k. cut awaitedWidths k (imageOf t)) z
       ∙ element-back awaitedBytes 1 (λ e. Fits awaitedWidths (awaitedNumbers e)) (λ e h. refl) (λ u k. cut awaitedWidths k u) awaitedNumbers
-      (λ e h u r k z. cut-at awaitedWidths (awaitedNumbers e) r u k z h) (t .tasks) noTask (imageOf t) (row subBytes (t .rest .subs)) awaitedAt i (f .awaited) (at-awaited t (f .sizes)) (omega arith)
+      (λ e h u r k z. cut-at awaitedWidths (awaitedNumbers e) r u k z h) (t .tasks) noTask (imageOf t) (fromSubs t) awaitedAt i (f .awaited) (at-awaited t (f .sizes)) (omega arith)
 
   task-at : (i : ℕ) → i < 16 → taskFrom (imageOf t) (0 + i * 1) ≡ getD (t .tasks) i noTask
   task-at i l =
@@ -187,9 +237,16 @@ module _ (t : Table) (f : FitsTable t) where
       blocks-back requestWidths requestNumbers requestOf (λ x. refl) 6 (λ x. refl) (t .rest .pool) noRequest s (fromLevels t) 32 poolAt (f .pool) (z .pool) (at-pool t z) in
       let eg : cut levelsWidths levelsAt s ≡ levelsNumbers t = cut-at levelsWidths (levelsNumbers t) (fromAwaited t) s levelsAt (at-levels t z) (f .levels) in
       let es : blocks (subFrom s) subLength 8 subsAt ≡ t .rest .subs =
-      row-back subBytes subLength FitsSub (λ x h. sub-length x (h .size)) subFrom sub-back (t .rest .subs) noSub s [] 8 subsAt (f .subs) (z .subs)
-      (at-end s (row subBytes (t .rest .subs)) subsAt (at-subs t z)) in
-      λ i. tableOf (eh i) (et i) (eq i) (ea i) (ep i) (eg i) (es i)
+      row-back subBytes subLength FitsSub (λ x h. sub-length x (h .size)) subFrom sub-back (t .rest .subs) noSub s (postBytes (t .rest)) 8 subsAt (f .subs) (z .subs) (at-subs t z) in
+      let em : blocks (messageFrom s) messageLength 32 messagesAt ≡ t .rest .messages =
+      blocks-back messageWidths messageNumbers messageOf (λ x. refl) messageLength (λ x. refl) (t .rest .messages) noMessage s (fromSent t) 32 messagesAt (f .messages) (z .messages)
+      (at-messages t z) in
+      let en : cut sentWidths sentAt s ≡ sentNumbers (t .rest) =
+      cut-at sentWidths (sentNumbers (t .rest)) (row mailBytes (t .rest .mail)) s sentAt (at-sent t z) (f .sent) in
+      let el : blocks (mailFrom s) mailLength 16 mailsAt ≡ t .rest .mail =
+      blocks-back mailWidths mailNumbers mailOf (λ x. refl) mailLength (λ x. refl) (t .rest .mail) noMail s [] 16 mailsAt (f .mail) (z .mail)
+      (at-end s (row mailBytes (t .rest .mail)) mailsAt (at-mail t z)) in
+      λ i. tableOf (eh i) (et i) (eq i) (ea i) (ep i) (eg i) (es i) (em i) (en i) (el i)
 
 -- ---- what an image is
 module _ (s : List ℕ) (e : isImage s ≡ true) where
@@ -253,7 +310,8 @@ state-fits a b c d f g h =
     (either (eqb a awaitAll) _ _ (omega arith, (omega arith, (g, (omega arith, tt))))
     (either (eqb a awaitStart) _ _ (omega arith, small)
     (either (eqb a awaitEnd) _ _ (omega arith, small)
-    (either (eqb a awaitSub) _ _ (omega arith, (omega arith, (omega arith, (h, tt)))) (omega arith, small)))))))))
+    (either (eqb a awaitSub) _ _ (omega arith, (omega arith, (omega arith, (h, tt))))
+    (either (eqb a awaitMessage) _ _ (omega arith, (omega arith, (omega arith, (h, tt)))) (omega arith, small))))))))))
 
 -- what the state of the i-th task holds
 read-fits : (s : List ℕ) → Bytes s → (i : ℕ) → FitsState (taskFrom s i .state)
@@ -296,6 +354,8 @@ load-fits s h =
         pool = length-blocks (requestFrom s) 6 32 poolAt;
         subs = length-blocks (subFrom s) subLength 8 subsAt;
         lines = line-sizes (blocks (subFrom s) subLength 8 subsAt) ss;
+        messages = length-blocks (messageFrom s) messageLength 32 messagesAt;
+        mail = length-blocks (mailFrom s) mailLength 16 mailsAt;
       };
       tasks = each-block (λ e. Fits taskWidths (taskNumbers e)) (taskFrom s) (task-fits s h) 1 16 0;
       queue = line-fits s h queueAt;
@@ -305,4 +365,7 @@ load-fits s h =
       levels = cut-fits s h levelsWidths levelsAt;
       awaited = each-block (λ e. Fits awaitedWidths (awaitedNumbers e)) (taskFrom s) (awaited-fits s h) 1 16 0;
       subs = ss;
+      messages = each-block (λ m. Fits messageWidths (messageNumbers m)) (messageFrom s) (cut-fits s h messageWidths) messageLength 32 messagesAt;
+      sent = cut-fits s h sentWidths sentAt;
+      mail = each-block (λ x. Fits mailWidths (mailNumbers x)) (mailFrom s) (cut-fits s h mailWidths) mailLength 16 mailsAt;
     }

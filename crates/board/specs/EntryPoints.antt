@@ -54,19 +54,22 @@ pub record MakesImage (config o p : List ℕ) (n : ℕ) : Type 0 where
   pub image : p ≡ freshImage config o
   pub holds : n ≡ 0 → Holds p (freshOf config .table)
 
--- ---- an answer's bytes: number, Z, V, C, active task, ready tasks passed over, argument, grid times passed over
+-- ---- an answer's bytes: number, Z, V, C, active task, ready tasks passed over, argument, grid times passed over; of the
+-- message that is handed out the sender and the text
 abbrev pub answerWidths : List ℕ
-answerWidths = 1 ∷ 1 ∷ 1 ∷ 1 ∷ 1 ∷ 1 ∷ 2 ∷ 8 ∷ []
+answerWidths = 1 ∷ 1 ∷ 1 ∷ 1 ∷ 1 ∷ 1 ∷ 2 ∷ 8 ∷ 1 ∷ 8 ∷ []
 
 abbrev pub answerLength : ℕ
-answerLength = 16
+answerLength = 25
 
 -- where the active task stands
 abbrev pub activeAt : ℕ
 activeAt = 4
 
 abbrev pub answerBytes : Answer → List ℕ
-answerBytes a = lay answerWidths (a .number ∷ one (a .z) ∷ one (a .v) ∷ one (a .c) ∷ a .active .0 ∷ a .walked ∷ a .argument ∷ a .skipped ∷ [])
+answerBytes a =
+    lay answerWidths
+    (a .number ∷ one (a .z) ∷ one (a .v) ∷ one (a .c) ∷ a .active .0 ∷ a .walked ∷ a .argument ∷ a .skipped ∷ a .sender .0 ∷ a .text .0 ∷ [])
 
 -- the executive's own answer (bytes that are no image are no well-formed table), and the image of its own table
 -- where the step is accepted; a refusal keeps every byte

@@ -1,4 +1,4 @@
--- The image of a table: 1,058 bytes, numbers big-endian. docs/TABLE.md has the layout in words.
+-- The image of a table: 1,555 bytes, numbers big-endian. docs/TABLE.md has the layout in words.
 use Prim.Native.Nat.{ℕ, _+_, _*_}
 use mathlib.Core.Path.{_≡_}
 use mathlib.Core.Bool.{Bool, false, cond}
@@ -11,6 +11,9 @@ use Rattle.executive.specs.declared.Millis.{Millis}
 use Rattle.executive.specs.declared.Task.{Task}
 use Rattle.executive.specs.declared.Request.{Request}
 use Rattle.executive.specs.declared.Sub.{Sub}
+use Rattle.executive.specs.declared.Message.{Message}
+use Rattle.executive.specs.declared.Mail.{Mail}
+use Rattle.executive.specs.declared.Rest.{Rest}
 use Rattle.executive.specs.declared.Table.{Table}
 use Rattle.executive.specs.States.{stateKind, timeOf, maskOf, awaitedOf, stateOf}
 use Rattle.executive.specs.WellFormed.{Sizes}
@@ -47,6 +50,17 @@ awaitedWidths = 1 ∷ []
 -- of a subprogram the holder and how many wait; its line, place by place, stands behind them
 abbrev pub subWidths : List ℕ
 subWidths = 1 ∷ 1 ∷ []
+
+-- of a waiting message the addressee, the sender, the priority and the text; how many wait; of a task's mail the sender and
+-- the text
+abbrev pub messageWidths : List ℕ
+messageWidths = 1 ∷ 1 ∷ 1 ∷ 8 ∷ []
+
+abbrev pub sentWidths : List ℕ
+sentWidths = 1 ∷ []
+
+abbrev pub mailWidths : List ℕ
+mailWidths = 1 ∷ 8 ∷ []
 
 -- ---- the numbers of each block, and the block's value from its numbers
 abbrev pub taskNumbers : Task → List ℕ
@@ -103,6 +117,26 @@ subNumbers s = s .holder .0 ∷ s .waiting ∷ []
 abbrev pub subOf : List ℕ → List TaskNo → Sub
 subOf xs ks = record { holder = record { 0 = getD xs 0 0 }; line = ks; waiting = getD xs 1 0 }
 
+abbrev pub messageNumbers : Message → List ℕ
+messageNumbers m = m .to .0 ∷ m .sender .0 ∷ m .priority ∷ m .text .0 ∷ []
+
+abbrev pub messageOf : List ℕ → Message
+messageOf xs = record {
+  to = record { 0 = getD xs 0 0 };
+  sender = record { 0 = getD xs 1 0 };
+  priority = getD xs 2 0;
+  text = record { 0 = getD xs 3 0 };
+}
+
+abbrev pub sentNumbers : Rest → List ℕ
+sentNumbers r = r .sent ∷ []
+
+abbrev pub mailNumbers : Mail → List ℕ
+mailNumbers x = x .sender .0 ∷ x .text .0 ∷ []
+
+abbrev pub mailOf : List ℕ → Mail
+mailOf xs = record { sender = record { 0 = getD xs 0 0 }; text = record { 0 = getD xs 1 0 } }
+
 -- ---- the image: where each part begins, and how long it all is. A part that comes later stands behind those before it
 abbrev pub queueAt : ℕ
 queueAt = 416
@@ -125,15 +159,30 @@ awaitedAt = 898
 abbrev pub subsAt : ℕ
 subsAt = 914
 
-abbrev pub imageLength : ℕ
-imageLength = 1058
+abbrev pub messagesAt : ℕ
+messagesAt = 1058
 
--- how long a task's entry is, and a subprogram
+abbrev pub sentAt : ℕ
+sentAt = 1410
+
+abbrev pub mailsAt : ℕ
+mailsAt = 1411
+
+abbrev pub imageLength : ℕ
+imageLength = 1555
+
+-- how long a task's entry is, a subprogram, a waiting message, and a task's mail
 abbrev pub taskLength : ℕ
 taskLength = 26
 
 abbrev pub subLength : ℕ
 subLength = 18
+
+abbrev pub messageLength : ℕ
+messageLength = 11
+
+abbrev pub mailLength : ℕ
+mailLength = 9
 
 abbrev pub taskBytes : Task → List ℕ
 taskBytes e = lay taskWidths (taskNumbers e)
@@ -159,6 +208,19 @@ awaitedBytes e = lay awaitedWidths (awaitedNumbers e)
 abbrev pub subBytes : Sub → List ℕ
 subBytes s = lay subWidths (subNumbers s) ++ row placeBytes (s .line)
 
+abbrev pub messageBytes : Message → List ℕ
+messageBytes m = lay messageWidths (messageNumbers m)
+
+abbrev pub sentBytes : Rest → List ℕ
+sentBytes r = lay sentWidths (sentNumbers r)
+
+abbrev pub mailBytes : Mail → List ℕ
+mailBytes x = lay mailWidths (mailNumbers x)
+
+-- the messages, how many of them wait, and the tasks' mail
+abbrev pub postBytes : Rest → List ℕ
+postBytes r = row messageBytes (r .messages) ++ (sentBytes r ++ row mailBytes (r .mail))
+
 unfoldable pub imageOf : Table → List ℕ
 imageOf t =
     row taskBytes (t .tasks)
@@ -168,7 +230,8 @@ imageOf t =
     ++ (row requestBytes (t .rest .pool)
     ++ (levelsBytes t
     ++ (row awaitedBytes (t .tasks)
-    ++ row subBytes (t .rest .subs)))))))
+    ++ (row subBytes (t .rest .subs)
+    ++ postBytes (t .rest))))))))
 
 -- the board's own number, judged before any other: a buffer that is to be written to has not the length it needs
 abbrev pub noRoom : ℕ
@@ -207,9 +270,15 @@ lineFrom s at = blocks (placeFrom s) 1 16 at
 abbrev pub subFrom : List ℕ → ℕ → Sub
 subFrom s at = subOf (cut subWidths at s) (lineFrom s (at + 2))
 
--- the table of the head's numbers, the five arrays and the word
-abbrev pub tableOf : List ℕ → List Task → List TaskNo → List Millis → List Request → List ℕ → List Sub → Table
-tableOf xs ts q al rs ws ss = record {
+abbrev pub messageFrom : List ℕ → ℕ → Message
+messageFrom s at = messageOf (cut messageWidths at s)
+
+abbrev pub mailFrom : List ℕ → ℕ → Mail
+mailFrom s at = mailOf (cut mailWidths at s)
+
+-- the table of the head's numbers, the arrays, the word and the number of messages that wait
+abbrev pub tableOf : List ℕ → List Task → List TaskNo → List Millis → List Request → List ℕ → List Sub → List Message → List ℕ → List Mail → Table
+tableOf xs ts q al rs ws ss ms ns ml = record {
   tasks = ts;
   queue = q;
   ready = getD xs 0 0;
@@ -223,6 +292,9 @@ tableOf xs ts q al rs ws ss = record {
     pool = rs;
     queued = getD xs 3 0;
     subs = ss;
+    messages = ms;
+    sent = getD ns 0 0;
+    mail = ml;
   };
 }
 
@@ -235,6 +307,9 @@ loadOf s =
     (blocks (requestFrom s) 6 32 poolAt)
     (cut levelsWidths levelsAt s)
     (blocks (subFrom s) subLength 8 subsAt)
+    (blocks (messageFrom s) messageLength 32 messagesAt)
+    (cut sentWidths sentAt s)
+    (blocks (mailFrom s) mailLength 16 mailsAt)
 
 -- the contracts: t is the table of the bytes s; storing t and loading it gives u
 abbrev pub Loads : List ℕ → Table → Type 0
@@ -266,3 +341,6 @@ pub record FitsTable (t : Table) : Type 0 where
   pub levels : Fits levelsWidths (levelsNumbers t)
   pub awaited : Each (λ e. Fits awaitedWidths (awaitedNumbers e)) (t .tasks)
   pub subs : Each FitsSub (t .rest .subs)
+  pub messages : Each (λ m. Fits messageWidths (messageNumbers m)) (t .rest .messages)
+  pub sent : Fits sentWidths (sentNumbers (t .rest))
+  pub mail : Each (λ x. Fits mailWidths (mailNumbers x)) (t .rest .mail)

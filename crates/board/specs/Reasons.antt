@@ -34,6 +34,7 @@ causeKind (cause.Start p j) = 6
 causeKind (cause.EndOfRequest p j) = 7
 causeKind (cause.EndOfRun j) = 8
 causeKind (cause.Subprogram m j) = 9
+causeKind (cause.Message s) = 10
 
 abbrev pub waitedOn : Cause → TaskNo
 waitedOn cause.Dormant = nobody
@@ -46,12 +47,13 @@ waitedOn (cause.Start p j) = j
 waitedOn (cause.EndOfRequest p j) = j
 waitedOn (cause.EndOfRun j) = j
 waitedOn (cause.Subprogram m j) = j
+waitedOn (cause.Message s) = nobody
 
 abbrev pub modeByte : Mode → ℕ
 modeByte mode.Any = 0
 modeByte mode.All = 1
 
--- how many are ahead, the mode of a wait for flags, a request's place, a subprogram's number
+-- how many are ahead, the mode of a wait for flags, a request's place, a subprogram's number, the sender of a message
 abbrev pub ownByte : Cause → ℕ
 ownByte cause.Dormant = 0
 ownByte cause.Active = 0
@@ -63,6 +65,7 @@ ownByte (cause.Start p j) = p
 ownByte (cause.EndOfRequest p j) = p
 ownByte (cause.EndOfRun j) = 0
 ownByte (cause.Subprogram m j) = m .0
+ownByte (cause.Message s) = s .0
 
 -- until when, or the flags that are missing
 abbrev pub untilOf : Cause → ℕ
@@ -76,6 +79,7 @@ untilOf (cause.Start p j) = 0
 untilOf (cause.EndOfRequest p j) = 0
 untilOf (cause.EndOfRun j) = 0
 untilOf (cause.Subprogram m j) = 0
+untilOf (cause.Message s) = 0
 
 -- ---- an answer's bytes: number, length, ring, 0, and sixteen steps of twelve bytes; a place behind the path is blank
 abbrev pub stepWidths : List ℕ

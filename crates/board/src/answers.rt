@@ -18,8 +18,8 @@ fn bit(mark: bool) -> u8
     0
 }
 
-// Writes an answer over 16 bytes: number, Z, V, C, the active task, the ready tasks passed over, the argument, the
-// grid times passed over.
+// Writes an answer over 25 bytes: number, Z, V, C, the active task, the ready tasks passed over, the argument, the
+// grid times passed over, the sender and the text of the message that is handed out.
 pub(crate) fn put_answer(out: &mut [u8], answer: Answer)
     requires { ⌜ answerLength ≤ length (now out) ⌝ }
     ensures { λ _. ⌜ now (out .exit) ≡ written (now (out .entry)) 0 (answerBytes answer) ⌝ }
@@ -29,4 +29,6 @@ pub(crate) fn put_answer(out: &mut [u8], answer: Answer)
     storing::put_both(out, 4, answer.active.0, answer.walked);
     numbers::put_pair(out, 6, answer.argument);
     numbers::put_long(out, 8, answer.skipped);
+    numbers::put_byte(out, 16, answer.sender.0);
+    numbers::put_long(out, 17, answer.text.0);
 }

@@ -20,7 +20,8 @@ pub mod storing;
 pub(crate) const NO_ROOM: u8 = 30;
 
 // Where the parts of an image begin: the tasks' entries at 0, then the queue, the numbers that stand alone from 432 on, the
-// alarms, the pool, the word of the ready levels, the numbers that the tasks' states wait for, the subprograms.
+// alarms, the pool, the word of the ready levels, the numbers that the tasks' states wait for, the subprograms, the
+// messages, how many of them wait, the tasks' mail.
 pub(crate) const QUEUE: usize = 416;
 
 pub(crate) const ALARMS: usize = 448;
@@ -33,8 +34,14 @@ pub(crate) const AWAITED: usize = 898;
 
 pub(crate) const SUBS: usize = 914;
 
+pub(crate) const MESSAGES: usize = 1058;
+
+pub(crate) const SENT: usize = 1410;
+
+pub(crate) const MAIL: usize = 1411;
+
 // The length of an image in bytes.
-pub(crate) const IMAGE: usize = 1058;
+pub(crate) const IMAGE: usize = 1555;
 
 // What the lamp reads where nothing is shown: no priority.
 const LAMP_DARK: u8 = 16;
@@ -73,12 +80,12 @@ pub extern "C" fn quermanic_check(image: &[u8]) -> u8
 
 // Takes a step: the answer's number, and the answer at the start of its buffer. Accepted (0), the image is
 // rewritten; refused, none of
-// its bytes is changed. Where the answer's buffer is shorter than 16 bytes: 30, and no byte of any buffer is changed.
+// its bytes is changed. Where the answer's buffer is shorter than 25 bytes: 30, and no byte of any buffer is changed.
 #[no_mangle]
 pub extern "C" fn quermanic_step(image: &mut [u8], call: &[u8], answer: &mut [u8]) -> u8
     ensures { λ r. ⌜ StepsImage (now (image .entry)) (now (call .entry)) (now (answer .entry)) (now (image .exit)) (now (answer .exit)) r ⌝ }
 {
-    if answer.len() < 16 {
+    if answer.len() < 25 {
         return NO_ROOM;
     }
     if !checking::is_image(image) {

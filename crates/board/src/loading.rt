@@ -3,10 +3,15 @@ use crate::ALARMS;
 use crate::AWAITED;
 use crate::IMAGE;
 use crate::LEVELS;
+use crate::MAIL;
+use crate::MESSAGES;
 use crate::POOL;
 use crate::QUEUE;
+use crate::SENT;
 use crate::SUBS;
 use crate::numbers;
+use executive::Mail;
+use executive::Message;
 use executive::Millis;
 use executive::Mode;
 use executive::Request;
@@ -17,12 +22,14 @@ use executive::Table;
 use executive::Task;
 use records::SubNo;
 use records::TaskNo;
+use records::Text;
 ghost use mathlib.Core.Path.{_≡_};
 ghost use Prim.Native.Nat.{ℕ, _+_, _≤_, _<_};
 ghost use lib.ListN.{length, getD};
 ghost use Rattle.executive.specs.States.{stateOf};
 ghost use Rattle.board.specs.Blocks.{blocks};
 ghost use Rattle.board.specs.Image.{taskFrom, lineFrom, alarmFrom, requestFrom, subFrom, alarmsAt, poolAt, subsAt, imageLength, subLength, Loads};
+ghost use Rattle.board.specs.Image.{messageFrom, mailFrom, messagesAt, mailsAt, messageLength, mailLength};
 
 // The state of a kind, a time, a mask and a number. A byte that is no kind gives a wait that no well-formed table holds.
 pub(crate) fn state_of(kind: u8, time: Millis, mask: u32, number: u8) -> State
@@ -38,6 +45,7 @@ pub(crate) fn state_of(kind: u8, time: Millis, mask: u32, number: u8) -> State
         6 => State::AwaitStart,
         7 => State::AwaitEnd,
         8 => State::AwaitSub(SubNo(number)),
+        9 => State::AwaitMessage(TaskNo(number)),
         _ => State::Flags(Mode::Any, 0),
     }
 }
@@ -179,6 +187,66 @@ fn subs_in(bytes: &[u8]) -> [Sub; 8]
     subs
 }
 
+// The waiting message at a place.
+fn message_in(bytes: &[u8], at: usize) -> Message
+    requires { ⌜ at + 11 ≤ length (now bytes) ⌝ }
+    ensures { λ r. ⌜ r ≡ messageFrom (now (bytes .entry)) at ⌝ }
+{
+    let to = numbers::byte_in(bytes, at);
+    let sender_at = at + 1;
+    let sender = numbers::byte_in(bytes, sender_at);
+    let priority_at = sender_at + 1;
+    let priority = numbers::byte_in(bytes, priority_at);
+    let text = numbers::long_in(bytes, priority_at + 1);
+    Message {
+        to: TaskNo(to),
+        sender: TaskNo(sender),
+        priority,
+        text: Text(text),
+    }
+}
+
+fn messages_in(bytes: &[u8]) -> [Message; 32]
+    requires { ⌜ imageLength ≤ length (now bytes) ⌝ }
+    ensures { λ r. ⌜ r ≡ blocks (messageFrom (now (bytes .entry))) messageLength 32 messagesAt ⌝ }
+{
+    let first = message_in(bytes, MESSAGES);
+    let mut messages = [first; 32];
+    let mut i: usize = 0;
+    while i < 32 {
+        messages[i] = message_in(bytes, MESSAGES + i * 11);
+        i += 1;
+    }
+    messages
+}
+
+// The mail at a place.
+fn mail_at(bytes: &[u8], at: usize) -> Mail
+    requires { ⌜ at + 9 ≤ length (now bytes) ⌝ }
+    ensures { λ r. ⌜ r ≡ mailFrom (now (bytes .entry)) at ⌝ }
+{
+    let sender = numbers::byte_in(bytes, at);
+    let text = numbers::long_in(bytes, at + 1);
+    Mail {
+        sender: TaskNo(sender),
+        text: Text(text),
+    }
+}
+
+fn mail_in(bytes: &[u8]) -> [Mail; 16]
+    requires { ⌜ imageLength ≤ length (now bytes) ⌝ }
+    ensures { λ r. ⌜ r ≡ blocks (mailFrom (now (bytes .entry))) mailLength 16 mailsAt ⌝ }
+{
+    let first = mail_at(bytes, MAIL);
+    let mut mail = [first; 16];
+    let mut i: usize = 0;
+    while i < 16 {
+        mail[i] = mail_at(bytes, MAIL + i * 9);
+        i += 1;
+    }
+    mail
+}
+
 // The table of bytes that are as many as an image has, or more.
 pub(crate) fn load_whole(bytes: &[u8]) -> Table
     requires { ⌜ imageLength ≤ length (now bytes) ⌝ }
@@ -189,6 +257,8 @@ pub(crate) fn load_whole(bytes: &[u8]) -> Table
     let alarms = alarms_in(bytes);
     let pool = pool_in(bytes);
     let subs = subs_in(bytes);
+    let messages = messages_in(bytes);
+    let mail = mail_in(bytes);
     let clock = numbers::long_in(bytes, 436);
     let rest = Rest {
         count: numbers::byte_in(bytes, 433),
@@ -199,6 +269,9 @@ pub(crate) fn load_whole(bytes: &[u8]) -> Table
         pool,
         queued: numbers::byte_in(bytes, 435),
         subs,
+        messages,
+        sent: numbers::byte_in(bytes, SENT),
+        mail,
     };
     Table {
         tasks,

@@ -30,6 +30,7 @@ fn kind_of(cause: Cause) -> u8
         Cause::EndOfRequest(_, _) => 7,
         Cause::EndOfRun(_) => 8,
         Cause::Subprogram(_, _) => 9,
+        Cause::Message(_) => 10,
     }
 }
 
@@ -48,6 +49,7 @@ fn waited_on(cause: Cause) -> TaskNo
         Cause::EndOfRequest(_, task) => task,
         Cause::EndOfRun(task) => task,
         Cause::Subprogram(_, task) => task,
+        Cause::Message(_) => TaskNo(0),
     }
 }
 
@@ -61,7 +63,7 @@ fn mode_byte(mode: Mode) -> u8
     }
 }
 
-// How many are ahead, the mode of a wait for flags, a request's place, or a subprogram's number.
+// How many are ahead, the mode of a wait for flags, a request's place, a subprogram's number, or a message's sender.
 fn own_byte(cause: Cause) -> u8
     ensures { λ r. ⌜ r ≡ ownByte cause ⌝ }
 {
@@ -76,6 +78,7 @@ fn own_byte(cause: Cause) -> u8
         Cause::EndOfRequest(place, _) => place,
         Cause::EndOfRun(_) => 0,
         Cause::Subprogram(m, _) => m.0,
+        Cause::Message(sender) => sender.0,
     }
 }
 
@@ -94,6 +97,7 @@ fn until_of(cause: Cause) -> u64
         Cause::EndOfRequest(_, _) => 0,
         Cause::EndOfRun(_) => 0,
         Cause::Subprogram(_, _) => 0,
+        Cause::Message(_) => 0,
     }
 }
 

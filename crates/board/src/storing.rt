@@ -3,11 +3,16 @@ use crate::ALARMS;
 use crate::AWAITED;
 use crate::IMAGE;
 use crate::LEVELS;
+use crate::MAIL;
+use crate::MESSAGES;
 use crate::NO_ROOM;
 use crate::POOL;
 use crate::QUEUE;
+use crate::SENT;
 use crate::SUBS;
 use crate::numbers;
+use executive::Mail;
+use executive::Message;
 use executive::Millis;
 use executive::Request;
 use executive::Rest;
@@ -23,6 +28,7 @@ ghost use Prim.Native.Nat.{_+_, _≤_};
 ghost use lib.ListN.{length};
 ghost use Rattle.board.specs.Blocks.{row, written};
 ghost use Rattle.board.specs.Image.{taskBytes, placeBytes, alarmBytes, requestBytes, awaitedBytes, subBytes, headAt, alarmsAt, poolAt, awaitedAt, subsAt, imageLength, imageOf, Stores};
+ghost use Rattle.board.specs.Image.{messageBytes, mailBytes, messagesAt, mailsAt, postBytes};
 ghost use Rattle.board.specs.Coding.{frontBytes, runBytes, headOf};
 
 // Writes two bytes from a place on.
@@ -192,6 +198,59 @@ fn put_subs(out: &mut [u8], subs: [Sub; 8])
     }
 }
 
+// Writes a waiting message over 11 bytes.
+fn put_message(out: &mut [u8], at: usize, message: Message)
+    requires { ⌜ at + 11 ≤ length (now out) ⌝ }
+    ensures { λ _. ⌜ now (out .exit) ≡ written (now (out .entry)) at (messageBytes message) ⌝ }
+{
+    put_both(out, at, message.to.0, message.sender.0);
+    numbers::put_byte(out, at + 2, message.priority);
+    numbers::put_long(out, at + 3, message.text.0);
+}
+
+fn put_messages(out: &mut [u8], messages: [Message; 32])
+    requires { ⌜ length (now out) ≡ imageLength ⌝ }
+    ensures { λ _. ⌜ (length messages ≡ 32) × (now (out .exit) ≡ written (now (out .entry)) messagesAt (row messageBytes messages)) ⌝ }
+{
+    let mut i: usize = 0;
+    while i < 32 {
+        put_message(out, MESSAGES + i * 11, messages[i]);
+        i += 1;
+    }
+}
+
+// Writes a task's mail over 9 bytes.
+fn put_mail(out: &mut [u8], at: usize, mail: Mail)
+    requires { ⌜ at + 9 ≤ length (now out) ⌝ }
+    ensures { λ _. ⌜ now (out .exit) ≡ written (now (out .entry)) at (mailBytes mail) ⌝ }
+{
+    numbers::put_byte(out, at, mail.sender.0);
+    numbers::put_long(out, at + 1, mail.text.0);
+}
+
+fn put_all_mail(out: &mut [u8], mail: [Mail; 16])
+    requires { ⌜ length (now out) ≡ imageLength ⌝ }
+    ensures { λ _. ⌜ (length mail ≡ 16) × (now (out .exit) ≡ written (now (out .entry)) mailsAt (row mailBytes mail)) ⌝ }
+{
+    let mut i: usize = 0;
+    while i < 16 {
+        put_mail(out, MAIL + i * 9, mail[i]);
+        i += 1;
+    }
+}
+
+// Writes the messages, how many of them wait, and the tasks' mail.
+fn put_post(out: &mut [u8], rest: Rest)
+    requires { ⌜ length (now out) ≡ imageLength ⌝ }
+    ensures { λ _. ⌜ now (out .exit) ≡ written (now (out .entry)) messagesAt (postBytes rest) ⌝ }
+{
+    let messages = rest.messages;
+    put_messages(out, messages);
+    numbers::put_byte(out, SENT, rest.sent);
+    let mail = rest.mail;
+    put_all_mail(out, mail);
+}
+
 // Writes the image over a buffer of its length.
 pub(crate) fn put_table(out: &mut [u8], table: Table)
     requires { ⌜ length (now out) ≡ imageLength ⌝ }
@@ -211,6 +270,7 @@ pub(crate) fn put_table(out: &mut [u8], table: Table)
     put_all_awaited(out, tasks);
     let subs = rest.subs;
     put_subs(out, subs);
+    put_post(out, rest);
 }
 
 // Stores a table: 0 and its image in out, or 30 where out has not the image's length, and no byte is changed.

@@ -10,10 +10,10 @@ use why::following;
 use why::telling;
 
 // The bytes of a question: the task's number and an image.
-const QUESTION: usize = 1059;
+const QUESTION: usize = 1556;
 
 // One byte more than a question has.
-const MOST: usize = 1060;
+const MOST: usize = 1557;
 
 // Room for any answer.
 const ROOM: usize = 32768;

@@ -42,19 +42,24 @@ returns-9 c = rw (c .match .keys9)
 
 returns-10 : tie.Need-returns-10
 unfolding stateOf
-returns-10 c =
+returns-10 c = rw (c .match .keys10)
+
+returns-11 : tie.Need-returns-11
+unfolding stateOf
+returns-11 c =
     let x = c .match .rest in
     simp (
-      ne-eqb _ 0 (x .0 .0 .0 .0 .0 .0 .0 .0 .1),
-      ne-eqb _ 1 (x .0 .0 .0 .0 .0 .0 .0 .1),
-      ne-eqb _ 2 (x .0 .0 .0 .0 .0 .0 .1),
-      ne-eqb _ 3 (x .0 .0 .0 .0 .0 .1),
-      ne-eqb _ 4 (x .0 .0 .0 .0 .1),
-      ne-eqb _ 5 (x .0 .0 .0 .1),
-      ne-eqb _ 6 (x .0 .0 .1),
-      ne-eqb _ 7 (x .0 .1),
-      ne-eqb _ 8 (x .1),
+      ne-eqb _ 0 (x .0 .0 .0 .0 .0 .0 .0 .0 .0 .1),
+      ne-eqb _ 1 (x .0 .0 .0 .0 .0 .0 .0 .0 .1),
+      ne-eqb _ 2 (x .0 .0 .0 .0 .0 .0 .0 .1),
+      ne-eqb _ 3 (x .0 .0 .0 .0 .0 .0 .1),
+      ne-eqb _ 4 (x .0 .0 .0 .0 .0 .1),
+      ne-eqb _ 5 (x .0 .0 .0 .0 .1),
+      ne-eqb _ 6 (x .0 .0 .0 .1),
+      ne-eqb _ 7 (x .0 .0 .1),
+      ne-eqb _ 8 (x .0 .1),
+      ne-eqb _ 9 (x .1),
     )
 
 pub state-of-spec : {M : Type 1} → statement M
-state-of-spec = tie.close (tie.spec returns returns-2 returns-3 returns-4 returns-5 returns-6 returns-7 returns-8 returns-9 returns-10)
+state-of-spec = tie.close (tie.spec returns returns-2 returns-3 returns-4 returns-5 returns-6 returns-7 returns-8 returns-9 returns-10 returns-11)

@@ -21,10 +21,14 @@ returns-5 c = rw (c .enum-told5 .given .1)
 returns-6 : tie.Need-returns-6
 returns-6 c = rw (c .enum-told6 .given .1)
 
+returns-11 : tie.Need-returns-11
+returns-11 c = rw (c .enum-told7 .given .1)
+
 pub waited-on-spec : {M : Type 1} → statement M
 waited-on-spec =
     tie.close
     (tie.spec
+    (λ c. search needs)
     (λ c. search needs)
     (λ c. search needs)
     (λ c. search needs)
@@ -44,4 +48,5 @@ waited-on-spec =
     (λ c. search needs)
     (λ c. search needs)
     (λ c. search needs)
-    (λ c. search needs))
+    (λ c. search needs)
+    returns-11)

@@ -1,4 +1,4 @@
--- `storing::put_table` meets its contract: its eight writes make the image, and whoever owns a table knows how long its arrays
+-- `storing::put_table` meets its contract: its nine writes make the image, and whoever owns a table knows how long its arrays
 -- are.
 use mathlib.Core.Path.{_≡_, _∙_}
 use lib.ListN.{length}
@@ -27,22 +27,30 @@ kept aw =
 put-subs-requires : tie.Need-put-subs-requires
 put-subs-requires c κs = let aw = c .before .before .before .before in kept aw ∙ start aw .pre
 
+-- the same after the last write but one of all
+kept-on : (ss : tie.After-put-subs) → length (ss .put-subs .last .0) ≡ length (now (start (ss .before .before .before .before .before) .args .out))
+kept-on ss = ss .put-subs .kept .0 ∙ kept (ss .before .before .before .before .before)
+
+put-post-requires : tie.Need-put-post-requires
+put-post-requires c κs = let ss = c .before .before .before in kept-on ss ∙ start (ss .before .before .before .before .before) .pre
+
 same-length : tie.Need-same-length
-same-length c = let aw = c .before .before .before .before .before .before .before in c .before .before .put-subs .kept .0 ∙ kept aw
+same-length c = c .before .before .put-post .kept .0 ∙ kept-on (c .before .before .before .before .before .before)
 
 returns : tie.Need-returns
 returns c =
-    let aw = c .before .before .before .before .before .before .before in
+    let aw = c .before .before .before .before .before .before .before .before .before .before .before in
     let s = start aw in
-    image-made (s .args .table) (table-owned (s .args .table) _ (s .good .1 .0) .sizes) (now (s .args .out)) _ _ _ _ _ _ _ _ (s .pre)
-    (c .before .before .before .before .before .before .before .before .before .before .before .before .before .before .before .before .before .before .before .before .before .before .before .before .before .before .before .before .before .before .before .before .before .before .before .put-tasks .ensures .1)
-    (c .before .before .before .before .before .before .before .before .before .before .before .before .before .before .before .before .before .before .before .before .before .before .before .before .before .before .before .before .before .before .put-line .ensures .1)
-    (c .before .before .before .before .before .before .before .before .before .before .before .before .before .before .before .before .before .before .before .before .before .before .before .before .before .put-head .ensures)
-    (c .before .before .before .before .before .before .before .before .before .before .before .before .before .before .before .before .before .before .before .before .put-alarms .ensures .1)
-    (c .before .before .before .before .before .before .before .before .before .before .before .before .before .before .before .put-pool .ensures .1)
-    (c .before .before .before .before .before .before .before .before .before .before .before .put-pair .ensures)
+    image-made (s .args .table) (table-owned (s .args .table) _ (s .good .1 .0) .sizes) (now (s .args .out)) _ _ _ _ _ _ _ _ _ (s .pre)
+    (aw .before .before .before .before .before .before .before .before .before .before .before .before .before .before .before .before .before .before .before .before .before .before .before .before .before .before .before .before .put-tasks .ensures .1)
+    (aw .before .before .before .before .before .before .before .before .before .before .before .before .before .before .before .before .before .before .before .before .before .before .before .put-line .ensures .1)
+    (aw .before .before .before .before .before .before .before .before .before .before .before .before .before .before .before .before .before .before .put-head .ensures)
+    (aw .before .before .before .before .before .before .before .before .before .before .before .before .before .put-alarms .ensures .1)
+    (aw .before .before .before .before .before .before .before .before .put-pool .ensures .1)
+    (aw .before .before .before .before .put-pair .ensures)
     (aw .put-all-awaited .ensures)
-    (c .before .before .put-subs .ensures)
+    (c .before .before .before .before .before .before .put-subs .ensures)
+    (c .before .before .put-post .ensures)
 
 pub put-table-spec : {M : Type 1} → statement M
 put-table-spec =
@@ -56,5 +64,6 @@ put-table-spec =
     (λ c κs. search needs)
     (λ c κs. search needs)
     put-subs-requires
+    put-post-requires
     same-length
     returns)
