@@ -19,14 +19,14 @@ extern "C" {
 
 /* The version. The second number rises with each landing (docs/CHANGES.md); the first, with the second at 0 again,
  * where a board must change: the image, a part of the answer that stands already, what a function takes and returns. */
-#define QUERMANIC_VERSION "3.0"
+#define QUERMANIC_VERSION "4.0"
 
 /* A length in bytes. The code takes 64 bits on every machine; size_t has 32 on some, and would be wrong there. */
 typedef uint64_t quermanic_length;
 
 /* The bytes of a table's image (docs/TABLE.md), and where the word of the ready levels stands in it: two bytes, the higher
  * first; bit p is set exactly if some ready task has priority p. */
-#define QUERMANIC_IMAGE_LENGTH 1058
+#define QUERMANIC_IMAGE_LENGTH 1555
 #define QUERMANIC_IMAGE_LEVELS 896
 
 /* What the lamp gives when it is dark: no priority. */
@@ -34,8 +34,9 @@ typedef uint64_t quermanic_length;
 
 /* The bytes of an answer, and where each of its parts stands. Walked: how many ready tasks were passed over by those that
  * entered, one byte. The argument is two bytes, the higher first; how many grid times a restart by 01 with bit 6 passed over is
- * eight, the highest first. */
-#define QUERMANIC_ANSWER_LENGTH 16
+ * eight, the highest first. Of the message that a receive hands out at once the sender and the eight bytes of its text; 0 of every
+ * other answer. */
+#define QUERMANIC_ANSWER_LENGTH 25
 #define QUERMANIC_ANSWER_NUMBER 0
 #define QUERMANIC_ANSWER_Z 1
 #define QUERMANIC_ANSWER_V 2
@@ -44,6 +45,8 @@ typedef uint64_t quermanic_length;
 #define QUERMANIC_ANSWER_WALKED 5
 #define QUERMANIC_ANSWER_ARGUMENT 6
 #define QUERMANIC_ANSWER_SKIPPED 8
+#define QUERMANIC_ANSWER_SENDER 16
+#define QUERMANIC_ANSWER_TEXT 17
 
 /* The bytes of the reasons why a task is not running, and where each part stands: the path's steps, the first is the task
  * asked for; of a step the task, its cause, the task it waits on, a byte of its cause, and eight bytes, the highest first.
@@ -72,12 +75,13 @@ typedef uint64_t quermanic_length;
 #define QUERMANIC_CAUSE_END_OF_REQUEST 7 /* for the end of the run that the request at this place begins */
 #define QUERMANIC_CAUSE_END_OF_RUN 8     /* for the end of the run of the task that is waited on */
 #define QUERMANIC_CAUSE_SUBPROGRAM 9     /* for this subprogram (own byte), which the task that is waited on holds */
+#define QUERMANIC_CAUSE_MESSAGE 10       /* for a message from this task, or from any, 0 (own byte); the path ends there */
 
 /* The longest configuration: one 40, sixteen 41, one 42. */
 #define QUERMANIC_LONGEST_CONFIGURATION 51
 
 /* The longest record of a call. */
-#define QUERMANIC_LONGEST_RECORD 6
+#define QUERMANIC_LONGEST_RECORD 10
 
 /* The numbers that the functions return, and that an answer carries. */
 #define QUERMANIC_ACCEPTED 0           /* accepted */
@@ -94,6 +98,7 @@ typedef uint64_t quermanic_length;
 #define QUERMANIC_HOLDS_IT 13          /* 06, and the caller holds the subprogram already */
 #define QUERMANIC_HOLDS_IT_NOT 14      /* 07, and the caller does not hold the subprogram */
 #define QUERMANIC_HOLDS_ANY 15         /* 00 or 01, and the caller holds a subprogram */
+#define QUERMANIC_MESSAGES_FULL 16     /* 14, the message would have to wait, and 32 messages wait */
 /* The board's own number, judged before any other: a buffer that is to be written to has not the length it needs. */
 #define QUERMANIC_NO_ROOM 30
 
@@ -109,6 +114,8 @@ typedef uint64_t quermanic_length;
 #define QUERMANIC_KIND_FLAG 0x09         /* a flag is reset, set or tested */
 #define QUERMANIC_KIND_WAIT 0x0A         /* the caller waits for flags */
 #define QUERMANIC_KIND_ALARM 0x0B        /* a flag is set after an interval */
+#define QUERMANIC_KIND_SEND 0x14         /* a message goes to a task: it gets it at once, or the message waits */
+#define QUERMANIC_KIND_RECEIVE 0x15      /* the caller gets the first message for it, or waits for one */
 #define QUERMANIC_KIND_TICK 0x80         /* the clock gains a granule */
 #define QUERMANIC_KIND_GRANULE 0x40      /* a configuration's first record: its granule, in ms */
 #define QUERMANIC_KIND_TASK 0x41         /* a configuration's next: a task */
@@ -146,6 +153,10 @@ typedef uint64_t quermanic_length;
 /* The controlled subprograms, numbered from 0. */
 #define QUERMANIC_SUBPROGRAMS 8
 
+/* The bytes of a message's text; what 15 takes for a message from any task. */
+#define QUERMANIC_TEXT_LENGTH 8
+#define QUERMANIC_ANY_SENDER 0
+
 /* The marks of a configuration's task. */
 #define QUERMANIC_NOT_STARTED 0
 #define QUERMANIC_STARTED 1
@@ -159,12 +170,26 @@ typedef uint64_t quermanic_length;
 #define QUERMANIC_IMAGE_QUEUED 435 /* how many requests are queued */
 #define QUERMANIC_IMAGE_CLOCK 436  /* eight bytes, the highest first */
 #define QUERMANIC_IMAGE_FLAGS 444  /* four bytes, the highest first: flag n is bit n */
-#define QUERMANIC_IMAGE_AWAITED 898     /* sixteen bytes: task k's is the subprogram that it waits for, in state 8 */
+#define QUERMANIC_IMAGE_AWAITED 898     /* sixteen bytes: task k's is the subprogram, in state 8, or the sender, in state 9, waited for */
 #define QUERMANIC_IMAGE_SUBPROGRAMS 914 /* subprogram m's place begins QUERMANIC_SUBPROGRAM_LENGTH * m further on */
 #define QUERMANIC_SUBPROGRAM_LENGTH 18
 #define QUERMANIC_SUBPROGRAM_HOLDER 0  /* the task that holds it, 0 when it is free */
 #define QUERMANIC_SUBPROGRAM_WAITING 1 /* how many wait for it */
 #define QUERMANIC_SUBPROGRAM_LINE 2    /* sixteen bytes: those that wait, the next first */
+#define QUERMANIC_IMAGE_MESSAGES 1058 /* the messages that wait, the next first; each QUERMANIC_MESSAGE_LENGTH further on */
+#define QUERMANIC_MESSAGE_LENGTH 11
+#define QUERMANIC_MESSAGE_TO 0       /* the task that it is for, 0 in a free place */
+#define QUERMANIC_MESSAGE_SENDER 1   /* the task that sent it */
+#define QUERMANIC_MESSAGE_PRIORITY 2 /* the sender's priority when it was sent */
+#define QUERMANIC_MESSAGE_TEXT 3
+#define QUERMANIC_IMAGE_SENT 1410 /* how many messages wait */
+/* The message that woke task 1 to 16 out of state 9: its sender, and behind it the text; zeros where there is none. It stands
+ * there until that task receives again, or its run ends. */
+#define QUERMANIC_IMAGE_MAIL 1411
+#define QUERMANIC_MAIL_LENGTH 9
+#define QUERMANIC_MAIL_SENDER 0
+#define QUERMANIC_MAIL_TEXT 1
+#define QUERMANIC_MAIL_AT(task) (QUERMANIC_IMAGE_MAIL + QUERMANIC_MAIL_LENGTH * ((task) - 1))
 #define QUERMANIC_ENTRY_LENGTH 26
 #define QUERMANIC_ENTRY_STATE 1
 #define QUERMANIC_ENTRY_START 17 /* the last scheduled start of its run: eight bytes, the highest first */
@@ -177,6 +202,7 @@ typedef uint64_t quermanic_length;
 #define QUERMANIC_STATE_WAITS_START 6
 #define QUERMANIC_STATE_WAITS_END 7
 #define QUERMANIC_STATE_WAITS_SUBPROGRAM 8
+#define QUERMANIC_STATE_WAITS_MESSAGE 9
 
 /*
  * Makes a fresh table from the bytes of a configuration.
@@ -200,16 +226,18 @@ uint8_t quermanic_check(const uint8_t *image, quermanic_length image_length);
 
 /*
  * Takes a step: the call, or the tick, whose record is given, from the active task of the table whose image is given.
- * Returns the answer's number (0 to 10, 13 to 15), or 30.
+ * Returns the answer's number (0 to 10, 13 to 16), or 30.
  *
  *   0        `image` now holds the image of the table after the step
- *   1 to 15  refused: no byte of `image` is changed. 1 also where `image_length` is not QUERMANIC_IMAGE_LENGTH
+ *   1 to 16  refused: no byte of `image` is changed. 1 also where `image_length` is not QUERMANIC_IMAGE_LENGTH
  *   30       `answer_length` is less than QUERMANIC_ANSWER_LENGTH: no byte of `image` or of `answer` is changed
  *
  * But for 30, the answer is written to the first QUERMANIC_ANSWER_LENGTH bytes of `answer`; the bytes after it keep their content.
  * Its number, Z, V, C, the active task (0 when idle) and its run's argument (0 when idle) are those after the step; after 1 all but
  * the number are 0. Grid times are passed over by an accepted 01 with bit 6 only, and 0 after any other step. Each task that enters
  * the ready queue walks past all of equal or higher priority that are ready then: 15 at most, 120 in a step, 0 where it is refused.
+ * A sender and a text are those of the message that an accepted 15 found waiting; a 15 that waits finds its message, once the task
+ * runs again, at QUERMANIC_MAIL_AT of the image.
  */
 uint8_t quermanic_step(uint8_t *image, quermanic_length image_length, const uint8_t *record,
                        quermanic_length record_length, uint8_t *answer, quermanic_length answer_length);
@@ -335,6 +363,23 @@ static inline quermanic_length quermanic_put_alarm(uint8_t *record, uint8_t unit
     return 4;
 }
 
+/* 14: a message of QUERMANIC_TEXT_LENGTH bytes to a task. */
+static inline quermanic_length quermanic_put_send(uint8_t *record, uint8_t task, const uint8_t *text) {
+    record[0] = QUERMANIC_KIND_SEND;
+    record[1] = task;
+    for (unsigned i = 0; i < QUERMANIC_TEXT_LENGTH; i++) {
+        record[2 + i] = text[i];
+    }
+    return 2 + QUERMANIC_TEXT_LENGTH;
+}
+
+/* 15: the caller receives a message from a task, or from QUERMANIC_ANY_SENDER. */
+static inline quermanic_length quermanic_put_receive(uint8_t *record, uint8_t sender) {
+    record[0] = QUERMANIC_KIND_RECEIVE;
+    record[1] = sender;
+    return 2;
+}
+
 /* 80: a tick. */
 static inline quermanic_length quermanic_put_tick(uint8_t *record) {
     record[0] = QUERMANIC_KIND_TICK;
@@ -413,6 +458,15 @@ static inline uint64_t quermanic_start_of(const uint8_t *image, uint8_t task) {
 /* The task that holds subprogram 0 to 7, 0 when it is free. */
 static inline uint8_t quermanic_holder_of(const uint8_t *image, uint8_t subprogram) {
     return image[QUERMANIC_IMAGE_SUBPROGRAMS + QUERMANIC_SUBPROGRAM_LENGTH * subprogram + QUERMANIC_SUBPROGRAM_HOLDER];
+}
+
+/* The sender of the message that stands in the entry of task 1 to 16, 0 when none does; its text. */
+static inline uint8_t quermanic_mail_sender_of(const uint8_t *image, uint8_t task) {
+    return image[QUERMANIC_MAIL_AT(task) + QUERMANIC_MAIL_SENDER];
+}
+
+static inline const uint8_t *quermanic_mail_text_of(const uint8_t *image, uint8_t task) {
+    return image + QUERMANIC_MAIL_AT(task) + QUERMANIC_MAIL_TEXT;
 }
 
 #ifdef __cplusplus
