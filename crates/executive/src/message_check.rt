@@ -65,6 +65,9 @@ fn free_from(messages: [Message; 32], sent: usize) -> bool
 pub(crate) fn sent_right(tasks: [Task; 16], messages: [Message; 32], sent: u8, count: u8) -> bool
     ensures { λ r. ⌜ r ≡ sentRight tasks count sent messages ⌝ }
 {
+    if sent == 0 {
+        return free_from(messages, 0);
+    }
     if 32 < sent {
         return false;
     }

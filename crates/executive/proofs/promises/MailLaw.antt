@@ -5,13 +5,13 @@ use mathlib.Core.Bool.{true}
 use mathlib.Core.List.{List, [], _∷_, _++_, map, append-nil}
 use Prim.Native.Nat.{ℕ, suc, _+_, _<_}
 use native.Mathlib.Omega.{arith}
-use lib.ListN.{length, length-append}
+use lib.ListN.{length, getD, length-append}
 use Rattle.records.specs.Numbers.{Bytes}
 use Rattle.executive.specs.declared.Message.{Message}
 use Rattle.executive.specs.declared.Table.{Table}
 use Rattle.executive.specs.Lists.{one, sumOf}
 use Rattle.executive.specs.Table.{begin}
-use Rattle.executive.specs.Messages.{letters, firstFit}
+use Rattle.executive.specs.Messages.{letters}
 use Rattle.executive.specs.Plans.{caller}
 use Rattle.executive.specs.WellFormed.{WellFormed}
 use Rattle.executive.specs.Step.{stepOf}
@@ -19,7 +19,7 @@ use Rattle.executive.specs.Configuration.{tasksIn, isConfiguration, dorm
 use Rattle.executive.specs.Letters.{Letter, letter, unstamped, unnumbered, Letters, Passage, opened, allThat, isOfThese, ofThese, timesOf, entered, passageIn, lettersFrom, lettersOf, firstWaiting, Agree}
 use Rattle.executive.specs.Promises.Demands.{after, AllBytes}
 use Rattle.executive.specs.Promises.EveryStart.{counted}
-use Rattle.executive.specs.Promises.MailLaw.{sends14, LetterAccount, HandsOver, FirstOfFitting, MailLaw}
+use Rattle.executive.specs.Promises.MailLaw.{sends14, receives15, LetterAccount, HandsOver, fitPlace, TellsFirst, MailLaw}
 use Rattle.executive.proofs.Lists.Tests.{not-zero}
 use Rattle.executive.proofs.queue.InFlight.{admits-rest}
 use Rattle.executive.proofs.messages.Arrays.{letters-length}
@@ -32,7 +32,7 @@ use Rattle.executive.proofs.Letters.Written.{GoodLetters, written-kept}
 use Rattle.executive.proofs.Letters.Step.{step-passes}
 use Rattle.executive.proofs.Letters.Counted.{newPosted, adds-posted, sends-told}
 use Rattle.executive.proofs.Letters.Handed.{newHanded, adds-handed, few-handed, step-told}
-use Rattle.executive.proofs.Letters.Told.{none-told}
+use Rattle.executive.proofs.Letters.Told.{none-told, receive-tells, none-found}
 use Rattle.executive.proofs.Letters.Mail.{mail-stands, mail-gone}
 use Rattle.executive.proofs.Letters.Again.{room-again}
 
@@ -146,18 +146,21 @@ fresh-counted g ss b e y =
     omega (arith, letter-account (freshTable g) ss (fresh-formed g b e) y .number)
 
 -- ---- what a receive hands out is the first of those that fit
-pub handed-first : (t : Table) (x : ℕ) → WellFormed t → firstFit (caller t .0) x (letters (t .rest)) < length (letters (t .rest))
-    → FirstOfFitting (caller t .0) x (letters (t .rest)) (firstFit (caller t .0) x (letters (t .rest)))
-handed-first t x w h = first-of-fitting (caller t .0) x (letters (t .rest)) (w .messages .sorted) h
+pub first-handed : (t : Table) (s : List ℕ) → WellFormed t → Bytes s → receives15 t s ≡ true → fitPlace t s < length (letters (t .rest))
+    → TellsFirst t s (stepOf t s .answer) (fitPlace t s)
+first-handed t s w y r h =
+    let m = receive-tells t s y r in
+    record { first = first-of-fitting (caller t .0) (getD s 1 0) (letters (t .rest)) (w .messages .sorted) h; sender = m .0; text = m .1 }
 
 pub mail-law : MailLaw
 mail-law = record {
   from-any = letter-account;
   counted = fresh-counted;
   handed-is-told = handed-is-told;
-  none-told = λ t s w y r. none-told t s y r;
+  none-told = none-told;
   mail-stands = mail-stands;
   mail-gone = mail-gone;
-  first-handed = λ t x w r h. handed-first t x w h;
+  first-handed = first-handed;
+  none-found = none-found;
   room-again = room-again;
 }

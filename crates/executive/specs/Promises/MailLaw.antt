@@ -98,6 +98,15 @@ pub record FirstOfFitting (k x : ℕ) (ms : List Message) (i : ℕ) : Type 0 whe
   pub longest : (j : ℕ) → j < length ms → fits k x (getD ms j noMessage) ≡ true → getD ms j noMessage .priority ≡ getD ms i noMessage .priority
       → i ≤ j
 
+-- the answer a of a receive s tells the message at place i of those that wait, which is the first that fits
+abbrev pub fitPlace : Table → List ℕ → ℕ
+fitPlace t s = firstFit (caller t .0) (getD s 1 0) (letters (t .rest))
+
+pub record TellsFirst (t : Table) (s : List ℕ) (a : Answer) (i : ℕ) : Type 0 where
+  pub first : FirstOfFitting (caller t .0) (getD s 1 0) (letters (t .rest)) i
+  pub sender : a .sender ≡ getD (letters (t .rest)) i noMessage .sender
+  pub text : a .text ≡ getD (letters (t .rest)) i noMessage .text
+
 pub record MailLaw : Type 0 where
   -- from any well-formed table, over any records, refused ones included; so also after mending
   pub from-any : (t : Table) (ss : List (List ℕ)) → WellFormed t → AllBytes ss → LetterAccount t ss
@@ -107,16 +116,17 @@ pub record MailLaw : Type 0 where
   -- each step of a history hands over one at most, and tells it; no other answer tells a sender or a text
   pub handed-is-told : (t : Table) (before : List (List ℕ)) (s : List ℕ) → WellFormed t → AllBytes before → Bytes s
       → HandsOver (lettersOf t before) (lettersOf t (before ++ (s ∷ []))) (after t before) s
-  pub none-told : (t : Table) (s : List ℕ) → WellFormed t → Bytes s → receives15 t s ≡ false → SaysNothing (stepOf t s .answer)
+  pub none-told : (t : Table) (s : List ℕ) → Bytes s → receives15 t s ≡ false → SaysNothing (stepOf t s .answer)
   -- a task's mail stands until an accepted receive, 00 or 01 of that task, or an accepted send that delivers to it
   pub mail-stands : (t : Table) (s : List ℕ) (k : ℕ) → WellFormed t → Bytes s → (empties? t s k || fills? t s k) ≡ false
       → mailAt (stepOf t s .table .rest .mail) k ≡ mailAt (t .rest .mail) k
   pub mail-gone : (t : Table) (s : List ℕ) (k : ℕ) → WellFormed t → Bytes s → empties? t s k ≡ true
       → mailAt (stepOf t s .table .rest .mail) k ≡ noMail
-  -- what a receive from number x hands out is the first of those that fit
-  pub first-handed : (t : Table) (x : ℕ) → WellFormed t → receives15 t (0x15 ∷ x ∷ []) ≡ true
-      → firstFit (caller t .0) x (letters (t .rest)) < length (letters (t .rest))
-      → FirstOfFitting (caller t .0) x (letters (t .rest)) (firstFit (caller t .0) x (letters (t .rest)))
+  -- what a receive hands out is the first of those that fit; where none fits, it tells nothing
+  pub first-handed : (t : Table) (s : List ℕ) → WellFormed t → Bytes s → receives15 t s ≡ true → fitPlace t s < length (letters (t .rest))
+      → TellsFirst t s (stepOf t s .answer) (fitPlace t s)
+  pub none-found : (t : Table) (s : List ℕ) → Bytes s → receives15 t s ≡ true → length (letters (t .rest)) ≤ fitPlace t s
+      → SaysNothing (stepOf t s .answer)
   -- a delivered message's place can be used again: after a receive that handed one out, a send that was refused is accepted
   pub room-again : (t : Table) (s q : List ℕ) → WellFormed t → Bytes s → Bytes q → stepOf t s .answer .number ≡ 16
       → receives15 t q ≡ true → stepOf t q .table .rest .sent < t .rest .sent → stepOf (stepOf t q .table) s .answer .number ≡ 0

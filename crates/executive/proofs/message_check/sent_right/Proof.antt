@@ -1,20 +1,22 @@
-use Rattle.executive.proofs.messages.Kept.{mail-gone}
-use Rattle.executive.proofs.messages.Unmet.{none-from, none-found, first-of-fitting}
-use Rattle.executive.proofs.Letters.Written.{written-kept}
 use mathlib.Core.Path.{sym, _∙_}
 use borrow.Author.Needs.{needs}
 use borrow.Author.Tests.{le-leb, lt-leb}
+use Rattle.executive.specs.Check.{lettersRight}
 use Rattle.executive.proofs.message_check.sent_right.Statement.{statement}
 use Rattle.executive.proofs.message_check.sent_right.Tie as tie
 
 returns : tie.Need-returns
-returns c = rw (lt-leb _ _ (c .if1 .taken))
+unfolding lettersRight
+returns c = rw (c .before .if1 .taken) (c .free-from .ensures)
 
 returns-2 : tie.Need-returns-2
-returns-2 c = rw (le-leb _ _ (c .before .before .before .if1 .left), sym (c .before .before .letters-right .ensures) ∙ c .before .if2 .taken) (c .free-from .ensures)
+returns-2 c = rw (lt-leb _ _ (c .if2 .taken))
 
 returns-3 : tie.Need-returns-3
-returns-3 c = rw (le-leb _ _ (c .before .before .if1 .left), sym (c .before .letters-right .ensures) ∙ c .if2 .left) (c .if2 .left)
+returns-3 c = rw (le-leb _ _ (c .before .before .before .if2 .left), sym (c .before .before .letters-right .ensures) ∙ c .before .if3 .taken) (c .free-from2 .ensures)
+
+returns-4 : tie.Need-returns-4
+returns-4 c = rw (le-leb _ _ (c .before .before .if2 .left), sym (c .before .letters-right .ensures) ∙ c .if3 .left) (c .if3 .left)
 
 pub sent-right-spec : {M : Type 1} → statement M
-sent-right-spec = tie.close (tie.spec returns (λ c κs. search needs) (λ c κs. search needs) returns-2 returns-3)
+sent-right-spec = tie.close (tie.spec (λ c κs. search needs) returns returns-2 (λ c κs. search needs) (λ c κs. search needs) returns-3 returns-4)
