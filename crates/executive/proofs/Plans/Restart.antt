@@ -13,6 +13,7 @@ use Rattle.executive.specs.declared.Task.{Task}
 use Rattle.executive.specs.declared.Request.{Request}
 use Rattle.executive.specs.declared.Table.{Table}
 use Rattle.executive.specs.Entries.{risen, dueAt}
+use Rattle.executive.specs.Messages.{noMail, withMail}
 use Rattle.executive.specs.Plans.{endWaiter, waking, raising, restartBy, restartPlan}
 use Rattle.executive.specs.Pool.{requests}
 use Rattle.executive.specs.Places.{Names, taskAt, putAt}
@@ -28,7 +29,7 @@ use Rattle.executive.proofs.Plans.Links.{alike, release}
 use Rattle.executive.proofs.Plans.GoodIsKept.{puts, Good, JoinsAll, JoinsKeep, moves-kept}
 use Rattle.executive.proofs.Plans.SubsKept.{AllElse, joined, subs-else}
 use Rattle.executive.proofs.Plans.Shared.{EntryOkIn, ready-own, runs, Woken, ender-in, joins-append, puts-append, wake-other, wake-length, inside, leaves-else, post-rested, gone-mailed}
-use Rattle.executive.proofs.messages.Kept.{MailOk}
+use Rattle.executive.proofs.messages.Kept.{MailOk, mail-beside}
 
 module _ (t : Table) (w : WellFormedByPart t) (h : 0 < t .ready) where
   abbrev c : TaskNo
@@ -88,7 +89,9 @@ module _ (t : Table) (w : WellFormedByPart t) (h : 0 < t .ready) where
     due-lined = leaves-else t w h e₁ refl (λ z. absurd (omega arith))
 
     due-mailed : MailOk ts₄ (restartBy t c aim .rest)
-    due-mailed = gone-mailed t w h e₁ (t .rest) (w .mailed) (λ z. false-not-true z)
+    due-mailed =
+        mail-beside ts₄ (withMail (c .0) noMail (t .rest)) (restartBy t c aim .rest) refl refl refl refl
+        (gone-mailed t w h e₁ (t .rest) (w .mailed) (λ z. false-not-true z))
 
     later-good : aim .0 ≤ now + longest → now < aim .0 → Good (record { out = leaves (dueAt aim); ins = waking (endWaiter t c) ++ []; rest = restartBy t c aim .rest }) t
     unfolding puts
