@@ -1,7 +1,9 @@
-//! The book of starts held to the model alone, as it is or with a fault: what the account finds by itself.
+//! The book of starts and the account of messages held to the model alone, as it is or with a fault: what they find by
+//! themselves.
 
 use crate::answer::answer_bytes;
 use crate::book::{Book, Held};
+use crate::letters::Letters;
 use crate::wrong::Wrong;
 use model::configuration::fresh_from_start;
 use model::image::encode;
@@ -17,6 +19,7 @@ fn walk(bytes: &[u8], wrong: Wrong, steps: &mut u64) -> Held {
     };
     let mut image = encode(&table);
     let mut book = Book::open(&image);
+    let mut letters = Letters::open(&image);
     for record in records_of(&bytes[used..]) {
         let answer = match wrong {
             Wrong::Rule(fault) => fault.step(&mut table, record),
@@ -24,6 +27,7 @@ fn walk(bytes: &[u8], wrong: Wrong, steps: &mut u64) -> Held {
         };
         let after = encode(&table);
         book.enter(&image, record, &answer_bytes(&answer), &after)?;
+        letters.enter(&image, record, &answer_bytes(&answer), &after)?;
         image = after;
         *steps += 1;
     }
@@ -40,6 +44,6 @@ pub fn accounted(least: u64, seed: u64, wrong: Wrong) -> bool {
         }
         index += 1;
     }
-    println!("{index} runs of seed {seed}: no start is lost in {steps} steps");
+    println!("{index} runs of seed {seed}: no start and no message is lost in {steps} steps");
     true
 }

@@ -47,6 +47,9 @@ static void try_builders(void) {
         "\x0A\x01\x80\x00\x00\x01");
     TRY("0B", quermanic_put_alarm(record, QUERMANIC_UNIT_10_MS, 3, 4), "\x0B\x01\x03\x04");
     TRY("0B in days", quermanic_put_alarm(record, QUERMANIC_UNIT_DAY, 30, 4), "\x0B\x05\x1E\x04");
+    TRY("14", quermanic_put_send(record, 3, (const uint8_t *)"GATE 2\0\xFF"), "\x14\x03GATE 2\x00\xFF");
+    TRY("15", quermanic_put_receive(record, 16), "\x15\x10");
+    TRY("15 from any task", quermanic_put_receive(record, QUERMANIC_ANY_SENDER), "\x15\x00");
     TRY("80", quermanic_put_tick(record), "\x80");
     TRY("40", quermanic_put_granule(record, 10), "\x40\x0A");
     TRY("41", quermanic_put_task(record, 15, QUERMANIC_STARTED), "\x41\x0F\x01");
@@ -60,6 +63,43 @@ static quermanic_length configure(uint8_t *config) {
     length += quermanic_put_task(config + length, 7, QUERMANIC_STARTED);
     length += quermanic_put_task(config + length, 5, QUERMANIC_NOT_STARTED);
     return length + quermanic_put_end(config + length);
+}
+
+/* What an answer hands out, and what stands in a task's entry: the sender and the text. */
+static int handed(const uint8_t *answer, uint8_t sender, const char *text) {
+    return answer[QUERMANIC_ANSWER_SENDER] == sender &&
+           memcmp(answer + QUERMANIC_ANSWER_TEXT, text, QUERMANIC_TEXT_LENGTH) == 0;
+}
+
+static int has(const uint8_t *image, uint8_t task, uint8_t sender, const char *text) {
+    return quermanic_mail_sender_of(image, task) == sender &&
+           memcmp(quermanic_mail_text_of(image, task), text, QUERMANIC_TEXT_LENGTH) == 0;
+}
+
+/* Task 1 is active, and 2 is dormant. 1 sends to 2, starts it, and waits for a message; 2 receives what was kept for
+ * it, and sends 1 an answer. */
+static void try_messages(uint8_t *image) {
+    const quermanic_length room = QUERMANIC_IMAGE_LENGTH, answer_room = QUERMANIC_ANSWER_LENGTH;
+    uint8_t record[QUERMANIC_LONGEST_RECORD], answer[QUERMANIC_ANSWER_LENGTH];
+    const uint8_t *first = image + QUERMANIC_IMAGE_MESSAGES;
+    quermanic_length length = quermanic_put_send(record, 2, (const uint8_t *)"GATE 2\0");
+
+    tell("a message", quermanic_step(image, room, record, length, answer, answer_room) == QUERMANIC_ACCEPTED);
+    tell("it waits", image[QUERMANIC_IMAGE_SENT] == 1 && first[QUERMANIC_MESSAGE_TO] == 2 &&
+                         first[QUERMANIC_MESSAGE_SENDER] == 1 && first[QUERMANIC_MESSAGE_PRIORITY] == 7 &&
+                         memcmp(first + QUERMANIC_MESSAGE_TEXT, "GATE 2\0", QUERMANIC_TEXT_LENGTH) == 0);
+    tell("nothing is handed out", handed(answer, 0, "\0\0\0\0\0\0\0"));
+    quermanic_step(image, room, record, quermanic_put_start(record, 5, 2), answer, answer_room);
+    length = quermanic_put_receive(record, QUERMANIC_ANY_SENDER);
+    tell("a wait", quermanic_step(image, room, record, length, answer, answer_room) == QUERMANIC_ACCEPTED &&
+                       quermanic_state_of(image, 1) == QUERMANIC_STATE_WAITS_MESSAGE);
+    length = quermanic_put_receive(record, 1);
+    tell("what is handed out", quermanic_step(image, room, record, length, answer, answer_room) == QUERMANIC_ACCEPTED &&
+                                   handed(answer, 1, "GATE 2\0") && image[QUERMANIC_IMAGE_SENT] == 0);
+    length = quermanic_put_send(record, 1, (const uint8_t *)"SHUT\0\0\0");
+    tell("what a woken task finds", quermanic_step(image, room, record, length, answer, answer_room) == 0 &&
+                                        quermanic_active_of(image) == 1 && has(image, 1, 2, "SHUT\0\0\0") &&
+                                        has(image, 2, 0, "\0\0\0\0\0\0\0"));
 }
 
 static void try_readers(void) {
@@ -97,6 +137,7 @@ static void try_readers(void) {
     length = quermanic_put_enter(record, 7);
     tell("a subprogram", quermanic_step(image, room, record, length, answer, answer_room) == QUERMANIC_ACCEPTED);
     tell("its holder", quermanic_holder_of(image, 7) == 1 && quermanic_holder_of(image, 6) == 0);
+    try_messages(image);
 }
 
 int main(void) {

@@ -1,18 +1,19 @@
 //! What a trial met: numbers, kinds, checks, days that ended, and why tasks did not run.
 
 use crate::book::Book;
+use crate::letters::Letters;
 use model::table::{State, Table, FLAGS, TASKS};
 use model::why::{Reason, Why};
 use std::collections::BTreeMap;
 
 /// The numbers that must be met: by steps, and by the making of fresh tables.
-const OF_STEPS: [u8; 14] = [0, 1, 3, 4, 5, 6, 7, 8, 9, 10, 13, 14, 15, 30];
+const OF_STEPS: [u8; 15] = [0, 1, 3, 4, 5, 6, 7, 8, 9, 10, 13, 14, 15, 16, 30];
 const OF_FRESH: [u8; 3] = [0, 2, 30];
 /// The most ready tasks that a step can pass over: 1 to 15, by sixteen that enter an empty queue.
 const FARTHEST: u8 = 120;
 /// Those by questions why a task is not running, and the reasons.
 const OF_WHYS: [u8; 4] = [0, 1, 6, 30];
-const REASONS: [&str; 11] = [
+const REASONS: [&str; 12] = [
     "dormant",
     "active",
     "ready",
@@ -24,12 +25,13 @@ const REASONS: [&str; 11] = [
     "end of a request's run",
     "end of a run",
     "subprogram",
+    "message",
 ];
 /// What waits for a time.
 const TIMED: [&str; 3] = ["paused task", "due task", "alarm"];
 /// The longest interval that is no day's: 255 hours.
 const HOURS: u64 = 918_000_000;
-const KINDS: [u8; 12] = [0x00, 0x01, 0x02, 0x03, 0x04, 0x05, 0x06, 0x07, 0x09, 0x0A, 0x0B, 0x80];
+const KINDS: [u8; 14] = [0x00, 0x01, 0x02, 0x03, 0x04, 0x05, 0x06, 0x07, 0x09, 0x0A, 0x0B, 0x14, 0x15, 0x80];
 
 #[derive(Default)]
 pub struct Met {
@@ -44,6 +46,8 @@ pub struct Met {
     walked: u8,
     /// Starts that were asked for, and that have begun.
     starts: [u64; 2],
+    /// Messages that were accepted, and that were delivered.
+    letters: [u64; 2],
     /// How often the lamp showed each level, and 16 for dark.
     lamps: [u64; 17],
     whys: BTreeMap<u8, u64>,
@@ -117,6 +121,12 @@ impl Met {
         self.starts[1] += book.begun;
     }
 
+    /// Letters that are closed.
+    pub fn delivered(&mut self, letters: &Letters) {
+        self.letters[0] += letters.posted;
+        self.letters[1] += letters.handed;
+    }
+
     /// What the lamp showed of a well-formed table.
     pub fn lit(&mut self, shown: u32) {
         self.lamps[shown as usize] += 1;
@@ -154,6 +164,7 @@ impl Met {
         println!("  grid times passed over in one step: at most {}", self.skipped);
         println!("  ready tasks passed over in one step: at most {}", self.walked);
         println!("  starts asked for: {}, begun: {}", self.starts[0], self.starts[1]);
+        println!("  messages accepted: {}, delivered: {}", self.letters[0], self.letters[1]);
         println!("  lamp at 0 to 15, and dark: {:?}", self.lamps);
         for (what, count) in TIMED.iter().zip(self.days) {
             println!("  {what} after more than 255 hours: {count}");
@@ -171,6 +182,7 @@ impl Met {
             && self.skipped > u64::from(u32::MAX)
             && self.walked == FARTHEST
             && self.starts.iter().all(|count| *count > 0)
+            && self.letters.iter().all(|count| *count > 0)
             && self.lamps.iter().all(|count| *count > 0)
             && self.days.iter().all(|count| *count > 0)
             && OF_WHYS.iter().all(|n| self.whys.contains_key(n))
@@ -201,6 +213,7 @@ fn place_of(reason: Reason) -> usize {
         Reason::EndOfRequest(..) => 8,
         Reason::EndOfRun(_) => 9,
         Reason::Subprogram(..) => 10,
+        Reason::Message(_) => 11,
     }
 }
 

@@ -32,6 +32,7 @@ fn step_of(reason: Reason) -> (u8, u8, u8, u64) {
         Reason::EndOfRequest(place, task) => (7, task, place, 0),
         Reason::EndOfRun(task) => (8, task, 0, 0),
         Reason::Subprogram(number, holder) => (9, holder, number, 0),
+        Reason::Message(sender) => (10, 0, sender, 0),
     }
 }
 

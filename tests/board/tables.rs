@@ -2,15 +2,17 @@
 
 use model::check::well_formed;
 use model::runs::Rng;
-use model::table::{Request, State, Sub, Table, Task, FLAGS, LAST_CLOCK, LONGEST, PLACES, SUBS, TASKS};
+use model::table::{
+    Mail, Message, Request, State, Sub, Table, Task, FLAGS, LAST_CLOCK, LONGEST, MESSAGES, PLACES, SUBS, TASKS,
+};
 
 type Edit = fn(&mut Table, &mut Rng);
 
 /// Edits that mostly keep a table well formed.
-const EDITS: [Edit; 11] = [clock, forward, own, runs, flags, timed, waits, fill_pool, move_end, to_end, share];
+const EDITS: [Edit; 12] = [clock, forward, own, runs, flags, timed, waits, fill_pool, move_end, to_end, share, mail];
 
 /// Edits that mostly break one rule, by as little as they can.
-const BREAKS: [Edit; 12] = [
+const BREAKS: [Edit; 14] = [
     bad_time,
     bad_alarm,
     bad_entry,
@@ -23,6 +25,8 @@ const BREAKS: [Edit; 12] = [
     bad_levels,
     bad_holder,
     bad_line,
+    bad_message,
+    bad_mail,
 ];
 
 /// The table after an edit that keeps it well formed.
@@ -329,6 +333,36 @@ fn share(table: &mut Table, rng: &mut Rng) {
     }
 }
 
+fn text(rng: &mut Rng) -> [u8; 8] {
+    [rng.byte(), 0, 0, 0, 0, 0, 0, rng.byte()]
+}
+
+/// Some that waited for a time or for flags wait for a message instead, some tasks have one in their entry, and
+/// messages wait, sometimes as many as may; those that would fit a task that waits are left out.
+fn mail(table: &mut Table, rng: &mut Rng) {
+    let any = |rng: &mut Rng| 1 + rng.below(table.count as usize) as u8;
+    let drawn: Vec<Message> = (0..rng.pick(&[1, 4, 33]))
+        .map(|_| Message { to: any(rng), sender: any(rng), priority: rng.below(16) as u8, text: text(rng) })
+        .collect();
+    for number in busy(table) {
+        let sender = rng.below(table.count as usize + 1) as u8;
+        let timed = matches!(
+            table.task(number).state,
+            State::Paused(_) | State::Due(_) | State::WaitAny(_) | State::WaitAll(_)
+        );
+        if timed && rng.one_in(3) && !table.waiting().iter().any(|message| message.fits(number, sender)) {
+            table.task_mut(number).state = State::WaitMessage(sender);
+        } else if rng.one_in(3) {
+            table.task_mut(number).mail = Mail { sender: sender.max(1), text: text(rng) };
+        }
+    }
+    for message in drawn {
+        if (table.sent as usize) < MESSAGES && !table.awaits(message.to, message.sender) {
+            table.post(message);
+        }
+    }
+}
+
 /// The word of the ready levels with a bit too many, a bit missing, the bit of a task that is not ready, or none.
 fn bad_levels(table: &mut Table, rng: &mut Rng) {
     let task = table.tasks[rng.below(TASKS)];
@@ -465,6 +499,52 @@ fn bad_line(table: &mut Table, rng: &mut Rng) {
             }
         }
         _ => table.tasks[any].state = State::WaitSub(rng.below(9) as u8),
+    }
+}
+
+/// A message that fits a task that waits, two out of order, one out of its range, one too many or too few, or something
+/// behind them.
+fn bad_message(table: &mut Table, rng: &mut Rng) {
+    mail(table, rng);
+    let (sent, count) = (table.sent as usize, table.count);
+    let place = rng.below(sent.max(1));
+    let waiter = (1..=count).find(|number| matches!(table.task(*number).state, State::WaitMessage(_)));
+    let wanted = match waiter.map(|number| table.task(number).state) {
+        Some(State::WaitMessage(sender)) => sender.max(1),
+        _ => 1,
+    };
+    match rng.below(8) {
+        0 | 1 => {
+            let last = table.messages[sent.max(1) - 1].priority;
+            table.messages[sent.min(MESSAGES - 1)] =
+                Message { to: waiter.unwrap_or(0), sender: wanted, priority: last, text: text(rng) };
+            table.sent = (sent + 1).min(MESSAGES) as u8;
+        }
+        2 => table.messages.swap(0, sent.max(1) - 1),
+        3 => table.messages[place].to = rng.pick(&[0, count + 1, 255]),
+        4 => table.messages[place].sender = rng.pick(&[0, count + 1, 255]),
+        5 => table.messages[place].priority = rng.pick(&[0, 15, 16]),
+        6 => table.messages[MESSAGES - 1].text[7] ^= 1,
+        _ => table.sent = rng.pick(&[0, table.sent.wrapping_sub(1), table.sent + 1, 33]),
+    }
+}
+
+/// A message in an entry that has none: past the count, of a dormant task, or from no task; or a wait for no task's.
+fn bad_mail(table: &mut Table, rng: &mut Rng) {
+    mail(table, rng);
+    let (count, at) = (table.count, rng.below(TASKS));
+    let sleeper = dormant(table).first().map_or(at, |number| *number as usize - 1);
+    match rng.below(5) {
+        0 => table.tasks[at].mail.sender = rng.pick(&[1, count + 1, 255]),
+        1 => table.tasks[sleeper].mail.text[0] ^= 1,
+        2 => table.tasks[TASKS - 1].mail.text[7] ^= 1,
+        3 => table.tasks[at].state = State::WaitMessage(rng.pick(&[0, count + 1])),
+        _ => {
+            let waits = |task: &&mut Task| matches!(task.state, State::WaitMessage(_));
+            if let Some(task) = table.tasks.iter_mut().find(waits) {
+                task.state = State::WaitMessage(rng.pick(&[count + 1, 17, 255]));
+            }
+        }
     }
 }
 

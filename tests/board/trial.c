@@ -275,6 +275,93 @@ static void try_subprograms(void) {
     tell("a line of a free one: 1", quermanic_check(image, whole) == 1);
 }
 
+/* A send to a task, of a text of this byte: its number, where V is 1 with 6 alone. */
+static int sends(uint8_t number, uint8_t to, uint8_t text) {
+    const uint8_t record[] = {0x14, to, text, 0, 0, 0, 0, 0, 0, 0};
+
+    return goes_on(number, number == 6, record, sizeof record);
+}
+
+/* A receive, and what its answer hands out: 0 and zeros for nothing. */
+static int receives(uint8_t from, uint8_t sender, uint8_t text) {
+    const uint8_t record[] = {0x15, from};
+    const uint8_t handed[] = {sender, text, 0, 0, 0, 0, 0, 0, 0};
+
+    return goes_on(0, 0, record, sizeof record) && memcmp(said + QUERMANIC_ANSWER_SENDER, handed, sizeof handed) == 0;
+}
+
+/* Messages: 1 waits for one from 3; 2, of higher priority than 3, and 3 send. Then the refusals, 32 that wait and a
+ * receiver all the same, and an image of before there were messages. */
+static void try_messages(void) {
+    static const uint8_t four[] = {0x40, 1, 0x41, 9, 1, 0x41, 8, 1, 0x41, 7, 1, 0x41, 1, 0, 0x42};
+    static const uint8_t pause[] = {0x02, 0, 1};
+    const size_t whole = QUERMANIC_IMAGE_LENGTH;
+    const uint8_t *mail = image + QUERMANIC_MAIL_AT(1);
+    int i, right = 1;
+
+    quermanic_fresh(four, sizeof four, image, whole);
+    tell("1 waits for a message from 3", receives(3, 0, 0) && image[QUERMANIC_IMAGE_AWAITED] == 3 &&
+                                             quermanic_state_of(image, 1) == QUERMANIC_STATE_WAITS_MESSAGE);
+    tell("why of 1: a message from 3, and the path ends there",
+         why(whole, 1, QUERMANIC_WHY_BYTES) == 0 && told[QUERMANIC_WHY_LENGTH] == 1 &&
+             is_step(0, 1, QUERMANIC_CAUSE_MESSAGE, 0, 3, 0));
+    tell("2's does not wake it",
+         sends(0, 1, 'a') && said[QUERMANIC_ANSWER_ACTIVE] == 2 && image[QUERMANIC_IMAGE_SENT] == 1);
+    goes_on(0, 0, pause, sizeof pause);
+    tell("3's does, and stands in its entry",
+         sends(0, 1, 'b') && said[QUERMANIC_ANSWER_ACTIVE] == 1 && memcmp(mail, "\3b\0\0\0\0\0\0", 9) == 0);
+    tell("to 0 and past the count: 6, V", sends(6, 0, 0) && sends(6, 5, 0) && sends(6, 255, 0));
+    tell("from past the count: 6, V", goes_on(6, 1, (const uint8_t[]){0x15, 5}, 2));
+    tell("a text of seven bytes: 3", goes_on(3, 0, (const uint8_t[]){0x14, 2, 0, 0, 0, 0, 0, 0, 0}, 9));
+    tell("a text of nine bytes: 3", goes_on(3, 0, (const uint8_t[]){0x14, 2, 0, 0, 0, 0, 0, 0, 0, 0, 0}, 11));
+    tell("1 receives 2's, and its entry is empty",
+         receives(0, 2, 'a') && memcmp(mail, "\0\0\0\0\0\0\0\0", 9) == 0 && image[QUERMANIC_IMAGE_SENT] == 0);
+    tell("1 waits for any", receives(QUERMANIC_ANY_SENDER, 0, 0) && image[QUERMANIC_IMAGE_AWAITED] == 0);
+    for (i = 0; i < 32; i++) {
+        right = sends(0, 4, (uint8_t)i) && right;
+    }
+    tell("32 wait, for a dormant task", right && image[QUERMANIC_IMAGE_SENT] == 32);
+    tell("one more: 16", sends(16, 4, 32) && sends(16, 3, 32));
+    tell("but to one that waits for it: 0", sends(0, 1, 33) && quermanic_active_of(image) == 1);
+    tell("and it waits no more: 16", sends(16, 1, 34));
+    goes_on(0, 0, (const uint8_t[]){0x04, 15, 4}, 3);
+    tell("4 receives the first", receives(3, 3, 0) && image[QUERMANIC_IMAGE_SENT] == 31);
+    tell("and there is room again", sends(0, 4, 35) && image[QUERMANIC_IMAGE_SENT] == 32);
+    tell("its own comes before 3's, by its priority", receives(0, 4, 35) && receives(0, 3, 1));
+    tell("the image is well formed", quermanic_check(image, whole) == 0);
+    tell("an image of before there were messages: 1", quermanic_check(image, QUERMANIC_IMAGE_MESSAGES) == 1);
+}
+
+/* What breaks the rules of messages: a stray byte in a free place and in the entry of a task that is none, one out of
+ * order, one more than there are, and one that a task waits for. */
+static void try_stray_messages(void) {
+    static const uint8_t two[] = {0x40, 1, 0x41, 9, 1, 0x41, 8, 1, 0x42};
+    const size_t whole = QUERMANIC_IMAGE_LENGTH;
+    uint8_t *first = image + QUERMANIC_IMAGE_MESSAGES, *end = image + QUERMANIC_IMAGE_SENT;
+
+    quermanic_fresh(two, sizeof two, image, whole);
+    sends(0, 2, 'a');
+    sends(0, 2, 'b');
+    receives(2, 0, 0);
+    tell("two messages wait: well formed", quermanic_check(image, whole) == 0);
+    end[-1] = 1;
+    tell("a byte in a free place: 1", quermanic_check(image, whole) == 1);
+    end[-1] = 0;
+    first[QUERMANIC_MESSAGE_PRIORITY] = 8;
+    tell("one out of order: 1", quermanic_check(image, whole) == 1);
+    first[QUERMANIC_MESSAGE_PRIORITY] = 9;
+    image[QUERMANIC_IMAGE_SENT] = 3;
+    tell("more than there are: 1", quermanic_check(image, whole) == 1);
+    image[QUERMANIC_IMAGE_SENT] = 2;
+    image[QUERMANIC_MAIL_AT(3)] = 1;
+    tell("one in the entry of no task: 1", quermanic_check(image, whole) == 1);
+    image[QUERMANIC_MAIL_AT(3)] = 0;
+    first[QUERMANIC_MESSAGE_TO] = 1;
+    tell("for 1, but not from 2: well formed", quermanic_check(image, whole) == 0);
+    first[QUERMANIC_MESSAGE_SENDER] = 2;
+    tell("one that 1 waits for: 1", quermanic_check(image, whole) == 1);
+}
+
 /* The lamp and its word: after a fresh table, when idle, of other lengths, and with each bit of the word turned. */
 static void try_lamp(void) {
     static const uint8_t no_table[QUERMANIC_ANSWER_LENGTH] = {1, 0, 0, 0, 0};
@@ -307,6 +394,8 @@ int main(void) {
     try_walking();
     try_why();
     try_subprograms();
+    try_messages();
+    try_stray_messages();
     try_lamp();
     return failed;
 }

@@ -5,6 +5,7 @@ mod answer;
 mod book;
 mod counts;
 mod images;
+mod letters;
 mod library;
 mod linked;
 mod listing;
@@ -92,7 +93,7 @@ fn asked(library: &mut Library, words: &[&str]) -> Option<bool> {
         // a part of a trial, too short to meet everything
         ["--part", options @ ..] => options_of(options)
             .map(|(steps, seed, wrong)| walked(&mut Trial::new(library, seed, wrong), steps).is_some()),
-        // the model alone, held to the account of starts; what is made wrong is one of its rules, or nothing
+        // the model alone, held to the accounts of starts and messages; what is made wrong is one of its rules, or nothing
         ["--account", options @ ..] => options_of(options)
             .filter(|(_, _, wrong)| matches!(wrong, Wrong::Nothing | Wrong::Rule(_)))
             .map(|(steps, seed, wrong)| account::accounted(steps, seed, wrong)),

@@ -3,6 +3,7 @@
 use crate::answer::{answer_bytes, ANSWER};
 use crate::book::Book;
 use crate::counts::Counts;
+use crate::letters::Letters;
 use crate::library::Library;
 use crate::met::{Met, Since};
 use crate::reasons;
@@ -23,6 +24,8 @@ const LONGEST_WALK: usize = 400;
 const NO_ROOM: u32 = 30;
 /// Where the word of the ready levels stands in an image.
 const WORD: usize = 896;
+/// Where the messages begin.
+const MAIL: usize = 1_058;
 /// What the lamp gives where it shows nothing.
 const DARK: u32 = 16;
 /// What stands in the answer's buffer before a step.
@@ -60,9 +63,9 @@ impl Trial<'_> {
         Ok(())
     }
 
-    /// The image that a board wrote before unit 5 was a day, and before there were the word of the ready levels and
-    /// subprograms, is refused; with the word and zeros behind it (docs/EMBEDDING.md) it is well formed, and its steps go
-    /// on.
+    /// The image that a board wrote before unit 5 was a day, and before there were the word of the ready levels,
+    /// subprograms and messages, is refused; with the word and zeros behind it (docs/EMBEDDING.md) it is well formed,
+    /// and its steps go on.
     fn before_days(&mut self) -> Told {
         let text = include_str!("before-days.hex").lines();
         let bytes = text
@@ -70,11 +73,11 @@ impl Trial<'_> {
             .flat_map(|line| line.split(' ').map(|byte| u8::from_str_radix(byte, 16).expect("a byte in hex")));
         let image: Vec<u8> = bytes.collect();
         let (older, later) = image.split_at(WORD);
-        let (word, subprograms) = later.split_at(2);
-        if self.library.check(older) != 1 || self.library.check(&image[..WORD + 2]) != 1 {
-            return Err("an image without the word of the ready levels, or without subprograms, is taken".to_string());
+        let (word, newer) = later.split_at(2);
+        if [WORD, WORD + 2, MAIL].iter().any(|length| self.library.check(&image[..*length]) != 1) {
+            return Err("an image without the word of the ready levels, subprograms or messages is taken".to_string());
         }
-        let zeros = subprograms.iter().all(|byte| *byte == 0);
+        let zeros = newer.iter().all(|byte| *byte == 0);
         if word != levels_of(older).to_be_bytes() || !zeros || self.library.check(&image) != 0 {
             return Err("the image of an older board, with its word and zeros, is refused".to_string());
         }
@@ -113,6 +116,7 @@ impl Trial<'_> {
         let edits = rng.pick(&[6, 20, 60, 1000]);
         let mut since = Since::default();
         let mut book = Book::open(&image);
+        let mut letters = Letters::open(&image);
         for record in records_of(&bytes[used..]).into_iter().take(LONGEST_WALK) {
             if rng.one_in(edits) {
                 let before = table_of(&image);
@@ -120,7 +124,9 @@ impl Trial<'_> {
                 since.changed(&before, &edited);
                 image = encode(&edited);
                 self.met.accounted(&book);
+                self.met.delivered(&letters);
                 book = Book::open(&image);
+                letters = Letters::open(&image);
             }
             self.beside(&image, record, rng)?;
             if whys.one_in(64) {
@@ -128,6 +134,7 @@ impl Trial<'_> {
             }
             let (_, next, answer) = self.taken(&image, record, &UNWRITTEN)?;
             book.enter(&image, record, &answer, &next)?;
+            letters.enter(&image, record, &answer, &next)?;
             let (before, after) = (table_of(&image), table_of(&next));
             image = next;
             if after.clock != before.clock {
@@ -136,6 +143,7 @@ impl Trial<'_> {
             since.changed(&before, &after);
         }
         self.met.accounted(&book);
+        self.met.delivered(&letters);
         Ok(())
     }
 
@@ -211,7 +219,7 @@ impl Trial<'_> {
         let number = u8::try_from(given.0).expect("the model's number is a byte");
         self.met.stepped(number, record);
         if given.2.len() >= ANSWER {
-            self.met.counted(&given.2[8..ANSWER], given.2[5]);
+            self.met.counted(&given.2[8..16], given.2[5]);
         }
         self.counts.add(record, number, self.library.spent());
         self.lit(&given.1)?;

@@ -4,7 +4,7 @@ use crate::bench::listing;
 use crate::check::well_formed;
 use crate::configuration::fresh;
 use crate::steps::step;
-use crate::table::{Answer, State, Sub, Table, Task, LAST_CLOCK, LONGEST};
+use crate::table::{Answer, Mail, Message, State, Sub, Table, Task, Text, LAST_CLOCK, LONGEST};
 use crate::why::{why, Reason, Why};
 
 /// The input of document 01's listing.
@@ -72,6 +72,11 @@ cards! {
     "A4: refusals": refusals_at_a_routine,
     "A4: broken tables give 1": broken_lines,
     "A4: a ring through a holder": ring_through_a_holder,
+    "A8: which door": which_door,
+    "A8: in the order of priority": by_priority,
+    "A8: refusals": refusals_of_messages,
+    "A8: broken tables give 1": broken_messages,
+    "A8: mail is gone": mail_is_gone,
 }
 
 /// Prints of every card whether it holds; true if all do.
@@ -445,4 +450,113 @@ fn ring_through_a_holder() -> bool {
     let ring = [(1, Reason::Subprogram(0, 2)), (2, Reason::Subprogram(1, 1))];
     let led = Why { path: [&[(3, Reason::Subprogram(1, 1))], &ring[..]].concat(), ring: 2, ..Why::default() };
     why(&t, 3) == led
+}
+
+/// A 14 with a text of one byte.
+fn message(to: u8, text: u8) -> [u8; 10] {
+    [0x14, to, text, 0, 0, 0, 0, 0, 0, 0]
+}
+
+fn text(byte: u8) -> Text {
+    [byte, 0, 0, 0, 0, 0, 0, 0]
+}
+
+/// Task 1 waits for a message from 3: one from 2 does not wake it, one from 3 does, and stands in its entry.
+fn which_door() -> bool {
+    let mut t = table(1, &[(9, 1), (7, 1), (5, 1)]);
+    let waits = accepted(&mut t, &[&[0x15, 3]]) == Answer { active: 2, ..Answer::default() };
+    let told = why(&t, 1).path == [(1, Reason::Message(3))];
+    accepted(&mut t, &[&message(1, 4), &[2, 0, 9]]);
+    let slept = t.task(1).state == State::WaitMessage(3) && t.sent == 1;
+    let woke = accepted(&mut t, &[&message(1, 5)]);
+    let stands = t.task(1).mail == Mail { sender: 3, text: text(5) } && t.sent == 1;
+    let first = accepted(&mut t, &[&[0x15, 0]]);
+    let cleared = t.task(1).mail == Mail::default() && t.sent == 0;
+    let handed = Answer { active: 1, sender: 2, text: text(4), ..Answer::default() };
+    waits && told && slept && woke == Answer { active: 1, ..Answer::default() } && stands && first == handed && cleared
+}
+
+/// Task 3 is dormant; 2, then 1 at a higher priority, then 2 again send to it: 1's comes first, then 2's in turn.
+fn by_priority() -> bool {
+    let mut t = table(1, &[(9, 1), (7, 1), (8, 0)]);
+    accepted(&mut t, &[&[2, 0, 1], &message(3, 1), &[0x80], &message(3, 2), &[2, 0, 1], &message(3, 3)]);
+    accepted(&mut t, &[&[4, 0x8F, 3]]);
+    let mut handed = Vec::new();
+    for _ in 0..3 {
+        let answer = accepted(&mut t, &[&[0x15, 0]]);
+        handed.push((answer.sender, answer.text[0]));
+    }
+    handed == [(1, 2), (2, 1), (2, 3)] && t.sent == 0 && t.messages[0] == Message::default()
+}
+
+/// 6, and 16 where the message would have to wait with 32 waiting: to one that waits for it, it is accepted.
+fn refusals_of_messages() -> bool {
+    let mut t = table(1, &[(9, 1), (7, 1)]);
+    accepted(&mut t, &[&[0x15, 0]]);
+    accepted(&mut t, &[&message(2, 7)[..]; 32]);
+    let before = t;
+    let all: [(&[u8], u8); 7] = [
+        (&[0x14, 1], 3),
+        (&[&message(1, 0)[..], &[0]].concat(), 3),
+        (&message(0, 0), 6),
+        (&message(3, 0), 6),
+        (&[0x15, 3], 6),
+        (&[0x15, 255], 6),
+        (&message(2, 0), 16),
+    ];
+    let refused = all.iter().all(|(record, number)| {
+        let answer = step(&mut t, record);
+        zvc(answer) == (*number, false, *number == 6, false) && answer.active == 2 && t == before
+    });
+    accepted(&mut t, &[&message(1, 0)]);
+    let idle = step(&mut table(1, &[(7, 0)]), &message(0, 0));
+    refused && t.sent == 32 && t.queue[..2] == [1, 2] && idle.number == 5
+}
+
+/// Task 1 waits for a message from 2; 3 waits for any; a message of 3 for 1, and two of 4 for 2, wait; 6 is dormant.
+fn mailed_table() -> Table {
+    let mut t = table(1, &[(9, 1), (5, 1), (8, 1), (7, 1), (6, 1), (7, 0)]);
+    accepted(&mut t, &[&[0x15, 2], &message(1, 1), &[0x15, 0], &message(2, 2), &message(2, 3)]);
+    t
+}
+
+/// The rule of the messages, broken once or more in that table.
+const MAIL_BREAKS: [fn(&mut Table); 15] = [
+    |t| t.messages[0].sender = 2,
+    |t| t.messages[0].to = 3,
+    |t| t.messages.swap(0, 1),
+    |t| t.messages[3].text[7] = 1,
+    |t| t.messages[31].priority = 1,
+    |t| t.sent = 2,
+    |t| t.sent = 4,
+    |t| t.sent = 33,
+    |t| t.messages[1].to = 7,
+    |t| t.messages[1].sender = 0,
+    |t| t.messages[0].priority = 16,
+    |t| t.tasks[2].state = State::WaitMessage(7),
+    |t| t.tasks[3].mail.sender = 7,
+    |t| t.tasks[5].mail.text[0] = 1,
+    |t| t.tasks[15].mail.sender = 1,
+];
+
+/// Each of these gives 1; a waiting message from or for a dormant task, and a text without a sender, do not.
+fn broken_messages() -> bool {
+    let good = mailed_table();
+    let mut asleep = good;
+    (asleep.messages[1].to, asleep.messages[2].sender) = (6, 6);
+    let mut nameless = good;
+    nameless.tasks[3].mail.text = text(9);
+    all_are_found(&good, &MAIL_BREAKS) && well_formed(&asleep) && well_formed(&nameless)
+}
+
+/// The message in an entry stands there over a pause, and is gone by the end of the run, also by 01 with V.
+fn mail_is_gone() -> bool {
+    let ends: [&[u8]; 4] = [&[0], &[1, 0x80, 9], &[1, 0, 0], &[1, 6, 0]];
+    ends.iter().all(|end| {
+        let mut t = table(1, &[(9, 1), (7, 1)]);
+        accepted(&mut t, &[&[0x15, 2], &message(1, 8), &[2, 0, 1], &[0x80], &[9, 1, 0]]);
+        let stood = t.task(1).mail == Mail { sender: 2, text: text(8) };
+        accepted(&mut t, &[end]);
+        stood && t.task(1).mail == Mail::default()
+    })
 }

@@ -1,6 +1,6 @@
 //! The check of a table: every rule of document 01's sentence.
 
-use crate::table::{Request, State, Sub, Table, Task, LAST_CLOCK, LONGEST, PLACES, SUBS, TASKS};
+use crate::table::{Message, Request, State, Sub, Table, Task, LAST_CLOCK, LONGEST, MESSAGES, PLACES, SUBS, TASKS};
 
 /// Whether a table keeps every rule, in the sentence's order; then document 02's.
 pub fn well_formed(table: &Table) -> bool {
@@ -13,6 +13,7 @@ pub fn well_formed(table: &Table) -> bool {
         && links_match(table)
         && idle_entries_are_zero(table)
         && (0..).zip(&table.subs).all(|(number, sub)| sub_is_right(table, number, sub))
+        && messages_are_right(table)
         && table.levels == table.ready_levels()
 }
 
@@ -27,6 +28,13 @@ fn in_range(table: &Table) -> bool {
         && table.queue[..table.queued as usize].iter().all(|&number| is_task(number))
         && table.tasks.iter().all(|task| task.own <= 15 && task.priority <= 15 && task.end_waiter <= count)
         && table.tasks.iter().all(|task| !matches!(task.state, State::WaitSub(number) if number as usize >= SUBS))
+        && table.tasks.iter().all(|task| !matches!(task.state, State::WaitMessage(sender) if sender > count))
+        && table.tasks.iter().all(|task| task.mail.sender <= count)
+        && table.sent as usize <= MESSAGES
+        && table
+            .waiting()
+            .iter()
+            .all(|message| is_task(message.to) && is_task(message.sender) && message.priority <= 15)
         && table.subs.iter().all(|sub| {
             sub.holder <= count
                 && sub.waiting <= count
@@ -111,4 +119,16 @@ fn idle_entries_are_zero(table: &Table) -> bool {
     kept.iter().all(|task| task.state != State::Dormant || *task == Task { own: task.own, ..Task::default() })
         && past.iter().all(|task| *task == Task::default())
         && table.pool[table.asked as usize..].iter().all(|place| *place == Request::default())
+}
+
+/// No fitting message waits for a task that waits for one; they stand in descending priority, zeros after them.
+fn messages_are_right(table: &Table) -> bool {
+    let waiting = table.waiting();
+    let met = |(number, task): (u8, &Task)| match task.state {
+        State::WaitMessage(sender) => waiting.iter().any(|message| message.fits(number, sender)),
+        _ => false,
+    };
+    !(1..).zip(&table.tasks).any(met)
+        && waiting.windows(2).all(|pair| pair[0].priority >= pair[1].priority)
+        && table.messages[waiting.len()..].iter().all(|place| *place == Message::default())
 }

@@ -2,7 +2,7 @@
 //! board did otherwise. They show that the comparisons find them.
 
 use crate::steps::step_unchecked;
-use crate::table::{Answer, State, Table};
+use crate::table::{Answer, Message, State, Table, MESSAGES};
 
 #[derive(Clone, Copy, PartialEq, Eq, Debug)]
 pub enum Fault {
@@ -18,10 +18,14 @@ pub enum Fault {
     FirstComeFirstServed,
     LeaverHolds,
     HolderSleeps,
+    MessagesByArrival,
+    AnySenderWakes,
+    FullForReceiver,
+    MailSurvives,
 }
 
 /// The faults that a listing shows, by name.
-pub const FAULTS: [(&str, Fault); 11] = [
+pub const FAULTS: [(&str, Fault); 13] = [
     ("equal-in-front", Fault::EqualInFront),
     ("drifting-catch-up", Fault::DriftingCatchUp),
     ("cancel-wakes-due", Fault::CancelWakesDue),
@@ -33,18 +37,30 @@ pub const FAULTS: [(&str, Fault); 11] = [
     ("first-come-first-served", Fault::FirstComeFirstServed),
     ("leaver-holds", Fault::LeaverHolds),
     ("holder-sleeps", Fault::HolderSleeps),
+    ("any-sender-wakes", Fault::AnySenderWakes),
+    ("full-for-receiver", Fault::FullForReceiver),
 ];
 
-/// Those that only a table's image shows.
-pub const OF_IMAGES: [(&str, Fault); 1] = [("lamp-lags", Fault::LampLags)];
+/// Those that only a table's image or an answer's text shows.
+pub const OF_IMAGES: [(&str, Fault); 3] = [
+    ("lamp-lags", Fault::LampLags),
+    ("messages-by-arrival", Fault::MessagesByArrival),
+    ("mail-survives", Fault::MailSurvives),
+];
 
 impl Fault {
     /// A step as the last board took it. The table is not checked: the fault may have left one that is not well formed.
     pub fn step(self, table: &mut Table, record: &[u8]) -> Answer {
         let before = *table;
         let mut answer = step_unchecked(table, record);
-        if self == Fault::HolderSleeps && answer.number == 15 && record[0] == 0x00 {
-            answer = holder_sleeps(&before, table, record);
+        match (self, answer.number, record.first()) {
+            (Fault::HolderSleeps, 15, Some(0x00)) => answer = holder_sleeps(&before, table, record),
+            (Fault::FullForReceiver, 0, Some(0x14)) if before.sent as usize == MESSAGES => {
+                *table = before;
+                answer = Answer { number: 16, ..Answer::default() };
+                answer.name_active(table);
+            }
+            _ => {}
         }
         if answer.number != 0 {
             return answer;
@@ -60,7 +76,10 @@ impl Fault {
             Fault::FlagsFirst => wake_by(&before, table, record, |number, state| (state.time(), number)),
             Fault::FirstComeFirstServed => first_come_first_served(&before, table, record),
             Fault::LeaverHolds => leaver_holds(&before, table, record),
-            Fault::LampLags | Fault::HolderSleeps => {}
+            Fault::MessagesByArrival => messages_by_arrival(&before, table, record),
+            Fault::AnySenderWakes => any_sender_wakes(&before, table, record),
+            Fault::MailSurvives => mail_survives(&before, table, record),
+            Fault::LampLags | Fault::HolderSleeps | Fault::FullForReceiver => {}
         }
         // the word of the ready levels is that of the table then, or of the table before
         table.levels = if self == Fault::LampLags { before.levels } else { table.ready_levels() };
@@ -173,4 +192,34 @@ fn holder_sleeps(before: &Table, table: &mut Table, record: &[u8]) -> Answer {
     let answer = step_unchecked(table, record);
     table.subs = before.subs;
     answer
+}
+
+/// A message waits behind all that were sent before, whatever its sender's priority.
+fn messages_by_arrival(before: &Table, after: &mut Table, record: &[u8]) {
+    if record[0] == 0x14 && after.sent > before.sent {
+        let sender = before.queue[0];
+        let priority = before.task(sender).priority;
+        let text = record[2..].try_into().expect("a text has eight bytes");
+        after.messages = before.messages;
+        after.messages[before.sent as usize] = Message { to: record[1], sender, priority, text };
+    }
+}
+
+/// A message wakes its receiver also where that one waits for another sender.
+fn any_sender_wakes(before: &Table, after: &mut Table, record: &[u8]) {
+    if let [0x14, to, ..] = *record {
+        if let State::WaitMessage(_) = after.task(to).state {
+            *after = *before;
+            after.task_mut(to).state = State::WaitMessage(0);
+            step_unchecked(after, record);
+        }
+    }
+}
+
+/// The message in the caller's entry outlives its run.
+fn mail_survives(before: &Table, after: &mut Table, record: &[u8]) {
+    if ends(record) {
+        let caller = before.queue[0];
+        after.task_mut(caller).mail = before.task(caller).mail;
+    }
 }

@@ -1,8 +1,8 @@
 //! The table's image by docs/TABLE.md, written apart from the proved code.
 
-use crate::table::{Request, State, Sub, Table, Task, TASKS};
+use crate::table::{Mail, Message, Request, State, Sub, Table, Task, TASKS};
 
-pub const LENGTH: usize = 1_058;
+pub const LENGTH: usize = 1_555;
 
 /// The image of a table.
 pub fn encode(table: &Table) -> Vec<u8> {
@@ -28,13 +28,22 @@ pub fn encode(table: &Table) -> Vec<u8> {
         image.extend_from_slice(&[sub.holder, sub.waiting]);
         image.extend_from_slice(&sub.line);
     }
+    for message in &table.messages {
+        image.extend_from_slice(&[message.to, message.sender, message.priority]);
+        image.extend_from_slice(&message.text);
+    }
+    image.push(table.sent);
+    for task in &table.tasks {
+        image.push(task.mail.sender);
+        image.extend_from_slice(&task.mail.text);
+    }
     image
 }
 
-/// The number that a state waits for: a subprogram's, else 0.
+/// The number that a state waits for: a subprogram's, or a sender's, else 0.
 fn awaited(state: State) -> u8 {
     match state {
-        State::WaitSub(number) => number,
+        State::WaitSub(number) | State::WaitMessage(number) => number,
         _ => 0,
     }
 }
@@ -50,6 +59,7 @@ fn encode_task(image: &mut Vec<u8>, task: &Task) {
         State::WaitStart => (6, 0, 0),
         State::WaitEnd => (7, 0, 0),
         State::WaitSub(_) => (8, 0, 0),
+        State::WaitMessage(_) => (9, 0, 0),
     };
     image.extend_from_slice(&[task.own, state]);
     image.extend_from_slice(&u64::to_be_bytes(time));
@@ -83,7 +93,7 @@ pub fn decode(image: &[u8]) -> Option<Table> {
     table.levels = u16::from_be_bytes(bytes.take());
     let numbers: [u8; TASKS] = bytes.take();
     for (task, number) in table.tasks.iter_mut().zip(numbers) {
-        if let State::WaitSub(awaited) = &mut task.state {
+        if let State::WaitSub(awaited) | State::WaitMessage(awaited) = &mut task.state {
             *awaited = number;
         } else if number != 0 {
             return None;
@@ -92,6 +102,15 @@ pub fn decode(image: &[u8]) -> Option<Table> {
     for sub in &mut table.subs {
         let [holder, waiting] = bytes.take();
         *sub = Sub { holder, waiting, line: bytes.take() };
+    }
+    for message in &mut table.messages {
+        let [to, sender, priority] = bytes.take();
+        *message = Message { to, sender, priority, text: bytes.take() };
+    }
+    [table.sent] = bytes.take();
+    for task in &mut table.tasks {
+        let [sender] = bytes.take();
+        task.mail = Mail { sender, text: bytes.take() };
     }
     Some(table)
 }
@@ -111,13 +130,14 @@ fn decode_task(bytes: &mut Bytes) -> Option<Task> {
         (7, 0, 0) => State::WaitEnd,
         // its number stands behind the entries
         (8, 0, 0) => State::WaitSub(0),
+        (9, 0, 0) => State::WaitMessage(0),
         _ => return None,
     };
     let [priority] = bytes.take();
     let argument = u16::from_be_bytes(bytes.take());
     let started = u64::from_be_bytes(bytes.take());
     let [end_waiter] = bytes.take();
-    Some(Task { own, state, priority, argument, started, end_waiter })
+    Some(Task { own, state, priority, argument, started, end_waiter, mail: Mail::default() })
 }
 
 fn decode_request(bytes: &mut Bytes) -> Request {

@@ -4,11 +4,12 @@
 pub fn body_length(kind: u8) -> Option<usize> {
     match kind {
         0x00 | 0x80 => Some(0),
-        0x03 | 0x06 | 0x07 => Some(1),
+        0x03 | 0x06 | 0x07 | 0x15 => Some(1),
         0x01 | 0x02 | 0x04 | 0x09 => Some(2),
         0x0B => Some(3),
         0x05 => Some(4),
         0x0A => Some(5),
+        0x14 => Some(9),
         _ => None,
     }
 }

@@ -1,7 +1,7 @@
 //! The refusals of documents 01 and 02, in their order.
 
 use crate::records::body_length;
-use crate::table::{State, Table, LAST_CLOCK, PLACES, SUBS};
+use crate::table::{State, Table, LAST_CLOCK, MESSAGES, PLACES, SUBS};
 
 /// The refusal's number, the first in the order, or 0.
 pub fn refusal(table: &Table, record: &[u8]) -> u8 {
@@ -30,6 +30,7 @@ pub fn refusal(table: &Table, record: &[u8]) -> u8 {
         0x00 | 0x01 if table.holds_any(table.queue[0]) => 15,
         0x05 => refusal_of_start(table, body[0], body[1]),
         0x0B if table.alarms[body[2] as usize] != 0 => 9,
+        0x14 if !table.awaits(body[0], table.queue[0]) && table.sent as usize == MESSAGES => 16,
         _ => 0,
     }
 }
@@ -58,6 +59,8 @@ fn out_of_range(table: &Table, kind: u8, body: &[u8]) -> bool {
         0x09 => body[0] > 2 || body[1] > 31,
         0x0A => body[0] > 1 || body[1..] == [0; 4],
         0x0B => body[0] > 5 || body[2] > 31,
+        0x14 => no_task(body[0]),
+        0x15 => body[0] > table.count,
         _ => false,
     }
 }

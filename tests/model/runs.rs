@@ -4,7 +4,7 @@ use crate::bench::LONGEST_INPUT;
 use crate::configuration::fresh_from_start;
 use crate::records::cut;
 use crate::steps::step;
-use crate::table::{State, Table, PLACES, SUBS, TASKS, UNITS};
+use crate::table::{State, Table, MESSAGES, PLACES, SUBS, TASKS, UNITS};
 
 /// A small generator of numbers (splitmix64).
 pub struct Rng(u64);
@@ -54,12 +54,16 @@ pub fn run(seed: u64, index: u64) -> Vec<u8> {
     if index % 4 == 3 {
         return damaged_run(&mut rng);
     }
-    let steps = 10 + rng.below(120);
+    let steps = 10 + rng.below(140);
     deep_run(&mut rng, steps)
 }
 
-/// The ways a deep run goes on; each run draws its own weights for them.
-const AIMS: [fn(&mut Run, &mut Rng); 23] = [
+/// A way that a deep run goes on.
+type Aim = fn(&mut Run, &mut Rng);
+
+/// The ways of every run, which draws its own weights for them; then those that are rare, and those of the runs that
+/// share subprograms, and that send messages.
+const AIMS: [Aim; 18] = [
     Run::tick,
     Run::terminate,
     Run::catch_up,
@@ -78,15 +82,10 @@ const AIMS: [fn(&mut Run, &mut Rng); 23] = [
     Run::anything,
     Run::some_ticks,
     Run::wake_together,
-    Run::fill_pool,
-    Run::go_idle,
-    Run::enter_sub,
-    Run::exit_sub,
-    Run::share,
 ];
-/// From here on they are rare, and from here on of runs that share subprograms.
-const RARE: usize = 18;
-const SHARING: usize = 20;
+const RARE: [Aim; 2] = [Run::fill_pool, Run::go_idle];
+const SHARING: [Aim; 3] = [Run::enter_sub, Run::exit_sub, Run::share];
+const MAILING: [Aim; 3] = [Run::send, Run::receive, Run::correspond];
 
 /// A run being made, with the executive beside it to aim by.
 struct Run {
@@ -112,13 +111,16 @@ fn deep_run(rng: &mut Rng, steps: usize) -> Vec<u8> {
     run.bytes
 }
 
-/// The drawn aims, as a list to pick from; a third of the runs share subprograms.
-fn weights(rng: &mut Rng) -> Vec<usize> {
-    let mut list = vec![0, 1];
-    let aims = if rng.one_in(3) { AIMS.len() } else { SHARING };
-    for aim in 0..aims {
-        let most = if (RARE..SHARING).contains(&aim) { 2 } else { 9 };
-        list.extend(std::iter::repeat(aim).take(rng.below(most)));
+/// The drawn aims, as a list to pick from; a third of the runs share subprograms, and a third send messages.
+fn weights(rng: &mut Rng) -> Vec<Aim> {
+    let mut list: Vec<Aim> = vec![Run::tick, Run::terminate];
+    let (share, mail) = (rng.one_in(3), rng.one_in(3));
+    let sorts: [(&[Aim], usize, bool); 5] =
+        [(&AIMS, 9, true), (&RARE, 2, true), (&SHARING, 9, share), (&MAILING, 9, mail), (&[Run::fill_mail], 2, mail)];
+    for (aims, most, _) in sorts.into_iter().filter(|(.., drawn)| *drawn) {
+        for aim in aims {
+            list.extend(std::iter::repeat(aim).take(rng.below(most)));
+        }
     }
     list
 }
@@ -141,10 +143,10 @@ impl Run {
         self.bytes.extend_from_slice(record);
     }
 
-    fn go_on(&mut self, rng: &mut Rng, weights: &[usize]) {
+    fn go_on(&mut self, rng: &mut Rng, weights: &[Aim]) {
         let idle = self.table.queued == 0;
-        let aim = if idle && !rng.one_in(20) { 0 } else { rng.pick(weights) };
-        AIMS[aim](self, rng);
+        let aim = if idle && !rng.one_in(20) { Run::tick } else { rng.pick(weights) };
+        aim(self, rng);
     }
 
     /// Ends run after run, so that the order of the queue is seen.
@@ -422,6 +424,57 @@ impl Run {
         }
     }
 
+    fn send_to(&mut self, rng: &mut Rng, to: u8) {
+        let text = [rng.byte(), 0, 0, 0, 0, 0, 0, rng.byte()];
+        self.add(&[&[0x14, to], &text[..]].concat());
+    }
+
+    /// A message, with luck for a task that waits for one.
+    fn send(&mut self, rng: &mut Rng) {
+        let to = self.task_where(rng, |state| matches!(state, State::WaitMessage(_)));
+        self.send_to(rng, to);
+    }
+
+    /// A receive from any task, from one whose message waits, or from one.
+    fn receive(&mut self, rng: &mut Rng) {
+        let waiting = self.table.waiting().iter().find(|message| message.to == self.table.queue[0]);
+        let from = match (rng.below(4), waiting) {
+            (0 | 1, _) => 0,
+            (2, Some(message)) => message.sender,
+            _ => 1 + rng.below(self.table.count as usize) as u8,
+        };
+        self.add(&[0x15, from]);
+    }
+
+    /// Several send to one task, which comes to its turn now and then.
+    fn correspond(&mut self, rng: &mut Rng) {
+        let to = 1 + rng.below(self.table.count as usize) as u8;
+        for _ in 0..4 + rng.below(12) {
+            match rng.below(8) {
+                0 => self.tick(rng),
+                1 => self.pause(rng),
+                2 => self.add(&[0x04, 0x80, to]),
+                _ if self.table.queued == 0 => {}
+                _ if self.table.queue[0] == to => self.receive(rng),
+                _ => self.send_to(rng, to),
+            }
+        }
+    }
+
+    /// Sends until as many wait as may, and more, the first of them to a task that waits for one, if any.
+    fn fill_mail(&mut self, rng: &mut Rng) {
+        if rng.one_in(2) {
+            self.receive(rng);
+        }
+        for _ in self.table.sent as usize..=MESSAGES {
+            let to = self.task_where(rng, |state| !matches!(state, State::WaitMessage(_)));
+            self.send_to(rng, to);
+        }
+        self.send(rng);
+        self.receive(rng);
+        self.send(rng);
+    }
+
     /// Every ready task pauses, and then somebody calls all the same.
     fn go_idle(&mut self, rng: &mut Rng) {
         for _ in 0..TASKS + 4 {
@@ -434,7 +487,7 @@ impl Run {
 }
 
 /// The calls and the lengths of their bodies.
-const CALLS: [(u8, usize); 11] = [
+const CALLS: [(u8, usize); 13] = [
     (0x00, 0),
     (0x01, 2),
     (0x02, 2),
@@ -446,6 +499,8 @@ const CALLS: [(u8, usize); 11] = [
     (0x09, 2),
     (0x0A, 5),
     (0x0B, 3),
+    (0x14, 9),
+    (0x15, 1),
 ];
 
 /// Idle, with no task's time to come soon: only ticks and 5s follow.

@@ -4,6 +4,7 @@ pub const TASKS: usize = 16;
 pub const FLAGS: usize = 32;
 pub const PLACES: usize = 32;
 pub const SUBS: usize = 8;
+pub const MESSAGES: usize = 32;
 pub const LAST_CLOCK: u64 = 1 << 40;
 pub const LONGEST: u64 = 22_032_000_000;
 pub const UNITS: [u64; 6] = [1, 10, 1_000, 60_000, 3_600_000, 86_400_000];
@@ -22,6 +23,8 @@ pub enum State {
     WaitEnd,
     /// For the controlled subprogram of this number.
     WaitSub(u8),
+    /// For a message from this task, or from any, 0.
+    WaitMessage(u8),
 }
 
 impl State {
@@ -34,6 +37,32 @@ impl State {
     }
 }
 
+/// The text of a message.
+pub type Text = [u8; 8];
+
+/// A message that was put in a task's entry (document 02, A8); all zero where there is none.
+#[derive(Clone, Copy, PartialEq, Eq, Debug, Default)]
+pub struct Mail {
+    pub sender: u8,
+    pub text: Text,
+}
+
+/// A message that waits, with its sender's priority when it was sent; all zero where a place is free.
+#[derive(Clone, Copy, PartialEq, Eq, Debug, Default)]
+pub struct Message {
+    pub to: u8,
+    pub sender: u8,
+    pub priority: u8,
+    pub text: Text,
+}
+
+impl Message {
+    /// Whether it is for this task, and from the sender that it wants, 0 for any.
+    pub fn fits(&self, task: u8, sender: u8) -> bool {
+        self.to == task && (sender == 0 || sender == self.sender)
+    }
+}
+
 /// One task's entry. `end_waiter` is the task that waits for this run's end, 0 for nobody.
 #[derive(Clone, Copy, PartialEq, Eq, Debug, Default)]
 pub struct Task {
@@ -43,6 +72,7 @@ pub struct Task {
     pub argument: u16,
     pub started: u64,
     pub end_waiter: u8,
+    pub mail: Mail,
 }
 
 /// One place of the pool; all zero when free.
@@ -79,6 +109,8 @@ pub struct Table {
     /// Bit p is set exactly if some ready task has priority p.
     pub levels: u16,
     pub subs: [Sub; SUBS],
+    pub messages: [Message; MESSAGES],
+    pub sent: u8,
 }
 
 /// What a step answers.
@@ -94,6 +126,9 @@ pub struct Answer {
     pub skipped: u64,
     /// Ready tasks that were passed over by those that entered.
     pub walked: u8,
+    /// Of the message that a receive handed out.
+    pub sender: u8,
+    pub text: Text,
 }
 
 impl Table {
@@ -131,6 +166,36 @@ impl Table {
         self.subs.iter().any(|sub| sub.holder == task)
     }
 
+    /// The messages that wait, first to last.
+    pub fn waiting(&self) -> &[Message] {
+        &self.messages[..self.sent as usize]
+    }
+
+    /// Puts a message behind all of equal or higher priority.
+    pub fn post(&mut self, message: Message) {
+        let place = self.waiting().iter().position(|other| other.priority < message.priority);
+        let place = place.unwrap_or(self.sent as usize);
+        self.messages.copy_within(place..self.sent as usize, place + 1);
+        self.messages[place] = message;
+        self.sent += 1;
+    }
+
+    /// The first message that fits, taken out.
+    pub fn take_message(&mut self, task: u8, sender: u8) -> Option<Message> {
+        let sent = self.sent as usize;
+        let place = self.waiting().iter().position(|message| message.fits(task, sender))?;
+        let message = self.messages[place];
+        self.messages.copy_within(place + 1..sent, place);
+        self.messages[sent - 1] = Message::default();
+        self.sent -= 1;
+        Some(message)
+    }
+
+    /// Whether a task waits for a message from this sender.
+    pub fn awaits(&self, task: u8, sender: u8) -> bool {
+        matches!(self.task(task).state, State::WaitMessage(wanted) if wanted == 0 || wanted == sender)
+    }
+
     /// The earliest request for a task, taken from the pool.
     pub fn take_request(&mut self, task: u8) -> Option<Request> {
         let asked = self.asked as usize;
@@ -145,8 +210,18 @@ impl Table {
 
 impl Answer {
     /// What every step from a table that is not well formed answers.
-    pub const BROKEN: Answer =
-        Answer { number: 1, z: false, v: false, c: false, active: 0, argument: 0, skipped: 0, walked: 0 };
+    pub const BROKEN: Answer = Answer {
+        number: 1,
+        z: false,
+        v: false,
+        c: false,
+        active: 0,
+        argument: 0,
+        skipped: 0,
+        walked: 0,
+        sender: 0,
+        text: [0; 8],
+    };
 
     /// Names the table's active task and its argument, or nobody.
     pub fn name_active(&mut self, table: &Table) {

@@ -1,4 +1,4 @@
-//! Why a task is not running (document 02, A2 and A4), written from the paper alone.
+//! Why a task is not running (document 02, A2, A4 and A8), written from the paper alone.
 
 use crate::check::well_formed;
 use crate::table::{State, Table};
@@ -23,6 +23,8 @@ pub enum Reason {
     EndOfRun(u8),
     /// A subprogram, and its holder.
     Subprogram(u8, u8),
+    /// A message from this task, or from any, 0.
+    Message(u8),
 }
 
 impl Reason {
@@ -83,6 +85,7 @@ fn reason(table: &Table, task: u8) -> Reason {
         State::WaitAll(mask) => Reason::AllOf(mask & !table.flags),
         State::WaitStart | State::WaitEnd => named(table, task),
         State::WaitSub(number) => Reason::Subprogram(number, table.subs[number as usize].holder),
+        State::WaitMessage(sender) => Reason::Message(sender),
     }
 }
 
@@ -128,6 +131,8 @@ fn in_words(reason: Reason) -> String {
         Reason::Start(place, task) => format!("waits for request {place} to begin, on task {task}"),
         Reason::EndOfRequest(place, task) => format!("waits for the end of request {place}'s run, on task {task}"),
         Reason::EndOfRun(task) => format!("waits for the end of task {task}'s run"),
+        Reason::Message(0) => "waits for a message from any task".to_string(),
+        Reason::Message(sender) => format!("waits for a message from task {sender}"),
         Reason::Subprogram(number, task) => format!("waits for subprogram {number}, held by task {task}"),
     }
 }

@@ -4,9 +4,9 @@ use model::bench::LONGEST_INPUT;
 use model::configuration::fresh_from_start;
 use model::records::cut;
 use model::steps::step;
-use model::table::{Answer, State, Table, SUBS, UNITS};
+use model::table::{Answer, Mail, Message, State, Table, MESSAGES, SUBS, UNITS};
 
-const KINDS: [(u8, &str); 12] = [
+const KINDS: [(u8, &str); 14] = [
     (0x00, "terminate"),
     (0x01, "terminate, restart"),
     (0x02, "pause"),
@@ -18,11 +18,13 @@ const KINDS: [(u8, &str); 12] = [
     (0x09, "flag"),
     (0x0A, "wait for flags"),
     (0x0B, "alarm"),
+    (0x14, "send"),
+    (0x15, "receive"),
     (0x80, "tick"),
 ];
 
 /// The refusal numbers that a bench run can reach.
-const REACHABLE: [usize; 12] = [2, 3, 4, 5, 6, 7, 8, 9, 12, 13, 14, 15];
+const REACHABLE: [usize; 13] = [2, 3, 4, 5, 6, 7, 8, 9, 12, 13, 14, 15, 16];
 /// Those that it cannot, and why.
 const UNREACHABLE: [(usize, &str); 3] = [
     (1, "a step leaves a well-formed table"),
@@ -30,7 +32,7 @@ const UNREACHABLE: [(usize, &str); 3] = [
     (20, "nothing is written into a buffer"),
 ];
 
-const WAYS: [&str; 16] = [
+const WAYS: [&str; 17] = [
     "pause end",
     "pause cancelled",
     "due restart",
@@ -47,6 +49,7 @@ const WAYS: [&str; 16] = [
     "started by 04",
     "started by 05",
     "a subprogram handed over",
+    "a message",
 ];
 
 /// Two tasks of one priority that a tick woke, of which the first has the lower number.
@@ -64,7 +67,7 @@ const COUNTS: [(&str, Counts); 3] =
 const SKIPS: [&str; 5] = ["skipped none", "skipped some", "count 0: at once", "no unit: V", "bits 7 and 6: refused"];
 
 /// What becomes of a 06 or 07, and of the end of a run whose task holds a subprogram.
-const SHARED: [&str; 13] = [
+const SHARED: [&str; 14] = [
     "entered, it was free",
     "waits, its holder is ready",
     "waits, its holder is paused",
@@ -78,6 +81,28 @@ const SHARED: [&str; 13] = [
     "handed to the first equal",
     "00 of a holder",
     "01 of a holder",
+    "waits, its holder for a message",
+];
+
+/// What becomes of a 14 or 15, and of the message in the entry of a task whose run ends.
+const MAILED: [&str; 17] = [
+    "sent, wakes one of any",
+    "sent, wakes one of its own",
+    "sent, with 32 waiting",
+    "sent to one of another",
+    "sent to a dormant task",
+    "sent to itself",
+    "sent, waits before others",
+    "sent, waits behind equals",
+    "received, the only one",
+    "received past another's",
+    "received, later but higher",
+    "received, first of equals",
+    "received, over an older",
+    "waits for any",
+    "waits for one",
+    "gone by 00",
+    "gone by 01",
 ];
 
 /// Who waits for each subprogram, in the order of arrival.
@@ -96,6 +121,7 @@ pub struct Coverage {
     intervals: [[[u64; UNITS.len()]; COUNTS.len()]; TIMED.len()],
     skips: [u64; SKIPS.len()],
     shared: [u64; SHARED.len()],
+    mailed: [u64; MAILED.len()],
     changed_by_refusal: u64,
 }
 
@@ -117,12 +143,14 @@ impl Coverage {
         };
         let mut rest = &input[used..];
         let mut arrivals = Arrivals::default();
+        let mut letters = Vec::new();
         while !rest.is_empty() {
             match cut(rest) {
                 Ok((record, more)) => {
                     let before = table;
                     let answer = self.watch_step(&mut table, record);
                     self.watch_shared(&before, &answer, record, &mut arrivals);
+                    self.watch_mailed(&before, &table, &answer, record, &mut letters);
                     rest = more;
                 }
                 Err(stop) => {
@@ -180,6 +208,40 @@ impl Coverage {
             (15, _) => self.shared[12] += 1,
             _ => {}
         }
+    }
+
+    /// Notes what became of a message; `letters` are those that wait, in the order of arrival.
+    fn watch_mailed(
+        &mut self,
+        before: &Table,
+        after: &Table,
+        answer: &Answer,
+        record: &[u8],
+        letters: &mut Vec<Message>,
+    ) {
+        if answer.number != 0 {
+            return;
+        }
+        let caller = before.queue[0];
+        let met = match *record {
+            [0x14, to, ..] => {
+                letters.extend(posted(before, after));
+                ways_of_sending(before, after, to)
+            }
+            [0x15, from] => {
+                let taken = before.waiting().iter().find(|message| message.fits(caller, from));
+                let met = ways_of_receiving(before, taken, from, letters);
+                if let Some(at) = letters.iter().position(|letter| Some(letter) == taken) {
+                    letters.remove(at);
+                }
+                met
+            }
+            [0x00 | 0x01, ..] if before.task(caller).mail != Mail::default() => {
+                vec![(15, record[0] == 0x00), (16, record[0] == 0x01)]
+            }
+            _ => return,
+        };
+        met.into_iter().for_each(|(way, met)| self.mailed[way] += u64::from(met));
     }
 
     /// Notes each two of one priority whom a tick woke and whose order says something.
@@ -245,6 +307,7 @@ impl Coverage {
         sum(&mut self.orders, &other.orders);
         sum(&mut self.skips, &other.skips);
         sum(&mut self.shared, &other.shared);
+        sum(&mut self.mailed, &other.mailed);
         let both = self.intervals.iter_mut().zip(&other.intervals);
         both.flat_map(|(to, from)| to.iter_mut().zip(from)).for_each(|(to, from)| sum(to, from));
     }
@@ -286,6 +349,11 @@ impl Coverage {
         for (what, met) in SHARED.iter().zip(self.shared) {
             println!("{what:<27} {met:>10}");
             note(&mut missed, met, || format!("subprogram, {what}"));
+        }
+        println!("message                            met");
+        for (what, met) in MAILED.iter().zip(self.mailed) {
+            println!("{what:<27} {met:>10}");
+            note(&mut missed, met, || format!("message, {what}"));
         }
         self.print_intervals(&mut missed);
         missed.iter().for_each(|what| println!("NEVER MET: {what}"));
@@ -341,6 +409,7 @@ fn way_of_waking(record: &[u8], old: State) -> Option<usize> {
         (0x04, State::Dormant) => Some(13),
         (0x05, State::Dormant) => Some(14),
         (0x07, State::WaitSub(_)) => Some(15),
+        (0x14, State::WaitMessage(_)) => Some(16),
         _ => None,
     }
 }
@@ -353,6 +422,7 @@ fn way_of_waiting(holder: State) -> usize {
         State::WaitAny(_) | State::WaitAll(_) => 3,
         State::WaitStart | State::WaitEnd => 4,
         State::WaitSub(_) => 5,
+        State::WaitMessage(_) => 13,
         State::Dormant | State::Due(_) => unreachable!("a holder's run has not ended"),
     }
 }
@@ -369,4 +439,48 @@ fn ways_of_handing(table: &Table, line: &[u8], arrived: &[u8]) -> impl Iterator<
         (10, line.iter().skip(1).any(|other| priority(other) == priority(&first))),
     ];
     met.into_iter().filter(|(_, met)| *met).map(|(way, _)| way)
+}
+
+/// Places in `MAILED`, and whether each was met.
+type Met = Vec<(usize, bool)>;
+
+/// The message that a send left waiting, if it did.
+fn posted(before: &Table, after: &Table) -> Option<Message> {
+    let place = before.messages.iter().zip(&after.messages).position(|(old, new)| old != new);
+    place.filter(|_| after.sent > before.sent).map(|place| after.messages[place])
+}
+
+/// The places in `MAILED` of an accepted send.
+fn ways_of_sending(before: &Table, after: &Table, to: u8) -> Met {
+    let sender = before.queue[0];
+    let priority = before.task(sender).priority;
+    let state = before.task(to).state;
+    let woke = after.sent == before.sent;
+    vec![
+        (0, woke && state == State::WaitMessage(0)),
+        (1, woke && state == State::WaitMessage(sender)),
+        (2, woke && before.sent as usize == MESSAGES),
+        (3, !woke && matches!(state, State::WaitMessage(_))),
+        (4, state == State::Dormant),
+        (5, to == sender),
+        (6, !woke && before.waiting().iter().any(|message| message.priority < priority)),
+        (7, !woke && before.waiting().iter().any(|message| message.priority == priority)),
+    ]
+}
+
+/// The places in `MAILED` of an accepted receive: what it takes, and all that wait, by arrival.
+fn ways_of_receiving(before: &Table, taken: Option<&Message>, from: u8, letters: &[Message]) -> Met {
+    let caller = before.queue[0];
+    let fit: Vec<&Message> = letters.iter().filter(|message| message.fits(caller, from)).collect();
+    let ahead = |message: &&Message| taken.map_or(false, |taken| message.priority > taken.priority);
+    let equal = |message: &&&Message| taken.map_or(false, |taken| message.priority == taken.priority);
+    vec![
+        (8, fit.len() == 1),
+        (9, taken.is_some() && before.waiting().iter().any(|message| message.to != caller && ahead(&message))),
+        (10, fit.first().zip(taken).map_or(false, |(first, taken)| first.priority < taken.priority)),
+        (11, fit.iter().filter(equal).count() > 1),
+        (12, before.task(caller).mail != Mail::default()),
+        (13, taken.is_none() && from == 0),
+        (14, taken.is_none() && from != 0),
+    ]
 }
