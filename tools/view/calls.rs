@@ -1,6 +1,6 @@
 //! Each call in words.
 
-use crate::words::{time, Names};
+use crate::words::{text, time, Names};
 
 /// The milliseconds of a unit, 0 to 5.
 pub fn unit(number: u8) -> Option<u64> {
@@ -20,6 +20,11 @@ pub fn mask(record: &[u8]) -> u32 {
     record[2..6].iter().fold(0, |mask, byte| mask << 8 | u32::from(*byte))
 }
 
+/// The text of a 14, as a number.
+fn sent_text(record: &[u8]) -> u64 {
+    record[2..10].iter().fold(0, |text, byte| text << 8 | u64::from(*byte))
+}
+
 /// What a call asks for, in words that follow its caller's name. `start` is the caller's last scheduled start.
 pub fn call(record: &[u8], start: u64, names: &Names) -> String {
     let body = &record[1..];
@@ -35,6 +40,8 @@ pub fn call(record: &[u8], start: u64, names: &Names) -> String {
         0x09 => format!("{} {}", operation(body[0]), names.flag(body[1])),
         0x0A => wait(body[0], mask(record), names),
         0x0B => format!("has {} set after {}", names.flag(body[2]), interval(body[0], body[1])),
+        0x14 => format!("sends {} to {}", text(sent_text(record)), names.task(body[0])),
+        0x15 => format!("receives from {}", names.sender(body[0])),
         kind => format!("calls {kind:02X}"),
     }
 }

@@ -5,7 +5,7 @@ use crate::image::{read, State, Table};
 use crate::reasons::reason;
 use crate::records::length;
 use crate::run::{Run, Step};
-use crate::words::{grouped, listed, time, Names};
+use crate::words::{grouped, listed, text, time, Names};
 
 /// The whole run: how it begins, its steps, and how it ends.
 pub fn explain(run: &Run, names: &Names) -> String {
@@ -72,6 +72,8 @@ fn came(before: &Table, step: &Step, names: &Names) -> Vec<String> {
             let already = if step.c { ", and it is set already" } else { "" };
             vec![format!("its alarm is set for {}{already}", time(step.table.alarms[usize::from(body[2])]))]
         }
+        0x14 => posted(before, step, body[0], names),
+        0x15 => received(step, names),
         0x80 => {
             let risen = step.table.flags & !before.flags;
             let risen = if risen == 0 { None } else { Some(format!("set by an alarm: {}", names.flags(risen))) };
@@ -103,6 +105,24 @@ fn handed(step: &Step, number: u8, names: &Names) -> Vec<String> {
     match step.table.sub(number).map_or(0, |sub| sub.holder) {
         0 => vec!["it is free now".to_string()],
         next => vec![format!("{} holds it now", names.task(next))],
+    }
+}
+
+/// Of a message that was sent: that its receiver has it, or where it waits.
+fn posted(before: &Table, step: &Step, to: u8, names: &Names) -> Vec<String> {
+    if step.table.sent == before.sent {
+        return vec![format!("{} has it in its entry", names.task(to))];
+    }
+    let place = before.waiting().iter().zip(step.table.waiting()).position(|(old, new)| old != new);
+    let number = place.unwrap_or(before.waiting().len()) + 1;
+    vec![format!("{} does not wait for it, so it waits as message {number}", names.task(to))]
+}
+
+/// Of a receive: the message that was handed out, or that there is none.
+fn received(step: &Step, names: &Names) -> Vec<String> {
+    match step.handed.sender {
+        0 => vec!["no message fits".to_string()],
+        sender => vec![format!("{} from {} is handed out", text(step.handed.text), names.task(sender))],
     }
 }
 
@@ -163,6 +183,7 @@ fn entry(before: &Table, after: &Table, k: u8) -> String {
         State::AwaitStart => "enters, the start having come".to_string(),
         State::AwaitEnd => "enters, the end having come".to_string(),
         State::AwaitSub(_) => "enters, the subprogram being its own".to_string(),
+        State::AwaitMessage(_) => "enters, the message having come".to_string(),
         State::Ready | State::Stray(_) => "enters".to_string(),
     }
 }

@@ -14,6 +14,7 @@ pub enum State {
     AwaitStart,
     AwaitEnd,
     AwaitSub(u8),
+    AwaitMessage(u8),
     Stray(u8),
 }
 
@@ -29,6 +30,23 @@ pub struct Task {
     pub argument: u16,
     pub start: u64,
     pub end_waiter: u8,
+    pub mail: Mail,
+}
+
+/// A message in a task's entry: its sender, 0 where there is none, and its text as a number.
+#[derive(Clone, Copy, PartialEq, Eq)]
+pub struct Mail {
+    pub sender: u8,
+    pub text: u64,
+}
+
+/// A message that waits, or a place for one.
+#[derive(Clone, Copy, PartialEq, Eq)]
+pub struct Message {
+    pub to: u8,
+    pub sender: u8,
+    pub priority: u8,
+    pub text: u64,
 }
 
 /// A place of the pool.
@@ -49,7 +67,7 @@ pub struct Sub {
     pub places: Vec<u8>,
 }
 
-/// The whole table: all entries, places, alarms and subprograms, also those that are free.
+/// The whole table: all entries, places, alarms, subprograms and messages, also those that are free.
 #[derive(Clone)]
 pub struct Table {
     pub tasks: Vec<Task>,
@@ -64,6 +82,8 @@ pub struct Table {
     pub pool: Vec<Request>,
     pub levels: u16,
     pub subs: Vec<Sub>,
+    pub messages: Vec<Message>,
+    pub sent: u8,
 }
 
 pub fn read(image: &[u8]) -> Table {
@@ -80,6 +100,8 @@ pub fn read(image: &[u8]) -> Table {
         pool: (0..POOL.many).map(|i| request(image, i)).collect(),
         levels: LEVELS.number(image) as u16,
         subs: (0..SUBS.many).map(|i| sub(image, i)).collect(),
+        messages: (0..MESSAGES.many).map(|i| message(image, i)).collect(),
+        sent: SENT.byte(image),
     }
 }
 
@@ -97,6 +119,7 @@ fn task(image: &[u8], i: usize) -> Task {
         argument: number(ARGUMENT) as u16,
         start: number(START),
         end_waiter: number(END_WAITER) as u8,
+        mail: Mail { sender: MAIL.part(i, MAIL_SENDER).byte(image), text: MAIL.part(i, MAIL_TEXT).number(image) },
     }
 }
 
@@ -111,6 +134,7 @@ fn state(byte: u8, time: u64, mask: u32, awaited: u8) -> State {
         6 => State::AwaitStart,
         7 => State::AwaitEnd,
         8 => State::AwaitSub(awaited),
+        9 => State::AwaitMessage(awaited),
         stray => State::Stray(stray),
     }
 }
@@ -118,6 +142,11 @@ fn state(byte: u8, time: u64, mask: u32, awaited: u8) -> State {
 fn sub(image: &[u8], i: usize) -> Sub {
     let byte = |part| SUBS.part(i, part).byte(image);
     Sub { holder: byte(HOLDER), waiting: byte(WAITING), places: (0..LINE).map(|i| byte(line_place(i))).collect() }
+}
+
+fn message(image: &[u8], i: usize) -> Message {
+    let number = |part| MESSAGES.part(i, part).number(image);
+    Message { to: number(TO) as u8, sender: number(SENDER) as u8, priority: number(SENT_AT) as u8, text: number(TEXT) }
 }
 
 fn request(image: &[u8], i: usize) -> Request {
@@ -135,6 +164,23 @@ impl Sub {
     /// Those that wait, the next first.
     pub fn line(&self) -> &[u8] {
         &self.places[..usize::from(self.waiting).min(LINE)]
+    }
+}
+
+impl Mail {
+    pub fn is_none(self) -> bool {
+        self == Mail { sender: 0, text: 0 }
+    }
+}
+
+impl Message {
+    /// Whether it is for this task, and from the sender that it waits for, 0 for any.
+    pub fn fits(&self, task: u8, sender: u8) -> bool {
+        self.to == task && (sender == 0 || sender == self.sender)
+    }
+
+    pub fn is_none(self) -> bool {
+        self == Message { to: 0, sender: 0, priority: 0, text: 0 }
     }
 }
 
@@ -167,6 +213,11 @@ impl Table {
     /// The queued requests, in the order of asking.
     pub fn requests(&self) -> &[Request] {
         &self.pool[..usize::from(self.queued).min(POOL.many)]
+    }
+
+    /// The messages that wait, first to last.
+    pub fn waiting(&self) -> &[Message] {
+        &self.messages[..usize::from(self.sent).min(MESSAGES.many)]
     }
 
     /// The active task, 0 when idle.

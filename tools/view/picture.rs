@@ -6,7 +6,7 @@ use crate::words::time;
 
 /// Of each look: its words, its letter, its colour and its letter's. Any two colours are apart by 29 and more (CIE 1976
 /// difference), also as the three kinds of colour-blindness see them.
-const LOOKS: [(Look, &str, &str, &str, &str); 9] = [
+const LOOKS: [(Look, &str, &str, &str, &str); 10] = [
     (Look::Active, "active", "A", "#005a9c", "#ffffff"),
     (Look::Ready, "ready, passed over", "R", "#a9d5f5", "#10202c"),
     (Look::Paused, "paused", "P", "#fff08a", "#2b2700"),
@@ -15,6 +15,7 @@ const LOOKS: [(Look, &str, &str, &str, &str); 9] = [
     (Look::Start, "waits for a start", "S", "#969696", "#111111"),
     (Look::End, "waits for an end", "E", "#363636", "#ffffff"),
     (Look::Sub, "waits for a subprogram", "W", "#9000f0", "#ffffff"),
+    (Look::Message, "waits for a message", "M", "#d870ff", "#22082c"),
     (Look::Dormant, "dormant", "", "none", ""),
 ];
 
@@ -320,6 +321,8 @@ fn short(record: &[u8]) -> String {
         0x09 => ["reset", "set", "test"].get(usize::from(record[1])).unwrap_or(&"flag").to_string(),
         0x0A => "wait".to_string(),
         0x0B => "alarm".to_string(),
+        0x14 => "send".to_string(),
+        0x15 => "receive".to_string(),
         0x80 => "tick".to_string(),
         kind => format!("{kind:02X}"),
     }

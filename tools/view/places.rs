@@ -24,7 +24,7 @@ const fn rows(from: usize, step: usize, many: usize) -> Rows {
 }
 
 /// The bytes of an image.
-pub const LENGTH: usize = 1_058;
+pub const LENGTH: usize = 1_555;
 
 /// The tasks' entries, and the parts of one.
 pub const ENTRIES: Rows = rows(0, 26, 16);
@@ -64,7 +64,7 @@ pub const RUN_END_WAITER: Place = place(5, 1);
 /// The word of the ready levels.
 pub const LEVELS: Place = place(896, 2);
 
-/// The number that each task's state waits for: a subprogram's.
+/// The number that each task's state waits for: a subprogram's, or a sender's.
 pub const AWAITED: Rows = rows(898, 1, 16);
 pub const AWAITED_NUMBER: Place = place(0, 1);
 
@@ -79,13 +79,28 @@ pub const fn line_place(i: usize) -> Place {
     place(2 + i, 1)
 }
 
+/// The messages that wait, and the parts of one; then how many there are.
+pub const MESSAGES: Rows = rows(1_058, 11, 32);
+pub const TO: Place = place(0, 1);
+pub const SENDER: Place = place(1, 1);
+pub const SENT_AT: Place = place(2, 1);
+pub const TEXT: Place = place(3, 8);
+pub const SENT: Place = place(1_410, 1);
+
+/// The message in each task's entry.
+pub const MAIL: Rows = rows(1_411, 9, 16);
+pub const MAIL_SENDER: Place = place(0, 1);
+pub const MAIL_TEXT: Place = place(1, 8);
+
 /// The bytes of an answer, and the parts of one (docs/EMBEDDING.md).
-pub const ANSWER: usize = 16;
+pub const ANSWER: usize = 25;
 pub const NUMBER: Place = place(0, 1);
 pub const Z: Place = place(1, 1);
 pub const V: Place = place(2, 1);
 pub const C: Place = place(3, 1);
 pub const SKIPPED: Place = place(8, 8);
+pub const HANDED_SENDER: Place = place(16, 1);
+pub const HANDED_TEXT: Place = place(17, 8);
 
 /// The bounds of the numbers.
 pub const HIGHEST: u8 = 15;

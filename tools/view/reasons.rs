@@ -23,6 +23,10 @@ pub fn reason(before: &Table, record: &[u8], number: u8, names: &Names) -> Strin
             let held = (0..8).filter(|n| before.sub(*n).map_or(0, |sub| sub.holder) == before.active());
             format!("it holds {}", listed(held.map(|n| names.sub(n))))
         }
+        16 => format!(
+            "32 messages wait, as many as there may be, and {} does not wait for this one",
+            names.task(record[1])
+        ),
         other => format!("number {other}"),
     }
 }
@@ -45,6 +49,8 @@ fn out_of_range(count: u8, record: &[u8]) -> String {
             (mask(record) == 0, "the mask names no flag".to_string()),
         ],
         0x0B => vec![unit(body[0]), flag(body[2])],
+        0x14 => vec![task(count, body[0])],
+        0x15 => vec![(body[0] > count, format!("there is no task {}; there are 1 to {count}, and 0 for any", body[0]))],
         _ => Vec::new(),
     };
     found.into_iter().find(|(wrong, _)| *wrong).map_or("a number is out of its range".to_string(), |(_, why)| why)

@@ -13,11 +13,12 @@ pub fn configuration(input: &[u8]) -> usize {
 pub fn length(kind: u8) -> Option<usize> {
     match kind {
         0x00 | 0x80 => Some(1),
-        0x03 | 0x06 | 0x07 => Some(2),
+        0x03 | 0x06 | 0x07 | 0x15 => Some(2),
         0x01 | 0x02 | 0x04 | 0x09 => Some(3),
         0x0B => Some(4),
         0x05 => Some(5),
         0x0A => Some(6),
+        0x14 => Some(10),
         _ => None,
     }
 }

@@ -4,7 +4,7 @@ use crate::image::{Request, State, Table, Task};
 use crate::places::*;
 
 /// The rules, in the order of docs/TABLE.md, then 02's; before them what makes bytes an image at all.
-pub const RULES: [&str; 12] = [
+pub const RULES: [&str; 13] = [
     "an image has no byte that no stored table has there",
     "every number is in range",
     "the ready queue holds exactly the ready tasks, once each, in descending priority",
@@ -17,6 +17,8 @@ pub const RULES: [&str; 12] = [
     "entries past the task count and free places are zero",
     "a subprogram's holder is not dormant, and its line holds exactly those that wait for it, once each, in descending \
      priority; a free one has no line",
+    "no message waits that a task waits for, those that wait stand in descending priority, and the places behind them \
+     are zero",
     "the word of the ready levels has bit p set exactly if some ready task has priority p",
 ];
 
@@ -34,6 +36,7 @@ pub fn broken(table: &Table) -> Vec<Broken> {
     found.numbers();
     found.requests_in_range();
     found.subprograms_in_range();
+    found.messages_in_range();
     found.queue();
     found.times();
     found.starts();
@@ -43,6 +46,7 @@ pub fn broken(table: &Table) -> Vec<Broken> {
     found.dormant();
     found.free();
     found.subprograms();
+    found.messages();
     found.levels();
     found.list
 }
@@ -84,10 +88,10 @@ impl Found<'_> {
             self.rule(0, waits || mask == 0, ENTRIES.part(i, MASK), || {
                 format!("task {k} waits for no flags, and has the mask {mask:08X}")
             });
-            let waits = matches!(task.state, State::AwaitSub(_));
+            let waits = matches!(task.state, State::AwaitSub(_) | State::AwaitMessage(_));
             let awaited = task.awaited;
             self.rule(0, waits || awaited == 0, AWAITED.part(i, AWAITED_NUMBER), || {
-                format!("task {k} waits for no subprogram, and has the number {awaited} of one")
+                format!("task {k} waits for no subprogram and no message, and has the number {awaited} of one")
             });
         }
     }
@@ -198,6 +202,55 @@ impl Found<'_> {
         }
     }
 
+    fn messages_in_range(&mut self) {
+        let sent = self.table.sent;
+        self.rule(1, usize::from(sent) <= MESSAGES.many, SENT, || format!("{sent} messages wait, of 32"));
+        for (i, k, task) in self.entries() {
+            if let State::AwaitMessage(sender) = task.state {
+                self.rule(1, sender == 0 || self.is_task(sender), AWAITED.part(i, AWAITED_NUMBER), || {
+                    format!("task {k} waits for a message from task {sender}, which is none")
+                });
+            }
+            let sender = task.mail.sender;
+            self.rule(1, sender == 0 || self.is_task(sender), MAIL.part(i, MAIL_SENDER), || {
+                format!("task {k} has a message from task {sender}, which is none")
+            });
+        }
+        for (i, message) in self.table.waiting().to_vec().into_iter().enumerate() {
+            let (n, priority) = (i + 1, message.priority);
+            for (number, part, how) in [(message.to, TO, "for"), (message.sender, SENDER, "from")] {
+                self.rule(1, self.is_task(number), MESSAGES.part(i, part), || {
+                    format!("message {n} is {how} task {number}, which is none")
+                });
+            }
+            self.rule(1, priority <= HIGHEST, MESSAGES.part(i, SENT_AT), || {
+                format!("message {n} was sent at priority {priority}")
+            });
+        }
+    }
+
+    fn messages(&mut self) {
+        let waiting = self.table.waiting().to_vec();
+        for (i, message) in waiting.iter().enumerate() {
+            let wanted = match self.table.state(message.to) {
+                State::AwaitMessage(sender) => message.fits(message.to, sender),
+                _ => false,
+            };
+            self.rule(11, !wanted, MESSAGES.part(i, TO), || {
+                format!("message {} waits, and task {} waits for it", i + 1, message.to)
+            });
+            let rises = i > 0 && waiting[i - 1].priority < message.priority;
+            self.rule(11, !rises, MESSAGES.part(i, SENT_AT), || {
+                format!("message {} stands behind one of lower priority", i + 1)
+            });
+        }
+        for (i, place) in self.table.messages.clone().into_iter().enumerate().skip(waiting.len()) {
+            self.rule(11, place.is_none(), MESSAGES.part(i, TO), || {
+                format!("place {} of the messages is free, and not zero", i + 1)
+            });
+        }
+    }
+
     fn times(&mut self) {
         let clock = self.table.clock;
         let ahead = |time: u64| time > clock && time - clock <= LONGEST;
@@ -289,6 +342,10 @@ impl Found<'_> {
             self.rule(8, task.state != State::Dormant || zero, ENTRIES.part(i, PRIORITY), || {
                 format!("task {k} is dormant, and its entry holds more than its own priority")
             });
+            let mailed = task.state == State::Dormant && !task.mail.is_none();
+            self.rule(8, !mailed || !self.is_task(k), MAIL.part(i, MAIL_SENDER), || {
+                format!("task {k} is dormant, and has a message in its entry")
+            });
         }
     }
 
@@ -296,6 +353,9 @@ impl Found<'_> {
         for (i, k, task) in self.entries().into_iter().skip(usize::from(self.table.count)) {
             self.rule(9, task.state == State::Dormant && task.own == 0, ENTRIES.part(i, OWN), || {
                 format!("there is no task {k}, and its entry is not zero")
+            });
+            self.rule(9, task.mail.is_none(), MAIL.part(i, MAIL_SENDER), || {
+                format!("there is no task {k}, and a message is in its entry")
             });
         }
         for (i, k) in self.table.queue.clone().into_iter().enumerate().skip(usize::from(self.table.ready)) {
@@ -317,8 +377,8 @@ impl Found<'_> {
         for p in 0..=HIGHEST {
             let lit = levels >> p & 1 == 1;
             let ready = self.table.tasks.iter().any(|task| task.state == State::Ready && task.priority == p);
-            self.rule(11, !lit || ready, LEVELS, || format!("bit {p} is set, and no ready task has priority {p}"));
-            self.rule(11, lit || !ready, LEVELS, || format!("a ready task has priority {p}, and bit {p} is not set"));
+            self.rule(12, !lit || ready, LEVELS, || format!("bit {p} is set, and no ready task has priority {p}"));
+            self.rule(12, lit || !ready, LEVELS, || format!("a ready task has priority {p}, and bit {p} is not set"));
         }
     }
 }

@@ -1,8 +1,8 @@
 //! A run: the bench's input taken by the board library, with the table after each step.
 
-use crate::image::{read, Table};
+use crate::image::{read, Mail, Table};
 use crate::library::Library;
-use crate::places::{C, NUMBER, SKIPPED, V, Z};
+use crate::places::{C, HANDED_SENDER, HANDED_TEXT, NUMBER, SKIPPED, V, Z};
 use crate::records::{configuration, cut};
 
 /// The longest input that the bench takes.
@@ -16,6 +16,8 @@ pub struct Step {
     pub v: bool,
     pub c: bool,
     pub skipped: u64,
+    /// The message that it handed out.
+    pub handed: Mail,
     pub image: Vec<u8>,
     pub table: Table,
 }
@@ -53,6 +55,7 @@ impl Run {
                 v: V.byte(&answer) != 0,
                 c: C.byte(&answer) != 0,
                 skipped: SKIPPED.number(&answer),
+                handed: Mail { sender: HANDED_SENDER.byte(&answer), text: HANDED_TEXT.number(&answer) },
                 image: image.clone(),
                 table: read(&image),
             });

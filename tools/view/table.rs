@@ -1,9 +1,9 @@
 //! A table as a person reads it, from its image.
 
-use crate::image::{read, Request, State, Sub, Table, Task};
+use crate::image::{read, Message, Request, State, Sub, Table, Task};
 use crate::places::LENGTH;
 use crate::rules::{broken, RULES};
-use crate::words::{flags_of, grouped, listed, time, Names};
+use crate::words::{flags_of, grouped, listed, text, time, Names};
 
 /// The image in words, and whether its table is well formed; else why it cannot be read at all.
 pub fn table(image: &[u8], names: &Names) -> Result<(String, bool), String> {
@@ -27,6 +27,9 @@ pub fn table(image: &[u8], names: &Names) -> Result<(String, bool), String> {
     }
     for (n, sub) in (0..).zip(&table.subs).filter(|(_, sub)| sub.holder != 0 || sub.waiting != 0) {
         text += &entry(&format!("sub {n}"), &shared(n, sub, names));
+    }
+    for (i, message) in table.waiting().iter().enumerate() {
+        text += &entry(&format!("message {}", i + 1), &sent(message, names));
     }
     for k in table.numbers() {
         if let Some(task) = table.task(k) {
@@ -92,6 +95,12 @@ fn shared(number: u8, sub: &Sub, names: &Names) -> String {
     format!("{name}{holder}; waiting: {}", none_or(waits, "nobody"))
 }
 
+/// A message that waits.
+fn sent(message: &Message, names: &Names) -> String {
+    let (to, sender) = (names.task(message.to), names.task(message.sender));
+    format!("for {to} from {sender}, sent at priority {}: {}", message.priority, text(message.text))
+}
+
 fn in_words(table: &Table, k: u8, task: &Task, names: &Names) -> String {
     let name = names.of_task(k).map_or(String::new(), |name| format!("{name}, "));
     let mut words = format!("{name}own priority {}: {}", task.own, state(table, k, task.state, names));
@@ -101,6 +110,9 @@ fn in_words(table: &Table, k: u8, task: &Task, names: &Names) -> String {
     }
     if task.end_waiter != 0 {
         words += &format!("; {} waits for its end", names.task(task.end_waiter));
+    }
+    if !task.mail.is_none() {
+        words += &format!("; has the message {} from {}", text(task.mail.text), names.task(task.mail.sender));
     }
     words
 }
@@ -125,6 +137,7 @@ fn state(table: &Table, k: u8, state: State, names: &Names) -> String {
             0 => format!("waits for {}, and nobody holds it", names.sub(number)),
             holder => format!("waits for {}, held by {}", names.sub(number), names.task(holder)),
         },
+        State::AwaitMessage(sender) => format!("waits for a message from {}", names.sender(sender)),
         State::Stray(byte) => format!("in no state: its byte is {byte}"),
     }
 }

@@ -66,6 +66,7 @@ fn state(state: State) -> String {
         State::AwaitStart => "start".to_string(),
         State::AwaitEnd => "end".to_string(),
         State::AwaitSub(number) => format!("subprogram:{number}"),
+        State::AwaitMessage(sender) => format!("message:{sender}"),
         State::Stray(byte) => format!("state:{byte}"),
     }
 }

@@ -13,6 +13,7 @@ pub enum Look {
     Start,
     End,
     Sub,
+    Message,
     Dormant,
 }
 
@@ -100,6 +101,7 @@ fn look(state: &str, active: bool) -> Option<Look> {
         "start" => Look::Start,
         "end" => Look::End,
         "subprogram" => Look::Sub,
+        "message" => Look::Message,
         "dormant" => Look::Dormant,
         _ => return None,
     })

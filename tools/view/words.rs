@@ -37,6 +37,15 @@ impl Names {
         self.tasks.iter().find(|(known, _)| *known == number).map(|(_, name)| name.as_str())
     }
 
+    /// Whom a message is awaited from: a task, or any, 0.
+    pub fn sender(&self, number: u8) -> String {
+        if number == 0 {
+            "any task".to_string()
+        } else {
+            self.task(number)
+        }
+    }
+
     pub fn of_flag(&self, number: u8) -> Option<&str> {
         self.flags.iter().find(|(known, _)| *known == number).map(|(_, name)| name.as_str())
     }
@@ -73,6 +82,17 @@ pub fn flags_of(mask: u32) -> Vec<u8> {
 /// Words with commas between them.
 pub fn listed(words: impl Iterator<Item = String>) -> String {
     words.collect::<Vec<_>>().join(", ")
+}
+
+/// The text of a message: letters, with no more than zeros behind them, in quotes; else its bytes in hex.
+pub fn text(text: u64) -> String {
+    let bytes = text.to_be_bytes();
+    let long = bytes.iter().rposition(|byte| *byte != 0).map_or(0, |last| last + 1);
+    let letters = &bytes[..long];
+    if !letters.is_empty() && letters.iter().all(|byte| (b' '..=b'~').contains(byte)) {
+        return format!("'{}'", String::from_utf8_lossy(letters));
+    }
+    bytes.map(|byte| format!("{byte:02X}")).join(" ")
 }
 
 /// Milliseconds as a person says them: `15 ms`, `0.25 s`, `1 min 5 s`, `30 d`.
