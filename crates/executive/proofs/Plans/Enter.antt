@@ -40,16 +40,15 @@ use Rattle.executive.proofs.messages.Kept.{mail-beside}
 pub held-neat : (k : TaskNo) (xs : List TaskNo) → length xs ≤ 16 → LineInOrder (heldBy k xs)
 held-neat k xs h = record { room = h; clear = ap (pad 16 nobody) (sym (line-pad nobody 16 xs)) }
 
--- the caller is ready, so it stands in no line of waiters: at most fifteen do
-pub line-room : (t : Table) → WellFormedByPart t → 0 < t .ready → (m : SubNo) → subAt (t .rest) (m .0) .waiting < 16
-line-room t w h m =
-    let s : Sub = subAt (t .rest) (m .0) in
-    let c : ℕ = headOf (line t) .0 in
-    let o : SubOk (t .tasks) (m .0) s = w .lined .each (m .0) in
-    let r : Runs (t .tasks) c = runs t w h in
-    let l : length (lineOf s) < 16 = fewer (waitsFor (m .0)) refl (t .tasks) (lineOf s) c (withState (AwaitSub m) (taskAt (t .tasks) c)) (w .fit .all) (o .waiters) (r .names)
-    (waits-none (m .0) (taskAt (t .tasks) c .state) (r .no-sub)) (ap one (eqb-self (m .0))) in
+-- a task that runs stands in no line of waiters: at most fifteen do
+pub beside : (ts : List Task) (s : Sub) (m : SubNo) (c : ℕ) → length ts ≡ 16 → SubOk ts (m .0) s → Runs ts c → s .waiting < 16
+beside ts s m c n o r =
+    let l : length (lineOf s) < 16 = fewer (waitsFor (m .0)) refl ts (lineOf s) c (withState (AwaitSub m) (taskAt ts c)) n (o .waiters) (r .names)
+    (waits-none (m .0) (taskAt ts c .state) (r .no-sub)) (ap one (eqb-self (m .0))) in
     omega (arith, line-waiting s (o .neat))
+
+pub line-room : (t : Table) → WellFormedByPart t → 0 < t .ready → (m : SubNo) → subAt (t .rest) (m .0) .waiting < 16
+line-room t w h m = beside (t .tasks) (subAt (t .rest) (m .0)) m (headOf (line t) .0) (w .fit .all) (w .lined .each (m .0)) (runs t w h)
 
 -- priorities alone tell the place
 enter-alike : (ts us : List Task) (k : TaskNo) (xs : List TaskNo) → ((j : ℕ) → taskAt us j .priority ≡ taskAt ts j .priority) → enterAt us k xs ≡ enterAt ts k xs

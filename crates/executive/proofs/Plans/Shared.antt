@@ -71,11 +71,13 @@ caller-ready : (ts : List Task) (r : List TaskNo) → Line isReady ts r → 0 < 
 caller-ready ts [] q h = absurd (omega arith)
 caller-ready ts (c ∷ r) q h = head-is isReady ts c r refl q .is-of
 
+pub ready-runs : (ts : List Task) (c : ℕ) → is ready (taskAt ts c .state) ≡ 1 → Runs ts c
+ready-runs ts c r =
+    let x = not-both (taskAt ts c .state) in
+    record { is-ready = r; is-busy = omega arith; no-start = omega arith; no-end = omega arith; no-sub = omega arith; names = busy-names ts c (omega arith) }
+
 pub runs : (t : Table) → WellFormedByPart t → 0 < t .ready → Runs (t .tasks) (headOf (line t) .0)
-runs t w h =
-    let r : is ready (taskAt (t .tasks) (headOf (line t) .0) .state) ≡ 1 = caller-ready (t .tasks) (line t) (w .queue) (omega (arith, line-length t (w .fit))) in
-    let x = not-both (taskAt (t .tasks) (headOf (line t) .0) .state) in
-    record { is-ready = r; is-busy = omega arith; no-start = omega arith; no-end = omega arith; no-sub = omega arith; names = busy-names (t .tasks) (headOf (line t) .0) (omega arith) }
+runs t w h = ready-runs (t .tasks) (headOf (line t) .0) (caller-ready (t .tasks) (line t) (w .queue) (omega (arith, line-length t (w .fit))))
 
 -- the caller departs, and not to wait for a subprogram: one that sleeps holds none
 pub leaves-else : (t : Table) → WellFormedByPart t → 0 < t .ready → (e : Task) → is awaitSub (e .state) ≡ 0 → (is dormant (e .state) ≡ 1 → HoldsNone (headOf (line t) .0) (t .rest .subs))

@@ -171,7 +171,7 @@ line-waiting s o = length-take-le (s .waiting) (s .line) (omega (arith, line-pla
 past-sub : (ss : List Sub) (m : ℕ) → length ss ≡ subCount → subCount ≤ m → getD ss m noSub ≡ noSub
 past-sub ss m l h = List·getD-eq-default ss noSub {n = m} (omega arith)
 
-sub-of : (t : Table) → InRange t → Subprograms (t .tasks) (t .rest) → (m : ℕ) → SubOk (t .tasks) m (subAt (t .rest) m)
+pub sub-of : (t : Table) → InRange t → Subprograms (t .tasks) (t .rest) → (m : ℕ) → SubOk (t .tasks) m (subAt (t .rest) m)
 unfolding items count
 sub-of t n s m = record {
   neat = record { room = n .waiting m; clear = s .tidy m };

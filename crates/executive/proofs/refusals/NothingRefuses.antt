@@ -1,24 +1,18 @@
 -- A call that nothing refuses has what its decision asks.
-use Prim.Native.Nat.{ℕ, _+_, _≤_, _<_, _^_}
-use mathlib.Core.Path.{_≡_, refl, sym, _∙_}
+use Prim.Native.Nat.{ℕ, _≤_, _<_}
+use mathlib.Core.Path.{_≡_, refl, sym}
 use mathlib.Core.Bool.{Bool, true, false, _||_}
 use mathlib.Core.List.{List, _∷_}
 use native.Mathlib.Omega.{arith}
-use borrow.Author.Tests.{ltb-false, leb-false, eqb-false}
+use borrow.Author.Tests.{ltb-false, eqb-false}
 use lib.Dec.{ltb}
 use Rattle.records.specs.Firsts.{Refusal, when, firstOf}
-use Rattle.records.specs.declared.TaskNo.{TaskNo}
-use Rattle.records.specs.declared.FlagNo.{FlagNo}
-use Rattle.records.specs.declared.SubNo.{SubNo}
-use Rattle.records.specs.declared.Text.{Text}
 use Rattle.records.specs.declared.Call.{Call}
 use Rattle.records.specs.declared.Call.the-variants as call
-use Rattle.executive.specs.Numbers.{lastUnit, lastSub, subCount}
+use Rattle.executive.specs.Numbers.{lastUnit}
 use Rattle.executive.specs.declared.Table.{Table}
 use Rattle.executive.specs.Table.{ArraysInOrder, TimesInOrder}
-use Rattle.executive.specs.States.{isDormant, takes}
-use Rattle.executive.specs.Plans.{caller, stateAt}
-use Rattle.executive.specs.WellFormed.{WellFormed, Times}
+use Rattle.executive.specs.WellFormed.{WellFormed}
 use Rattle.executive.specs.Refusals.{isTick, nobodyActive, badBody, holdsIt, holdsNot, holdsAny, namesCaller, alarmRunning, poolFull, mailFull, endsTime, callRefusals}
 use Rattle.executive.proofs.Lists.Tests.{false-not-true}
 use Rattle.executive.proofs.calls.InOrder.{fit-of, standing-of}
@@ -59,11 +53,6 @@ pub or-none : (a b : Bool) → (a || b) ≡ false → (a ≡ false) × (b ≡ fa
 or-none false b h = (refl, h)
 or-none true b h = false-not-true (sym h)
 
--- what a body that is in range says
-alarm-low : (t : Table) (u n : ℕ) (f : FlagNo) → badBody t (call.Alarm u n f) ≡ false → f .0 < 32
-unfolding badBody
-alarm-low t u n f h = let l = ltb-false 31 (f .0) (or-none (ltb lastUnit u) (ltb 31 (f .0)) h .1) in omega arith
-
 -- ---- what each method asks
 module _ (t : Table) (w : WellFormed t) where
   active : (c : Call) → isTick t c ≡ false → firstOf (callRefusals t c) ≡ 0 → 0 < t .ready
@@ -75,30 +64,6 @@ module _ (t : Table) (w : WellFormed t) where
 
   pub restart-owed : (p n : ℕ) → firstOf (callRefusals t (call.Restart p n)) ≡ 0 → TimesInOrder t × (0 < t .ready)
   restart-owed p n h = (standing-of t w, active (call.Restart p n) refl h)
-
-  pub ask-owed : (o : ℕ) (k : TaskNo) (a : ℕ) → firstOf (callRefusals t (call.StartOrQueue o k a)) ≡ 0
-      → ArraysInOrder t × (0 < t .ready) × (isDormant (stateAt t k) ≡ false → t .rest .queued < 32)
-  unfolding poolFull
-  ask-owed o k a h = (fit-of t w, active (call.StartOrQueue o k a) refl h, λ d. leb-false 32 (t .rest .queued) (rw d at (clear-of t (call.StartOrQueue o k a) h .room)))
-
-  pub alarm-owed : (u n : ℕ) (f : FlagNo) → firstOf (callRefusals t (call.Alarm u n f)) ≡ 0 → f .0 < 32
-  alarm-owed u n f h = alarm-low t u n f (clear-of t (call.Alarm u n f) h .body)
-
-  -- 06 and 07: a call that is refused by its body where there is no subprogram of that number
-  pub sub-owed : (c : Call) (m : SubNo) → isTick t c ≡ false → badBody t c ≡ ltb lastSub (m .0) → firstOf (callRefusals t c) ≡ 0
-      → (0 < t .ready) × (m .0 < subCount)
-  sub-owed c m n b h =
-      let l = ltb-false lastSub (m .0) (sym b ∙ clear-of t c h .body) in (active c n h, omega arith)
-
-  -- 14: a message that has to wait finds room
-  pub send-owed : (k : TaskNo) (x : Text) → firstOf (callRefusals t (call.Send k x)) ≡ 0
-      → (0 < t .ready) × (takes (caller t .0) (stateAt t k) ≡ false → t .rest .sent < 32)
-  unfolding mailFull
-  send-owed k x h = (active (call.Send k x) refl h, λ d. leb-false 32 (t .rest .sent) (rw d at (clear-of t (call.Send k x) h .mail)))
-
-  pub tick-owed : firstOf (callRefusals t call.Tick) ≡ 0 → ArraysInOrder t × (t .rest .clock .0 + t .rest .granule ≤ 2 ^ 40)
-  unfolding endsTime
-  tick-owed h = (fit-of t w, ltb-false (2 ^ 40) (t .rest .clock .0 + t .rest .granule) (clear-of t call.Tick h .time))
 
 -- ---- the same of the numbers alone
 pub low-first : (a : ℕ) (b : Bool) → (ltb 31 a || b) ≡ false → a < 32
