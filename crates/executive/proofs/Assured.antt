@@ -1,12 +1,33 @@
--- What is promised holds. Of the modules here the crates above name this one and no other.
+-- What is promised holds; and what whoever executes a decision may rely on. Of the modules here the crates above name
+-- this one and no other.
+use Prim.Native.Nat.{ℕ, _≤_}
+use mathlib.Core.Path.{_≡_}
+use mathlib.Core.Bool.{true, false}
+use mathlib.Core.List.{List}
+use lib.ListN.{length}
+use Rattle.records.specs.Numbers.{Bytes}
+use Rattle.executive.specs.declared.Task.{Task}
+use Rattle.executive.specs.declared.Table.{Table}
+use Rattle.executive.specs.declared.decisions.Leave.{Leave}
+use Rattle.executive.specs.Table.{view, levelsOf, Out, stays, leaves, Join, Plan, left?}
+use Rattle.executive.specs.Plans.{caller}
+use Rattle.executive.specs.WellFormed.{Queue, WellFormed}
+use Rattle.executive.specs.Decisions.{outFor, goneAs, meant, Doable}
+use Rattle.executive.specs.Deciding.{decisionFor}
+use Rattle.executive.specs.Promises.QueueLaw.{QueueLaw}
+use Rattle.executive.specs.Promises.ByDecision.{ByDecision}
 use Rattle.executive.specs.Promises.Demands.{Demands}
-use Rattle.executive.specs.Check.{Decided}
+use Rattle.executive.specs.Check.{queueRight, allButQueue, Decided}
 use Rattle.executive.specs.Promises.FreshLaw.{FreshLaw}
 use Rattle.executive.specs.States.{StatesTold}
 use Rattle.executive.specs.Promises.LampLaw.{LampLaw}
 use Rattle.executive.specs.Promises.SubLaw.{SubLaw}
 use Rattle.executive.proofs.check.Decides as checked
+use Rattle.executive.proofs.executing.Leaving as leaving
+use Rattle.executive.proofs.queue.Law as queues
+use Rattle.executive.proofs.step.Executable as executable
 use Rattle.executive.proofs.states.Laws as named
+use Rattle.executive.proofs.promises.ByDecision as decisions
 use Rattle.executive.proofs.promises.CardsAndFresh as shown
 use Rattle.executive.proofs.promises.Demands as theorems
 use Rattle.executive.proofs.promises.LampLaw as lit
@@ -29,3 +50,46 @@ lamp-law = lit.lamp-law
 
 pub sub-law : SubLaw
 sub-law = held.sub-law
+
+pub queue-law : QueueLaw
+queue-law = queues.queue-law
+
+pub by-decision : ByDecision
+by-decision = decisions.by-decision
+
+-- ---- for another engine: a table whose entries and rest keep their rules, and whose queue and word are right, is well
+-- formed
+pub formed-by : (t : Table) → allButQueue (t .tasks) (t .rest) ≡ true → length (t .queue) ≡ 16 → t .ready ≤ 16 → Queue t → t .levels ≡ levelsOf (view t) → WellFormed t
+formed-by = checked.formed-by
+
+pub queue-right : (t : Table) → List ℕ → WellFormed t → queueRight t ≡ true
+queue-right = executable.queue-right
+
+-- how the caller leaves, as a plan has it
+pub leaves-as : (how : Leave) → left? (outFor how) ≡ true → outFor how ≡ leaves (goneAs how)
+leaves-as = leaving.leaves-as
+
+pub stays-as : (how : Leave) → left? (outFor how) ≡ false → outFor how ≡ stays
+stays-as = leaving.stays-as
+
+-- a decision that accepts can be done at its table; its caller leaves to a state that is not ready, and each that enters
+-- is a task, was not ready, and is
+abbrev pub LeavesUnready : Out → Task → Type 0
+LeavesUnready o e = executable.LeavesUnready o e
+
+abbrev pub Enters : Join → List Task → Type 0
+Enters j ts = executable.Enters j ts
+
+abbrev pub AllEnter : List Join → List Task → Type 0
+AllEnter js ts = executable.AllEnter js ts
+
+abbrev pub Moves : Plan → Table → Type 0
+Moves p t = executable.Moves p t
+
+pub can-be-done : (t : Table) (s : List ℕ) → WellFormed t → decisionFor (t .tasks) (t .rest) (caller t) s .number ≡ 0
+    → Doable (decisionFor (t .tasks) (t .rest) (caller t) s .deed) t
+can-be-done = executable.can-be-done
+
+pub moves : (t : Table) (s : List ℕ) → WellFormed t → decisionFor (t .tasks) (t .rest) (caller t) s .number ≡ 0 → Bytes s
+    → Moves (meant (decisionFor (t .tasks) (t .rest) (caller t) s .deed) t) t
+moves = executable.moves

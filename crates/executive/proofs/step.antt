@@ -7,3 +7,4 @@ pub mod InWords
 pub mod StepIsPlan
 pub mod OthersStay
 pub mod OfRecord
+pub mod Executable

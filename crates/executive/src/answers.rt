@@ -33,7 +33,7 @@ pub fn no_table() -> Answer
     }
 }
 
-pub(crate) fn marked(z: bool, v: bool, c: bool) -> Marks
+pub fn marked(z: bool, v: bool, c: bool) -> Marks
     ensures { λ r. ⌜ r ≡ marks z v c ⌝ }
 {
     Marks {
@@ -67,7 +67,7 @@ pub(crate) fn flag_marks(operation: u8, old: bool) -> Marks
 }
 
 // V is 1 for 4, 6 and 7.
-fn has_v(number: u8) -> bool
+pub fn has_v(number: u8) -> bool
     ensures { λ r. ⌜ r ≡ hasV number ⌝ }
 {
     if number == 4 {

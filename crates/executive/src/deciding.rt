@@ -22,7 +22,13 @@ ghost use mathlib.Core.Path.{_≡_};
 ghost use Rattle.executive.specs.Decisions.{Judgeable};
 ghost use Rattle.executive.specs.Sheet.{decided, decisionOf};
 ghost use Rattle.executive.specs.Refusals.{Idles};
-ghost use Rattle.executive.specs.Deciding.{callerRight, decisionIn, decisionFor};
+ghost use Rattle.executive.specs.Deciding.{callerRight, decisionIn, decisionFor, settledFor};
+
+// What is decided of a record, and the rest as it is after that.
+pub struct Settled {
+    pub decision: Decision,
+    pub rest: Rest,
+}
 
 // 5: a call, not a tick, and nobody is active.
 fn nobody_active(c: TaskNo, call: Call) -> bool
@@ -172,4 +178,25 @@ pub fn decide(tasks: [Task; 16], rest: Rest, caller: TaskNo, bytes: &[u8]) -> De
         return decisions::refused(1);
     }
     decide_record(tasks, rest, caller, bytes)
+}
+
+// The same for an engine that lets tasks leave and enter by itself: the decision, and the rest after it. What is refused
+// keeps the rest.
+pub fn settle(tasks: [Task; 16], rest: Rest, caller: TaskNo, bytes: &[u8]) -> Settled
+    ensures { λ r. ⌜ r ≡ settledFor tasks rest caller (now (bytes .entry)) ⌝ }
+{
+    let decision = decide(tasks, rest, caller, bytes);
+    if decision.number != 0 {
+        return Settled { decision, rest };
+    }
+    let deed = decision.deed;
+    let change = deed.change;
+    let q = deed.request;
+    let changed = rest.changed(change, q);
+    let k = deed.empties;
+    let after = changed.with_mail(k, messages::NO_MAIL);
+    Settled {
+        decision,
+        rest: after,
+    }
 }

@@ -101,7 +101,7 @@ pub(crate) fn due(e: Task, at: Millis) -> Task
 }
 
 // The entry of a task as it leaves; one that stays keeps it.
-pub(crate) fn gone(e: Task, how: Leave) -> Task
+pub fn gone(e: Task, how: Leave) -> Task
     ensures { λ r. ⌜ r ≡ goneAs how e ⌝ }
 {
     match how {
@@ -113,7 +113,7 @@ pub(crate) fn gone(e: Task, how: Leave) -> Task
 }
 
 // The entry of a task as it enters.
-pub(crate) fn entering(e: Task, how: How, q: Request, now: Millis) -> Task
+pub fn entering(e: Task, how: How, q: Request, now: Millis) -> Task
     ensures { λ r. ⌜ r ≡ changeFor q now how e ⌝ }
 {
     match how {

@@ -20,7 +20,7 @@ ghost use Rattle.executive.specs.Messages.{noMail, withMail};
 ghost use Rattle.executive.specs.Decisions.{named, outFor, joinsFor, alters, changed, meant, Able, Doable};
 
 // Whether the caller leaves.
-fn leaves(how: Leave) -> bool
+pub fn leaves(how: Leave) -> bool
     ensures { λ r. ⌜ r ≡ left? (outFor how) ⌝ }
 {
     match how {
@@ -53,7 +53,7 @@ fn alters(change: Change) -> bool
 
 impl Rest {
     // The rest after a change.
-    fn changed(mut self, change: Change, q: Request) -> Rest
+    pub(crate) fn changed(mut self, change: Change, q: Request) -> Rest
         requires { ⌜ PoolInOrder self × Able change self ⌝ }
         ensures { λ r. ⌜ r ≡ changed change q self ⌝ }
     {

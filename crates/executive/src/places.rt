@@ -9,7 +9,7 @@ ghost use lib.ListN.{set};
 ghost use Rattle.executive.specs.Places.{taskAt, putAt, entryPlace};
 
 // The blank entry.
-pub(crate) const NO_TASK: Task = Task {
+pub const NO_TASK: Task = Task {
     own: 0,
     state: State::Dormant,
     priority: 0,
@@ -20,7 +20,7 @@ pub(crate) const NO_TASK: Task = Task {
 
 // The place of a task's entry; 16, which is no place, for a number that no task can have. Whoever reads or writes
 // by a number that the table holds asks here.
-pub(crate) fn entry_place(k: TaskNo) -> usize
+pub fn entry_place(k: TaskNo) -> usize
     ensures { λ r. ⌜ r ≡ entryPlace (k .0) ⌝ }
 {
     let n = k.0;

@@ -9,7 +9,7 @@ ghost use Rattle.executive.specs.States.{KindIs, TimeIs, MaskIs, Awaited
 // The kinds of state. The check goes by these numbers, and a table's image holds them.
 const DORMANT: u8 = 0;
 
-pub(crate) const READY: u8 = 1;
+pub const READY: u8 = 1;
 
 const PAUSED: u8 = 2;
 
@@ -100,7 +100,7 @@ pub fn awaited_of(s: State) -> u8
 }
 
 // Whether a state is of a kind.
-pub(crate) fn is_of(s: State, kind: u8) -> bool
+pub fn is_of(s: State, kind: u8) -> bool
     ensures { λ r. ⌜ r ≡ isOf kind s ⌝ }
 {
     kind == kind_of(s)

@@ -1,11 +1,13 @@
 -- The check passes exactly where the table is well formed; what it answers is determined.
-use Prim.Native.Nat.{ℕ}
+use Prim.Native.Nat.{ℕ, _≤_}
 use mathlib.Core.Path.{_≡_, refl, sym, _∙_}
 use mathlib.Core.Logic.{_↔_}
 use mathlib.Core.Bool.{Bool, true, false}
 use native.Mathlib.Omega.{arith}
 use borrow.Author.Tests.{eqb-true, eq-eqb}
+use lib.ListN.{length}
 use Rattle.executive.specs.declared.Table.{Table}
+use Rattle.executive.specs.Table.{view, levelsOf}
 use Rattle.executive.specs.WellFormed.{Queue, WellFormed}
 use Rattle.executive.specs.Check.{numbersRight, orderRight, queueRight, timesRight, startedRight, masksRight, busyRight, waitersRight, dormantRight, poolRight, subsRight, allButQueue, isWellFormed, Checked, Decided}
 use Rattle.executive.proofs.Lists.Tests.{and-true, true-and}
@@ -66,6 +68,14 @@ module _ (t : Table) where
       (true-and (poolRight r) _ (pool-make t (w .numbers .sizes .pool) (w .pool))
       (true-and (subsRight ts r) _ (subs-make t (w .numbers) (w .subprograms))
       (messages-make ts r (r .count) (w .numbers .sizes .messages) (w .numbers .letters) (w .messages)))))))))))
+
+  -- a table whose entries and rest keep their rules, and whose queue and word are right, is well formed
+  pub formed-by : allButQueue (t .tasks) (t .rest) ≡ true → length (t .queue) ≡ 16 → t .ready ≤ 16 → Queue t → t .levels ≡ levelsOf (view t) → WellFormed t
+  unfolding isWellFormed allButQueue queueRight
+  formed-by b l r q e =
+      let a = and-true (numbersRight (t .tasks) (t .rest)) _ b in
+      let w : Known t = numbers-get t (record { size = l; ready = r }) (a .0) in
+      formed (true-and (queueRight t) _ (true-and (orderRight t) _ (queue-make t (w .range) q) (eq-eqb _ _ e)) b)
 
   pub well-formed-iff : (isWellFormed t ≡ true) ↔ WellFormed t
   well-formed-iff = (formed, passes)

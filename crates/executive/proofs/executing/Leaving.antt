@@ -35,6 +35,19 @@ left-stays leave.Sleeps t e = false-not-true (sym e)
 left-stays (leave.DueAt at) t e = false-not-true (sym e)
 left-stays (leave.As s) t e = false-not-true (sym e)
 
+-- how the caller leaves, as a plan has it
+pub leaves-as : (how : Leave) → left? (outFor how) ≡ true → outFor how ≡ leaves (goneAs how)
+leaves-as leave.Stays e = false-not-true e
+leaves-as leave.Sleeps e = refl
+leaves-as (leave.DueAt at) e = refl
+leaves-as (leave.As s) e = refl
+
+pub stays-as : (how : Leave) → left? (outFor how) ≡ false → outFor how ≡ stays
+stays-as leave.Stays e = refl
+stays-as leave.Sleeps e = false-not-true (sym e)
+stays-as (leave.DueAt at) e = false-not-true (sym e)
+stays-as (leave.As s) e = false-not-true (sym e)
+
 pub depart-rest : (o : Out) (t : Table) → depart o t .rest ≡ t .rest
 unfolding depart departed
 depart-rest stays t = refl
