@@ -1,4 +1,5 @@
--- What is promised holds.
+-- What is promised holds; and the laws of bytes for another engine's image. Of the modules here the crates above name
+-- this one and no other.
 use mathlib.Core.Path.{sym, _∙_}
 use Rattle.board.specs.Promises.{Promises}
 use Rattle.board.specs.Reasons.{WhyPromises}
@@ -7,6 +8,10 @@ use Rattle.board.proofs.Answered.{refused, short, not-made, why-short}
 use Rattle.board.proofs.Explained.{of-table, numbers-in}
 use Rattle.board.proofs.Histories.{fresh-kept, step-kept, active, overtaking}
 use Rattle.board.proofs.Shown.{lamp}
+pub use Rattle.board.proofs.Spans.{and-then, written-whole, length-row, row-start, row-turn, row-end, length-blocks, block-at, block-turn, block-end}
+pub use Rattle.board.proofs.Alike.{decide, never, same-self, same-true}
+pub use Rattle.board.proofs.Images.{blocks-back}
+pub use Rattle.board.proofs.Owned.{array-owned, table-owned}
 
 pub promises : Promises
 promises = record {

@@ -99,7 +99,7 @@ module _ (F : Field) (P : F .Value → Type 0) (known : (x : F .Value) (vs : Lis
   each-owned (x ∷ xs) [] s = absurd s
   each-owned (x ∷ xs) (u ∷ us) s = (known x (u ∷ []) (s .0), each-owned xs us (s .1))
 
-  array-owned : (n : ℕ) (xs : List (F .Value)) (vs : List Val) → Is (Array (F .row) n) (map (F .into) xs) vs → (length xs ≡ n) × Each P xs
+  pub array-owned : (n : ℕ) (xs : List (F .Value)) (vs : List Val) → Is (Array (F .row) n) (map (F .into) xs) vs → (length xs ≡ n) × Each P xs
   array-owned n xs vs q = (sym (length-map xs (F .into)) ∙ q .1 .0 .1, each-owned xs (q .0) (q .1 .1))
 
 sub-owned : (x : Sub) (vs : List Val) → Is (row sub-type) x vs → FitsSub x

@@ -3,7 +3,9 @@ use crate::numbers;
 use crate::storing;
 use executive::Answer;
 ghost use mathlib.Core.Path.{_≡_};
+ghost use mathlib.Core.Bool.{cond};
 ghost use Prim.Native.Nat.{_≤_};
+ghost use lib.Dec.{ltb};
 ghost use lib.ListN.{length};
 ghost use Rattle.executive.specs.Lists.{one};
 ghost use Rattle.board.specs.Blocks.{written};
@@ -31,4 +33,14 @@ pub(crate) fn put_answer(out: &mut [u8], answer: Answer)
     numbers::put_long(out, 8, answer.skipped);
     numbers::put_byte(out, 16, answer.sender.0);
     numbers::put_long(out, 17, answer.text.0);
+}
+
+// Gives an answer in a lent buffer, at its start; one that is too short is kept.
+pub fn give(out: &mut [u8], answer: Answer)
+    ensures { λ _. ⌜ now (out .exit) ≡ cond (ltb (length (now (out .entry))) answerLength) (now (out .entry)) (written (now (out .entry)) 0 (answerBytes answer)) ⌝ }
+{
+    if out.len() < 25 {
+        return;
+    }
+    put_answer(out, answer);
 }

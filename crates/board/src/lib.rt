@@ -7,17 +7,17 @@ ghost use Rattle.records.specs.declared.TaskNo.{TaskNo};
 ghost use Rattle.board.specs.EntryPoints.{MakesImage, CheckedImage, StepsImage, ReadsLamp};
 ghost use Rattle.board.specs.Reasons.{ExplainsImage};
 
-mod answers;
+pub mod answers;
 mod checking;
 pub mod loading;
-mod numbers;
+pub mod numbers;
 pub mod promises;
 mod reasons;
 pub mod storing;
 
 // The board's own number: a buffer that is to be written to has not the length it needs. It is judged before any
 // other number.
-pub(crate) const NO_ROOM: u8 = 30;
+pub const NO_ROOM: u8 = 30;
 
 // Where the parts of an image begin: the tasks' entries at 0, then the queue, the numbers that stand alone from 432 on, the
 // alarms, the pool, the word of the ready levels, the numbers that the tasks' states wait for, the subprograms, the
@@ -41,7 +41,7 @@ pub(crate) const SENT: usize = 1410;
 pub(crate) const MAIL: usize = 1411;
 
 // The length of an image in bytes.
-pub(crate) const IMAGE: usize = 1555;
+pub const IMAGE: usize = 1555;
 
 // What the lamp reads where nothing is shown: no priority.
 const LAMP_DARK: u8 = 16;

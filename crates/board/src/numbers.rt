@@ -1,7 +1,9 @@
 // Numbers, the highest byte first, at a place of a buffer: read and written.
 ghost use mathlib.Core.Path.{_≡_};
 ghost use mathlib.Core.List.{[], _∷_};
-ghost use Prim.Native.Nat.{_+_, _≤_};
+ghost use mathlib.Core.Bool.{cond};
+ghost use Prim.Native.Nat.{_+_, _*_, _≤_};
+ghost use lib.Dec.{ltb};
 ghost use lib.ListN.{length};
 ghost use Rattle.records.specs.Numbers.{numberOf, part, bytesIn};
 ghost use Rattle.board.specs.Blocks.{written};
@@ -81,4 +83,26 @@ pub(crate) fn put_long(out: &mut [u8], at: usize, x: u64)
 {
     put_word(out, at, (x / 4294967296) as u32);
     put_word(out, at + 4, (x % 4294967296) as u32);
+}
+
+// The i-th of a row of numbers of four bytes, for another engine's image; 0 where they are not all there.
+pub fn number_at(bytes: &[u8], i: u8) -> u32
+    ensures { λ r. ⌜ r ≡ cond (ltb (length (now (bytes .entry))) (i * 4 + 4)) 0 (numberOf (part 4 (i * 4) (now (bytes .entry)))) ⌝ }
+{
+    let at = (i as usize) * 4;
+    if bytes.len() < at + 4 {
+        return 0;
+    }
+    word_in(bytes, at)
+}
+
+// Writes the i-th of a row of numbers of four bytes; a buffer that has no room for it is kept.
+pub fn put_number(out: &mut [u8], i: u8, x: u32)
+    ensures { λ _. ⌜ now (out .exit) ≡ cond (ltb (length (now (out .entry))) (i * 4 + 4)) (now (out .entry)) (written (now (out .entry)) (i * 4) (bytesIn 4 x)) ⌝ }
+{
+    let at = (i as usize) * 4;
+    if out.len() < at + 4 {
+        return;
+    }
+    put_word(out, at, x);
 }
