@@ -22,9 +22,18 @@ trial_program() (
 
 # blocks_trial: builds the Rust trial of the blocks, over the blocks library for this machine; prints where it is.
 blocks_trial() (
-    library=$(cd "$root" && native_blocks) || return 1
+    library=$(cd "$root" && native_archive blocks 1) || return 1
     BLOCKS_LIBRARY=$root/$library
     BLOCKS_SUM=$(cksum <"$BLOCKS_LIBRARY/libblocks.a") || return 1
     export BLOCKS_LIBRARY BLOCKS_SUM
     project build --quiet --release --bin blocks-trial && echo "$root/target/rust/release/blocks-trial"
+)
+
+# scan_trial: builds the Rust trial of both engines, over their libraries for this machine; prints where it is.
+scan_trial() (
+    library=$(cd "$root" && native_library) && scan=$(cd "$root" && native_archive scan_board 3) || return 1
+    BOARD_LIBRARY=$root/$library SCAN_LIBRARY=$root/$scan
+    BOARD_SUM=$(cksum <"$BOARD_LIBRARY/libboard.a") && SCAN_SUM=$(cksum <"$SCAN_LIBRARY/libscan_board.a") || return 1
+    export BOARD_LIBRARY BOARD_SUM SCAN_LIBRARY SCAN_SUM
+    project build --quiet --release --bin scan-trial && echo "$root/target/rust/release/scan-trial"
 )

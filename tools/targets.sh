@@ -98,17 +98,17 @@ native_library() (
     esac
 )
 
-# native_blocks: prints the folder of the blocks library for this machine: the kit's own, or the same module compiled
-# for it.
-native_blocks() (
-    tools/module blocks >&2 || return 1
+# native_archive NAME EXPORTS: prints the folder of a library for this machine, the kit's own or the same module compiled
+# for it; it exports so many functions.
+native_archive() (
+    tools/module "$1" >&2 || return 1
     case $machine in
     x86_64 | amd64) echo target/staticlib ;;
     aarch64)
         out=target/targets/aarch64-linux
-        target aarch64-linux && mkdir -p $out && rm -f $out/libblocks.a && retarget blocks 1 >$out/blocks.ll &&
-            compile_module O3 $out/blocks.ll $out/blocks.o -c &&
-            (cd $out && "$(kit_tools)/bin/llvm-ar" rcD libblocks.a blocks.o) && echo $out
+        target aarch64-linux && mkdir -p $out && rm -f "$out/lib$1.a" && retarget "$1" "$2" >"$out/$1.ll" &&
+            compile_module O3 "$out/$1.ll" "$out/$1.o" -c &&
+            (cd $out && "$(kit_tools)/bin/llvm-ar" rcD "lib$1.a" "$1.o") && echo $out
         ;;
     *) echo "There is no target for this machine, $machine." >&2 && return 1 ;;
     esac

@@ -2,9 +2,13 @@
  * A call is a letter (f fresh, c check, l lamp, s step, w why), the lengths of three buffers, four bytes each, the
  * highest first, and their bytes: the image; the configuration, the record or the task; the answer. What it gives: the
  * number that was returned, as four bytes, so that what a machine leaves above the returned byte is seen; the
- * instructions that it took, four bytes, 0 where nothing counts them; and the bytes of image and answer after it. */
+ * instructions that it took, four bytes, 0 where nothing counts them; and the bytes of image and answer after it.
+ * Built with BOTH_ENGINES it answers for the second engine too: F fresh, C check, S step. */
 #include "pipe.h"
 #include "quermanic.h"
+#ifdef BOTH_ENGINES
+#include "quermanic_scan.h"
+#endif
 
 #define GUARD 16
 #define FILL 0xC3
@@ -71,6 +75,15 @@ static uint32_t call(uint8_t kind, struct guarded *image, struct guarded *given,
     case 'w':
         need(given->length == 1, "calls: a task is one byte\n");
         return quermanic_why(inside(image), image->length, inside(given)[0], inside(answer), answer->length);
+#ifdef BOTH_ENGINES
+    case 'F':
+        return quermanic_scan_fresh(inside(given), given->length, inside(image), image->length);
+    case 'C':
+        return quermanic_scan_check(inside(image), image->length);
+    case 'S':
+        return quermanic_scan_step(inside(image), image->length, inside(given), given->length, inside(answer),
+                                   answer->length);
+#endif
     default:
         need(kind == 's', "calls: no such call\n");
         return quermanic_step(inside(image), image->length, inside(given), given->length, inside(answer),

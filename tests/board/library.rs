@@ -1,6 +1,7 @@
 //! The board library's functions, on buffers with guard bytes around those that are written to. They are linked; where
 //! BOARD_CALLS names a program, they are called through it.
 
+use crate::guarded::Guarded;
 use crate::linked;
 use crate::piped::Program;
 
@@ -18,7 +19,7 @@ impl Library {
     pub fn fresh(&mut self, config: &[u8], image: &[u8]) -> (u32, Vec<u8>) {
         let mut image = Guarded::new(image);
         let number = match &mut self.0 {
-            Some(program) => program.fresh(config, image.inside()),
+            Some(program) => program.call(b'f', image.inside(), config, &mut []),
             None => linked::fresh(config, image.inside()),
         };
         (number, image.open())
@@ -27,7 +28,7 @@ impl Library {
     /// The number of an image's check.
     pub fn check(&mut self, image: &[u8]) -> u32 {
         match &mut self.0 {
-            Some(program) => program.check(image),
+            Some(program) => program.look(b'c', image),
             None => linked::check(image),
         }
     }
@@ -35,7 +36,7 @@ impl Library {
     /// What the lamp shows of an image.
     pub fn lamp(&mut self, image: &[u8]) -> u32 {
         match &mut self.0 {
-            Some(program) => program.lamp(image),
+            Some(program) => program.look(b'l', image),
             None => linked::lamp(image),
         }
     }
@@ -45,7 +46,7 @@ impl Library {
         let mut kept = Guarded::new(image);
         let mut out = Guarded::new(out);
         let number = match &mut self.0 {
-            Some(program) => program.why(kept.inside(), task, out.inside()),
+            Some(program) => program.call(b'w', kept.inside(), &[task], out.inside()),
             None => linked::why(kept.inside(), task, out.inside()),
         };
         assert!(kept.open() == image, "the question wrote to the image");
@@ -63,7 +64,7 @@ impl Library {
     /// A step's number; image and answer are left as it left them.
     pub fn step_in_place(&mut self, image: &mut [u8], record: &[u8], answer: &mut [u8]) -> u32 {
         match &mut self.0 {
-            Some(program) => program.step(image, record, answer),
+            Some(program) => program.call(b's', image, record, answer),
             None => linked::step(image, record, answer),
         }
     }
@@ -71,29 +72,5 @@ impl Library {
     /// The instructions of the last call; 0 where nothing counts them.
     pub fn spent(&self) -> u32 {
         self.0.as_ref().map_or(0, Program::spent)
-    }
-}
-
-const GUARD: [u8; 16] = [0xC3; 16];
-
-/// A buffer with a guard on each side.
-struct Guarded(Vec<u8>);
-
-impl Guarded {
-    fn new(content: &[u8]) -> Guarded {
-        Guarded([&GUARD, content, &GUARD].concat())
-    }
-
-    fn inside(&mut self) -> &mut [u8] {
-        let end = self.0.len() - GUARD.len();
-        &mut self.0[GUARD.len()..end]
-    }
-
-    /// The content, where no guard was written to.
-    fn open(mut self) -> Vec<u8> {
-        let content = self.inside().to_vec();
-        let kept = self.0.starts_with(&GUARD) && self.0.ends_with(&GUARD);
-        assert!(kept, "the library wrote outside its buffer");
-        content
     }
 }

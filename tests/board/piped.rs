@@ -1,4 +1,4 @@
-//! The board library's functions on another machine, called through a program of its own (`calls.c`).
+//! A library's functions on another machine, called through a program of its own (`calls.c`), each by its letter.
 
 use std::ffi::OsString;
 use std::io::{Read, Write};
@@ -30,7 +30,7 @@ impl Program {
     }
 
     /// One call: the number that it returns; image and answer are left as it left them.
-    fn call(&mut self, kind: u8, image: &mut [u8], given: &[u8], answer: &mut [u8]) -> u32 {
+    pub fn call(&mut self, kind: u8, image: &mut [u8], given: &[u8], answer: &mut [u8]) -> u32 {
         let mut said = vec![kind];
         for part in [&*image, given, &*answer] {
             let length = u32::try_from(part.len()).expect("a buffer is short");
@@ -49,30 +49,11 @@ impl Program {
         u32::from_be_bytes(number)
     }
 
-    pub fn fresh(&mut self, config: &[u8], image: &mut [u8]) -> u32 {
-        self.call(b'f', image, config, &mut [])
-    }
-
     /// A call that only looks at the image.
-    fn look(&mut self, kind: u8, image: &[u8]) -> u32 {
+    pub fn look(&mut self, kind: u8, image: &[u8]) -> u32 {
         let mut after = image.to_vec();
         let number = self.call(kind, &mut after, &[], &mut []);
         assert!(after == image, "the check or the lamp wrote to the image");
         number
-    }
-
-    pub fn check(&mut self, image: &[u8]) -> u32 {
-        self.look(b'c', image)
-    }
-
-    pub fn lamp(&mut self, image: &[u8]) -> u32 {
-        self.look(b'l', image)
-    }
-
-    pub fn step(&mut self, image: &mut [u8], record: &[u8], answer: &mut [u8]) -> u32 {
-        self.call(b's', image, record, answer)
-    }
-    pub fn why(&mut self, image: &mut [u8], task: u8, out: &mut [u8]) -> u32 {
-        self.call(b'w', image, &[task], out)
     }
 }

@@ -4,6 +4,7 @@ mod account;
 mod answer;
 mod book;
 mod counts;
+mod guarded;
 mod images;
 mod letters;
 mod library;

@@ -2,10 +2,14 @@
 
 use crate::table::{Message, Request, State, Sub, Table, Task, LAST_CLOCK, LONGEST, MESSAGES, PLACES, SUBS, TASKS};
 
-/// Whether a table keeps every rule, in the sentence's order; then document 02's.
+/// Whether a table keeps every rule of the sentence, and document 02's.
 pub fn well_formed(table: &Table) -> bool {
+    all_but_queue(table) && queue_is_right(table)
+}
+
+/// Every rule but those of the queue and of the word of the ready levels, in the sentence's order.
+pub(crate) fn all_but_queue(table: &Table) -> bool {
     in_range(table)
-        && line_is_right(table, &table.queue, table.queued, State::Ready)
         && times_are_ahead(table)
         && table.tasks.iter().all(|task| task.started <= table.clock)
         && waits_are_open(table)
@@ -14,18 +18,23 @@ pub fn well_formed(table: &Table) -> bool {
         && idle_entries_are_zero(table)
         && (0..).zip(&table.subs).all(|(number, sub)| sub_is_right(table, number, sub))
         && messages_are_right(table)
+}
+
+/// The queue's rules and the word's, where all others are kept.
+fn queue_is_right(table: &Table) -> bool {
+    table.queued <= table.count
+        && table.queue[..table.queued as usize].iter().all(|&number| 1 <= number && number <= table.count)
+        && line_is_right(table, &table.queue, table.queued, State::Ready)
         && table.levels == table.ready_levels()
 }
 
-/// Every number is in range.
+/// Every number is in range, but the queue's.
 fn in_range(table: &Table) -> bool {
     let count = table.count;
     let is_task = |number: u8| 1 <= number && number <= count;
     (1..=TASKS).contains(&(count as usize))
         && table.granule >= 1
         && table.clock <= LAST_CLOCK
-        && table.queued <= count
-        && table.queue[..table.queued as usize].iter().all(|&number| is_task(number))
         && table.tasks.iter().all(|task| task.own <= 15 && task.priority <= 15 && task.end_waiter <= count)
         && table.tasks.iter().all(|task| !matches!(task.state, State::WaitSub(number) if number as usize >= SUBS))
         && table.tasks.iter().all(|task| !matches!(task.state, State::WaitMessage(sender) if sender > count))

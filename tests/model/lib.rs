@@ -12,6 +12,7 @@ pub mod mixes;
 pub mod records;
 mod refusals;
 pub mod runs;
+pub mod scan;
 pub mod steps;
 pub mod table;
 pub mod why;

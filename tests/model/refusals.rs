@@ -3,8 +3,8 @@
 use crate::records::body_length;
 use crate::table::{State, Table, LAST_CLOCK, MESSAGES, PLACES, SUBS};
 
-/// The refusal's number, the first in the order, or 0.
-pub fn refusal(table: &Table, record: &[u8]) -> u8 {
+/// The refusal's number, the first in the order, or 0; the caller is the active task, 0 for nobody.
+pub fn refusal(table: &Table, caller: u8, record: &[u8]) -> u8 {
     let (kind, body) = match record {
         [kind, body @ ..] => (*kind, body),
         [] => return 3,
@@ -18,26 +18,26 @@ pub fn refusal(table: &Table, record: &[u8]) -> u8 {
         let past = table.clock + u64::from(table.granule) > LAST_CLOCK;
         return if past { 10 } else { 0 };
     }
-    if table.queued == 0 {
+    if caller == 0 {
         return 5;
     }
     if out_of_range(table, kind, body) {
         return 6;
     }
     match kind {
-        0x06 if table.subs[body[0] as usize].holder == table.queue[0] => 13,
-        0x07 if table.subs[body[0] as usize].holder != table.queue[0] => 14,
-        0x00 | 0x01 if table.holds_any(table.queue[0]) => 15,
-        0x05 => refusal_of_start(table, body[0], body[1]),
+        0x06 if table.subs[body[0] as usize].holder == caller => 13,
+        0x07 if table.subs[body[0] as usize].holder != caller => 14,
+        0x00 | 0x01 if table.holds_any(caller) => 15,
+        0x05 => refusal_of_start(table, caller, body[0], body[1]),
         0x0B if table.alarms[body[2] as usize] != 0 => 9,
-        0x14 if !table.awaits(body[0], table.queue[0]) && table.sent as usize == MESSAGES => 16,
+        0x14 if !table.awaits(body[0], caller) && table.sent as usize == MESSAGES => 16,
         _ => 0,
     }
 }
 
 /// Number 7 or 8 for a 05 whose bytes are in range.
-fn refusal_of_start(table: &Table, option: u8, target: u8) -> u8 {
-    if target == table.queue[0] && option & 0x60 != 0 {
+fn refusal_of_start(table: &Table, caller: u8, option: u8, target: u8) -> u8 {
+    if target == caller && option & 0x60 != 0 {
         7
     } else if table.task(target).state != State::Dormant && table.asked as usize == PLACES {
         8

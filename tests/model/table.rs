@@ -225,7 +225,12 @@ impl Answer {
 
     /// Names the table's active task and its argument, or nobody.
     pub fn name_active(&mut self, table: &Table) {
-        self.active = table.queue[0];
-        self.argument = if self.active == 0 { 0 } else { table.task(self.active).argument };
+        self.name(table.queue[0], table);
+    }
+
+    /// Names the active task and its argument, or nobody.
+    pub fn name(&mut self, active: u8, table: &Table) {
+        self.active = active;
+        self.argument = if active == 0 { 0 } else { table.task(active).argument };
     }
 }
