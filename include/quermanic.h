@@ -19,7 +19,7 @@ extern "C" {
 
 /* The version. The second number rises with each landing (docs/CHANGES.md); the first, with the second at 0 again,
  * where a board must change: the image, a part of the answer that stands already, what a function takes and returns. */
-#define QUERMANIC_VERSION "4.0"
+#define QUERMANIC_VERSION "4.1"
 
 /* A length in bytes. The code takes 64 bits on every machine; size_t has 32 on some, and would be wrong there. */
 typedef uint64_t quermanic_length;
