@@ -35,8 +35,15 @@ use Rattle.executive.specs.WellFormed.{WellFormed, startsOf, endsOf, run
 abbrev pub awaitsInRange : ℕ → State → Bool
 awaitsInRange n s = cond (isOf awaitSub s) (leb (awaitedOf s) lastSub) (cond (isOf awaitMessage s) (leb (awaitedOf s) n) true)
 
+-- the entry's own numbers, and whom its run's link names
+abbrev pub numbersInRange : ℕ → Task → Bool
+numbersInRange n e = leb (e .own) highest and leb (e .priority) highest and awaitsInRange n (e .state)
+
+abbrev pub linkInRange : ℕ → Task → Bool
+linkInRange n e = leb (e .«end_waiter» .0) n
+
 abbrev pub entryInRange : ℕ → Task → Bool
-entryInRange n e = leb (e .own) highest and leb (e .priority) highest and leb (e .«end_waiter» .0) n and awaitsInRange n (e .state)
+entryInRange n e = numbersInRange n e and linkInRange n e
 
 abbrev pub requestInRange : ℕ → Request → Bool
 requestInRange n r = leb (r .priority) highest and leb (r .target .0) n and leb (r .«start_waiter» .0) n and leb (r .«end_waiter» .0) n

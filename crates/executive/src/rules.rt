@@ -12,7 +12,7 @@ use crate::states;
 ghost use mathlib.Core.Path.{_≡_};
 ghost use Prim.Native.Nat.{_<_};
 ghost use Rattle.executive.specs.States.{ready};
-ghost use Rattle.executive.specs.Check.{inBounds, awaitsInRange, entryInRange, isZero, isBlank, requestInRange};
+ghost use Rattle.executive.specs.Check.{inBounds, awaitsInRange, numbersInRange, entryInRange, isZero, isBlank, requestInRange};
 ghost use Rattle.executive.specs.Check.{isStored, isTimely, alarmRight, isUnmet, namesOthers, dormantEntryRight, isFree, entryRight, requestFits};
 ghost use Rattle.executive.specs.Check.{messageInRange, isNoMessage, isNoMail, isEmptied};
 
@@ -49,8 +49,9 @@ pub fn awaits_in_range(s: State, count: u8) -> bool
     true
 }
 
-pub fn entry_in_range(e: Task, count: u8) -> bool
-    ensures { λ r. ⌜ r ≡ entryInRange count e ⌝ }
+// The numbers of an entry but the link's.
+pub fn numbers_in_range(e: Task, count: u8) -> bool
+    ensures { λ r. ⌜ r ≡ numbersInRange count e ⌝ }
 {
     if 15 < e.own {
         return false;
@@ -58,11 +59,17 @@ pub fn entry_in_range(e: Task, count: u8) -> bool
     if 15 < e.priority {
         return false;
     }
-    if count < e.end_waiter.0 {
-        return false;
-    }
     let s = e.state;
     awaits_in_range(s, count)
+}
+
+pub fn entry_in_range(e: Task, count: u8) -> bool
+    ensures { λ r. ⌜ r ≡ entryInRange count e ⌝ }
+{
+    if !numbers_in_range(e, count) {
+        return false;
+    }
+    e.end_waiter.0 <= count
 }
 
 // Zeros but for the own priority and the state.

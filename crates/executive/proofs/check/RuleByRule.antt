@@ -26,7 +26,7 @@ use Rattle.executive.specs.Subprograms.{noSub, subAt}
 use Rattle.executive.specs.States.{dormant, awaitStart, awaitEnd, awaitSub, isOf, is, isDormant, timeOf, maskOf, awaitedOf, hasTime, hasMask, waitMode, isReady, awaitMessage, stateKind}
 use Rattle.executive.specs.Flags.{met}
 use Rattle.executive.specs.WellFormed.{InRange, Line, Queue, Stored, Timely, Times, Unmet, Waiters, Zeros, startsOf, endsOf, runsOf, dormantTarget}
-use Rattle.executive.specs.Check.{awaitsInRange, entryInRange, requestInRange, subInRange, isBlank, sizesRight, inBounds, numbersRight, isTask, isNobody, falls, standsIn, exactAt, lineRight, orderRight, queueRight, isStored, isTimely, alarmRight, taskTimely, timesRight, isStarted, startedRight, isUnmet, taskUnmet, masksRight, targetBusy, busyRight, waitersAt, namesOthers, waitersRight, isZero, dormantEntryRight, dormantRight, isFree, poolRight}
+use Rattle.executive.specs.Check.{awaitsInRange, numbersInRange, entryInRange, requestInRange, subInRange, isBlank, sizesRight, inBounds, numbersRight, isTask, isNobody, falls, standsIn, exactAt, lineRight, orderRight, queueRight, isStored, isTimely, alarmRight, taskTimely, timesRight, isStarted, startedRight, isUnmet, taskUnmet, masksRight, targetBusy, busyRight, waitersAt, namesOthers, waitersRight, isZero, dormantEntryRight, dormantRight, isFree, poolRight}
 use Rattle.executive.proofs.states.Laws.{dormant-named, dormant-kind}
 use Rattle.executive.proofs.places.TaskAt.{at-none}
 use Rattle.executive.proofs.Lists.Loops.{all-get, all-make, every-get, every-make}
@@ -68,17 +68,23 @@ module _ (n : ℕ) where
   blank-in-range : entryInRange n noTask ≡ true
   blank-in-range = rw (le-leb 0 n (omega arith)) refl
 
-  tail-of : (e : Task) → entryInRange n e ≡ true → (leb (e .«end_waiter» .0) n and awaitsInRange n (e .state)) ≡ true
-  tail-of e h = and-true (leb (e .priority) highest) _ (and-true (leb (e .own) highest) _ h .1) .1
+  own-of : (e : Task) → entryInRange n e ≡ true → e .own ≤ highest
+  own-of e h = leb-true _ _ (and-true (leb (e .own) highest) _ (and-true (numbersInRange n e) _ h .0) .0)
+
+  tail-of : (e : Task) → entryInRange n e ≡ true → (leb (e .priority) highest and awaitsInRange n (e .state)) ≡ true
+  tail-of e h = and-true (leb (e .own) highest) _ (and-true (numbersInRange n e) _ h .0) .1
+
+  level-of : (e : Task) → entryInRange n e ≡ true → e .priority ≤ highest
+  level-of e h = leb-true _ _ (and-true (leb (e .priority) highest) _ (tail-of e h) .0)
 
   waiter-of : (e : Task) → entryInRange n e ≡ true → e .«end_waiter» .0 ≤ n
-  waiter-of e h = leb-true _ _ (and-true (leb (e .«end_waiter» .0) n) _ (tail-of e h) .0)
+  waiter-of e h = leb-true _ _ (and-true (numbersInRange n e) _ h .1)
 
   awaited-of : (e : Task) → entryInRange n e ≡ true → isOf awaitSub (e .state) ≡ true → awaitedOf (e .state) ≤ lastSub
-  awaited-of e h s = leb-true _ _ (rw s at (and-true (leb (e .«end_waiter» .0) n) _ (tail-of e h) .1))
+  awaited-of e h s = leb-true _ _ (rw s at (and-true (leb (e .priority) highest) _ (tail-of e h) .1))
 
   sender-of : (e : Task) → entryInRange n e ≡ true → isOf awaitMessage (e .state) ≡ true → awaitedOf (e .state) ≤ n
-  sender-of e h s = go (isOf awaitSub (e .state)) refl (rw s at (and-true (leb (e .«end_waiter» .0) n) _ (tail-of e h) .1))
+  sender-of e h s = go (isOf awaitSub (e .state)) refl (rw s at (and-true (leb (e .priority) highest) _ (tail-of e h) .1))
     where
       go : (b : Bool) → isOf awaitSub (e .state) ≡ b → cond b (leb (awaitedOf (e .state)) lastSub) (leb (awaitedOf (e .state)) n) ≡ true → awaitedOf (e .state) ≤ n
       go true f z = absurd (omega (arith, eqb-true awaitSub (stateKind (e .state)) f, eqb-true awaitMessage (stateKind (e .state)) s))
@@ -177,8 +183,8 @@ module _ (t : Table) where
           clock = w .clock;
           ready = q .ready;
           queued = w .queued;
-          own = λ k. leb-true _ _ (and-true (leb (taskAt (t .tasks) k .own) highest) _ (h k) .0);
-          priority = λ k. leb-true _ _ (and-true (leb (taskAt (t .tasks) k .priority) highest) _ (and-true (leb (taskAt (t .tasks) k .own) highest) _ (h k) .1) .0);
+          own = λ k. own-of n (taskAt (t .tasks) k) (h k);
+          priority = λ k. level-of n (taskAt (t .tasks) k) (h k);
           waiter = λ k. waiter-of n (taskAt (t .tasks) k) (h k);
           beyond = past-get (t .tasks) n (p .0);
           priorities = sum-none (requestInRange n) (λ (r : Request). one (ltb highest (r .priority))) (steep-none n) (requests (t .rest)) (q1 .0);
@@ -205,9 +211,10 @@ module _ (t : Table) where
       (bounds-make n (t .rest .granule) (t .rest .clock) (t .rest .queued) (record { count = w .count; granule = w .granule; clock = w .clock; queued = w .queued }))
       (true-and (allOf (entryInRange n) (t .tasks)) _
       (tasks-make (entryInRange n) (t .tasks) (λ k.
-      true-and (leb (taskAt (t .tasks) k .own) highest) _ (le-leb _ _ (w .own k))
-      (true-and (leb (taskAt (t .tasks) k .priority) highest) _ (le-leb _ _ (w .priority k))
-      (true-and (leb (taskAt (t .tasks) k .«end_waiter» .0) n) _ (le-leb _ _ (w .waiter k)) (awaits-make n (taskAt (t .tasks) k .state) (w .inside k) (w .senders k))))))
+      true-and (numbersInRange n (taskAt (t .tasks) k)) _
+      (true-and (leb (taskAt (t .tasks) k .own) highest) _ (le-leb _ _ (w .own k))
+      (true-and (leb (taskAt (t .tasks) k .priority) highest) _ (le-leb _ _ (w .priority k)) (awaits-make n (taskAt (t .tasks) k .state) (w .inside k) (w .senders k))))
+      (le-leb _ _ (w .waiter k))))
       (true-and (allOf isBlank (drop n (t .tasks))) _ (past-make (t .tasks) n (w .beyond))
       (true-and (allOf (requestInRange n) (requests (t .rest))) _
       (none-all (requestInRange n) (λ (r : Request). one (ltb highest (r .priority))) (λ (r : Request). one (ltb n (r .target .0)) + one (ltb n (r .«start_waiter» .0)) + one (ltb n (r .«end_waiter» .0))) (ranged n) (requests (t .rest)) (w .priorities) (w .names))

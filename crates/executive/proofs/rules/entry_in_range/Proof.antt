@@ -1,21 +1,15 @@
-use borrow.Author.Tests.{le-leb, lt-leb}
+use mathlib.Core.Path.{refl, sym, _∙_}
+use borrow.Author.Tests.{not-true, not-false}
 use borrow.Author.Needs.{needs}
+use Rattle.executive.proofs.Lists.Tests.{and-false-left, and-true-left}
 use Rattle.executive.proofs.rules.entry_in_range.Statement.{statement}
 use Rattle.executive.proofs.rules.entry_in_range.Tie as tie
 
 returns : tie.Need-returns
-returns c = rw (lt-leb _ _ (c .if1 .taken))
+returns c = and-false-left _ _ (sym (c .before .numbers-in-range .ensures) ∙ not-true _ (c .if1 .taken))
 
 returns-2 : tie.Need-returns-2
-returns-2 c = rw (le-leb _ _ (c .before .before .if1 .left), lt-leb _ _ (c .if2 .taken))
-
-returns-3 : tie.Need-returns-3
-returns-3 c = rw (le-leb _ _ (c .before .before .before .before .if1 .left), le-leb _ _ (c .before .before .if2 .left), lt-leb _ _ (c .if3 .taken))
-
-returns-4 : tie.Need-returns-4
-returns-4 c =
-    let b = c .before in
-    rw (le-leb _ _ (b .before .before .before .before .if1 .left), le-leb _ _ (b .before .before .if2 .left), le-leb _ _ (b .if3 .left), c .awaits-in-range .ensures)
+returns-2 c = and-true-left _ _ _ (sym (c .before .before .numbers-in-range .ensures) ∙ not-false _ (c .before .if1 .left)) refl
 
 pub entry-in-range-spec : {M : Type 1} → statement M
-entry-in-range-spec = tie.close (tie.spec returns returns-2 returns-3 (λ c κs. search needs) returns-4)
+entry-in-range-spec = tie.close (tie.spec (λ c κs. search needs) returns returns-2)
