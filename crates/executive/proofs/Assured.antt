@@ -22,6 +22,8 @@ use Rattle.executive.specs.Promises.FreshLaw.{FreshLaw}
 use Rattle.executive.specs.States.{StatesTold}
 use Rattle.executive.specs.Promises.LampLaw.{LampLaw}
 use Rattle.executive.specs.Promises.SubLaw.{SubLaw}
+use Rattle.executive.specs.Promises.EveryStart.{EveryStart}
+use Rattle.executive.specs.Promises.MailLaw.{MailLaw}
 use Rattle.executive.proofs.check.Decides as checked
 use Rattle.executive.proofs.executing.Leaving as leaving
 use Rattle.executive.proofs.queue.Law as queues
@@ -32,6 +34,30 @@ use Rattle.executive.proofs.promises.CardsAndFresh as shown
 use Rattle.executive.proofs.promises.Demands as theorems
 use Rattle.executive.proofs.promises.LampLaw as lit
 use Rattle.executive.proofs.promises.SubLaw as held
+use Rattle.executive.proofs.promises.EveryStart as asked
+use Rattle.executive.proofs.promises.MailLaw as posted
+-- the laws of tests, sums, lines in arrays and loops, of the entries, the queue, the messages and the working form, which a
+-- mender's proofs cite
+pub use Rattle.executive.proofs.Lists.Tests.{false-not-true, Le, le-yes, le-no, leb-is, Lt, lt-yes, lt-no, ltb-is, eqb-self, not-zero, eqb-swap}
+pub use Rattle.executive.proofs.Lists.Tests.{and-true, true-and, and-false-left, and-false-right, and-true-left, one-none, none-one, not-of, of-not, leb-none, in-reach, sum-none, none-all}
+pub use Rattle.executive.proofs.Lists.Sums.{sum-set, sum-snoc, sum-append}
+pub use Rattle.executive.proofs.Lists.Pad.{line-pad, length-pad, pad-more, pad-slid}
+pub use Rattle.executive.proofs.Lists.Arrays.{fill-turn, fill-end, getD-within}
+pub use Rattle.executive.proofs.Lists.Search.{next-hit, next-pass, next-end, next-bounds}
+pub use Rattle.executive.proofs.Lists.Loops.{one-le, every-get, every-make, every-turn, every-not, every-end, each-turn, each-end}
+pub use Rattle.executive.proofs.places.TaskAt.{place-none, place-past, place-task, place-low, read-place, set-place, at-none, at-task, at-place, at-no-place, at-same, at-other, sum-put}
+pub use Rattle.executive.proofs.states.Laws.{dormant-is, dormant-named, dormant-kind, ready-named, ready-kind, ready-as}
+pub use Rattle.executive.proofs.queue.Law.{one-zero, one-true, insert-desc, insert-count}
+pub use Rattle.executive.proofs.queue.ArraysAreLists.{take-le}
+pub use Rattle.executive.proofs.messages.Lines.{put-is-at, put-length, put-sum, stay-le, stay-stop, stay-pass, stay-end, noted-post, post-sorted}
+pub use Rattle.executive.proofs.messages.Arrays.{letters-with, letters-length, made-posted, posted-in-order}
+pub use Rattle.executive.proofs.messages.Unmet.{NoneFits}
+pub use Rattle.executive.proofs.messages.Kept.{MailOk}
+pub use Rattle.executive.proofs.subprograms.InLine.{made-joined}
+pub use Rattle.executive.proofs.check.Blanks.{blank-pad, nobody-is, zero-is, is-zero, blank-is, free-is}
+pub use Rattle.executive.proofs.check.Messages.{no-message-is, no-mail-is, astray-get, low-get}
+pub use Rattle.executive.proofs.check.Levels.{levels-get}
+pub use Rattle.executive.proofs.Plans.WorkingForm.{StateOk, EntryOk, LinksOk, RestOk, SubOk, SubsOk, EntriesOk, WellFormedByPart, well-formed}
 
 pub demands : Demands
 demands = theorems.demands
@@ -53,6 +79,12 @@ sub-law = held.sub-law
 
 pub queue-law : QueueLaw
 queue-law = queues.queue-law
+
+pub every-start : EveryStart
+every-start = asked.every-start
+
+pub mail-law : MailLaw
+mail-law = posted.mail-law
 
 pub by-decision : ByDecision
 by-decision = decisions.by-decision

@@ -1,9 +1,9 @@
 -- The messages (02): those that wait, first to last, those that stand in the tasks' entries, and what a call makes of them.
-use Prim.Native.Nat.{ℕ, zero, suc, _≤_}
+use Prim.Native.Nat.{ℕ, zero, suc, _+_, _≤_}
 use mathlib.Core.Path.{_≡_}
 use mathlib.Core.Bool.{Bool, cond}
 use mathlib.Core.List.{List, [], _∷_, _++_}
-use lib.Dec.{eqb}
+use lib.Dec.{eqb, ltb}
 use lib.ListN.{length, take, drop, getD, set}
 use Rattle.records.specs.declared.TaskNo.{TaskNo}
 use Rattle.records.specs.declared.Text.{Text}
@@ -16,6 +16,7 @@ use Rattle.executive.specs.Queue.{Item, behind}
 use Rattle.executive.specs.Places.{nobody}
 use Rattle.executive.specs.States.{takesFrom}
 use Rattle.executive.specs.Rest.{withPost}
+use Rattle.executive.specs.Table.{slidOf}
 
 -- ---- blank ones
 abbrev pub noText : Text
@@ -67,6 +68,13 @@ urgency m = m .priority
 
 abbrev pub post : Message → List Message → List Message
 post m ms = putBehind urgency m ms
+
+-- the same of any messages, in disorder too; where the last place is taken they stay as they are
+unfoldable pub postIn : Message → Rest → Rest
+postIn m r =
+    cond (ltb (r .sent) mostSent)
+    (withPost (slidOf (r .messages) (stayAhead urgency (m .priority) (letters r)) (r .sent) m) (r .sent + 1) (r .mail) r)
+    r
 
 -- a message as the queue's laws see it
 abbrev pub noted : Message → Item

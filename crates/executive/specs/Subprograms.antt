@@ -1,19 +1,19 @@
 -- The controlled subprograms (02): who is inside, who waits, and what a call makes of one.
-use Prim.Native.Nat.{ℕ, _≤_}
+use Prim.Native.Nat.{ℕ, _+_, _≤_}
 use mathlib.Core.Path.{_≡_}
-use mathlib.Core.Bool.{Bool, not}
+use mathlib.Core.Bool.{Bool, not, cond}
 use mathlib.Core.List.{List, [], _∷_, _++_, tail}
-use lib.Dec.{eqb}
+use lib.Dec.{eqb, ltb, leb}
 use lib.ListN.{length, take, drop, getD, set}
 use Rattle.records.specs.declared.TaskNo.{TaskNo}
 use Rattle.executive.specs.declared.Task.{Task}
 use Rattle.executive.specs.declared.Sub.{Sub}
 use Rattle.executive.specs.declared.Rest.{Rest}
 use Rattle.executive.specs.Numbers.{mostTasks}
-use Rattle.executive.specs.Lists.{pad, allOf}
+use Rattle.executive.specs.Lists.{pad, allOf, _and_}
 use Rattle.executive.specs.Places.{nobody}
 use Rattle.executive.specs.Rest.{withSubs}
-use Rattle.executive.specs.Table.{headOf, enterAt}
+use Rattle.executive.specs.Table.{headOf, enterAt, slidOf}
 
 -- one with a holder and those who wait, first to last; a free one
 abbrev pub heldBy : TaskNo → List TaskNo → Sub
@@ -56,6 +56,13 @@ waitsBehind ts k s = heldBy (s .holder) (enterAt ts k (lineOf s))
 
 abbrev pub joinsLine : ℕ → TaskNo → Sub → Sub
 joinsLine i k s = heldBy (s .holder) (take i (lineOf s) ++ (k ∷ drop i (lineOf s)))
+
+-- the same of any line, one in disorder too: a full one stays as it is, and so does one that ends before that place
+unfoldable pub putIn : ℕ → TaskNo → Sub → Sub
+putIn i k s =
+    cond (ltb (s .waiting) mostTasks and leb i (s .waiting))
+    (record { holder = s .holder; line = slidOf (s .line) i (s .waiting) k; waiting = s .waiting + 1 })
+    s
 
 -- its holder gets out: the first of its line gets in, or nobody
 abbrev pub handedOn : Sub → Sub

@@ -29,7 +29,7 @@ pub(crate) fn reschedule(task: Task, state: State, start: Millis) -> Task
 }
 
 // A task's entry in another state.
-pub(crate) fn with_state(e: Task, s: State) -> Task
+pub fn with_state(e: Task, s: State) -> Task
     ensures { λ r. ⌜ r ≡ withState s e ⌝ }
 {
     let start = e.start;

@@ -7,7 +7,7 @@ use records::TaskNo;
 ghost use mathlib.Core.Path.{_≡_};
 ghost use mathlib.Core.Bool.{cond};
 ghost use Prim.Native.Nat.{_≤_, _-_};
-ghost use lib.Dec.{eqb};
+ghost use lib.Dec.{eqb, ltb};
 ghost use lib.ListN.{take};
 ghost use Rattle.executive.specs.Table.{levelBit, items, levelsOf};
 ghost use Rattle.executive.specs.Lamp.{lampOf};
@@ -52,6 +52,16 @@ pub(crate) fn levels_of(tasks: [Task; 16], line: [TaskNo; 16], taken: usize) -> 
         }
     }
     word
+}
+
+// The same of any line; 0 where it is said to be longer than its places.
+pub fn word_of(tasks: [Task; 16], line: [TaskNo; 16], taken: u8) -> u16
+    ensures { λ r. ⌜ r ≡ cond (ltb 16 taken) 0 (levelsOf (items tasks (take taken line))) ⌝ }
+{
+    if 16 < taken {
+        return 0;
+    }
+    levels_of(tasks, line, taken as usize)
 }
 
 // What the lamp shows of a word: the place of its highest bit, nothing where it has none.

@@ -28,12 +28,12 @@ ghost use Rattle.executive.specs.Places.{taskAt};
 ghost use Rattle.executive.specs.Pool.{removed};
 ghost use Rattle.executive.specs.States.{takes, takesFrom};
 ghost use Rattle.executive.specs.Table.{slidOf};
-ghost use Rattle.executive.specs.Messages.{noMessage, letters, LettersInOrder, withLetters, fits, firstFit, stayAhead, putInAt, urgency, withMail};
+ghost use Rattle.executive.specs.Messages.{noMessage, letters, LettersInOrder, withLetters, fits, firstFit, stayAhead, putInAt, urgency, postIn, withMail};
 ghost use Rattle.executive.specs.Decisions.{sendDeed, receiveDeed, receiveDeedBy, refusing, doing};
 ghost use Rattle.executive.specs.Sheet.{onlyZ, handsOut};
 
 // The blank message.
-pub(crate) const NO_MESSAGE: Message = Message {
+pub const NO_MESSAGE: Message = Message {
     to: TaskNo(0),
     sender: TaskNo(0),
     priority: 0,
@@ -41,7 +41,7 @@ pub(crate) const NO_MESSAGE: Message = Message {
 };
 
 // No mail.
-pub(crate) const NO_MAIL: Mail = Mail {
+pub const NO_MAIL: Mail = Mail {
     sender: TaskNo(0),
     text: Text(0),
 };
@@ -61,7 +61,7 @@ pub(crate) fn takes(s: State, c: TaskNo) -> bool
 }
 
 // Whether a message fits one who receives as task k, from number s or, where s is 0, from any.
-fn is_fit(m: Message, k: TaskNo, s: TaskNo) -> bool
+pub fn is_fit(m: Message, k: TaskNo, s: TaskNo) -> bool
     ensures { λ r. ⌜ r ≡ fits (k .0) (s .0) m ⌝ }
 {
     k.0 == m.to.0 && takes_from(s.0, m.sender)
@@ -273,6 +273,22 @@ impl Rest {
         let put = slid(messages, at, n as usize, m);
         self.messages = put;
         self.sent = n + 1;
+        self
+    }
+
+    // The rest with a message put behind all of equal or higher priority; where the last place is taken it stays as it is.
+    pub fn post_in(mut self, m: Message) -> Rest
+        ensures { λ r. ⌜ r ≡ postIn m self ⌝ }
+    {
+        let n = self.sent as usize;
+        if 31 < n {
+            return self;
+        }
+        let messages = self.messages;
+        let at = ahead(messages, n, m.priority);
+        let put = slid(messages, at, n, m);
+        self.messages = put;
+        self.sent = self.sent + 1;
         self
     }
 

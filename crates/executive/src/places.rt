@@ -62,7 +62,7 @@ fn put_in(tasks: [Task; 16], i: usize, e: Task) -> [Task; 16]
 }
 
 // The entries with one task's rewritten; a number that names no task changes none.
-pub(crate) fn put_at(tasks: [Task; 16], k: TaskNo, e: Task) -> [Task; 16]
+pub fn put_at(tasks: [Task; 16], k: TaskNo, e: Task) -> [Task; 16]
     ensures { λ r. ⌜ r ≡ putAt tasks (k .0) e ⌝ }
 {
     let i = entry_place(k);

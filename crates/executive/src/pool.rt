@@ -11,7 +11,7 @@ ghost use Rattle.executive.specs.Places.{noRequest};
 ghost use Rattle.executive.specs.Lists.{closedAt};
 
 // The blank request.
-pub(crate) const NO_REQUEST: Request = Request {
+pub const NO_REQUEST: Request = Request {
     target: TaskNo(0),
     priority: 0,
     argument: 0,

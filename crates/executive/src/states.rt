@@ -19,13 +19,13 @@ const AWAIT_ANY: u8 = 4;
 
 const AWAIT_ALL: u8 = 5;
 
-pub(crate) const AWAIT_START: u8 = 6;
+pub const AWAIT_START: u8 = 6;
 
-pub(crate) const AWAIT_END: u8 = 7;
+pub const AWAIT_END: u8 = 7;
 
-pub(crate) const AWAIT_SUB: u8 = 8;
+pub const AWAIT_SUB: u8 = 8;
 
-pub(crate) const AWAIT_MESSAGE: u8 = 9;
+pub const AWAIT_MESSAGE: u8 = 9;
 
 // The kind of a state.
 pub fn kind_of(s: State) -> u8
@@ -107,7 +107,7 @@ pub fn is_of(s: State, kind: u8) -> bool
 }
 
 // Whether a task is dormant.
-pub(crate) fn is_dormant(s: State) -> bool
+pub fn is_dormant(s: State) -> bool
     ensures { λ r. ⌜ r ≡ isDormant s ⌝ }
 {
     is_of(s, DORMANT)
@@ -128,7 +128,7 @@ pub(crate) fn has_time(s: State) -> bool
 }
 
 // Whether a state is of a kind and waits for a number.
-pub(crate) fn is_as(s: State, kind: u8, number: u8) -> bool
+pub fn is_as(s: State, kind: u8, number: u8) -> bool
     ensures { λ r. ⌜ r ≡ isAs kind number s ⌝ }
 {
     is_of(s, kind) && number == awaited_of(s)

@@ -22,7 +22,7 @@ ghost use lib.ListN.{getD};
 ghost use Rattle.executive.specs.Numbers.{lastSub, subCount, mostTasks};
 ghost use Rattle.executive.specs.Places.{taskAt};
 ghost use Rattle.executive.specs.Table.{aheadOf};
-ghost use Rattle.executive.specs.Subprograms.{noSub, subAt, lineOf, LineInOrder, holds?, holdsAnyOf, entersIt, joinsLine, handedOn, withSub};
+ghost use Rattle.executive.specs.Subprograms.{noSub, subAt, lineOf, LineInOrder, holds?, holdsAnyOf, entersIt, joinsLine, putIn, handedOn, withSub};
 ghost use Rattle.executive.specs.Decisions.{enterDeed, exitDeed, refusing, doing};
 ghost use Rattle.executive.specs.Sheet.{onlyZ};
 
@@ -119,6 +119,24 @@ impl Sub {
         let put = queue::slid(line, at, n as usize, k);
         self.line = put;
         self.waiting = n + 1;
+        self
+    }
+
+    // Task k is put at a place of any line; one that is full, or that ends before that place, stays as it is.
+    pub fn put_in(mut self, k: TaskNo, at: usize) -> Sub
+        ensures { λ r. ⌜ r ≡ putIn at k self ⌝ }
+    {
+        let n = self.waiting as usize;
+        if 15 < n {
+            return self;
+        }
+        if n < at {
+            return self;
+        }
+        let line = self.line;
+        let put = queue::slid(line, at, n, k);
+        self.line = put;
+        self.waiting = self.waiting + 1;
         self
     }
 
