@@ -128,7 +128,7 @@ module _ (n : ℕ) where
   far : (k m : ℕ) → n < k → m ≤ n → one (eqb k m) ≡ 0
   far k m h l = ap one (ne-eqb k m (λ e. omega arith))
 
-awaits-make : (n : ℕ) (s : State) → (isOf awaitSub s ≡ true → awaitedOf s ≤ lastSub) → (isOf awaitMessage s ≡ true → awaitedOf s ≤ n) → awaitsInRange n s ≡ true
+pub awaits-make : (n : ℕ) (s : State) → (isOf awaitSub s ≡ true → awaitedOf s ≤ lastSub) → (isOf awaitMessage s ≡ true → awaitedOf s ≤ n) → awaitsInRange n s ≡ true
 awaits-make n s h g = go (isOf awaitSub s) (isOf awaitMessage s) h g
   where
     go : (b c : Bool) → (b ≡ true → awaitedOf s ≤ lastSub) → (c ≡ true → awaitedOf s ≤ n) → cond b (leb (awaitedOf s) lastSub) (cond c (leb (awaitedOf s) n) true) ≡ true
@@ -332,20 +332,20 @@ stored-get c at e =
 stored-make : (c at : ℕ) → Stored c at → isStored c at ≡ true
 stored-make c at s = true-and (ltb c at) _ (lt-ltb _ _ (s .0)) (le-leb (at - c) longest (omega arith))
 
-timely-get : (c : ℕ) (s : State) → isTimely c s ≡ true → Timely c s
+pub timely-get : (c : ℕ) (s : State) → isTimely c s ≡ true → Timely c s
 timely-get c s e h = stored-get c (timeOf s .0) (rw h at e)
 
-timely-make : (c : ℕ) (s : State) → Timely c s → isTimely c s ≡ true
+pub timely-make : (c : ℕ) (s : State) → Timely c s → isTimely c s ≡ true
 timely-make c s h = go (hasTime s) h
   where
     go : (b : Bool) → (b ≡ true → Stored c (timeOf s .0)) → cond b (isStored c (timeOf s .0)) true ≡ true
     go true g = stored-make c (timeOf s .0) (g refl)
     go false g = refl
 
-alarm-get : (c : ℕ) (a : Millis) → alarmRight c a ≡ true → 0 < a .0 → Stored c (a .0)
+pub alarm-get : (c : ℕ) (a : Millis) → alarmRight c a ≡ true → 0 < a .0 → Stored c (a .0)
 alarm-get c a e h = stored-get c (a .0) (rw (ne-eqb (a .0) 0 (λ z. omega arith)) at e)
 
-alarm-make : (c : ℕ) (a : Millis) → (0 < a .0 → Stored c (a .0)) → alarmRight c a ≡ true
+pub alarm-make : (c : ℕ) (a : Millis) → (0 < a .0 → Stored c (a .0)) → alarmRight c a ≡ true
 alarm-make c a h = go (eqb (a .0) 0) refl
   where
     go : (b : Bool) → eqb (a .0) 0 ≡ b → cond b true (isStored c (a .0)) ≡ true
@@ -381,12 +381,12 @@ module _ (t : Table) where
   started-make w = tasks-make (isStarted (t .rest .clock .0)) (t .tasks) (λ k. le-leb _ _ (w k))
 
 -- ---- wait masks
-unmet-get : (fs : ℕ) (s : State) → isUnmet fs s ≡ true → Unmet fs s
+pub unmet-get : (fs : ℕ) (s : State) → isUnmet fs s ≡ true → Unmet fs s
 unmet-get fs s e h =
     let a = and-true (ltb 0 (maskOf s)) (not (met fs (waitMode s) (maskOf s))) (rw h at e) in
     (ltb-true _ _ (a .0), not-of (met fs (waitMode s) (maskOf s)) (a .1))
 
-unmet-make : (fs : ℕ) (s : State) → Unmet fs s → isUnmet fs s ≡ true
+pub unmet-make : (fs : ℕ) (s : State) → Unmet fs s → isUnmet fs s ≡ true
 unmet-make fs s h = go (hasMask s) h
   where
     go : (b : Bool) → (b ≡ true → (0 < maskOf s) × (met fs (waitMode s) (maskOf s) ≡ false)) → cond b (ltb 0 (maskOf s) and not (met fs (waitMode s) (maskOf s))) true ≡ true

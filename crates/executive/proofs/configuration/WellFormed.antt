@@ -25,6 +25,7 @@ use Rattle.executive.specs.Promises.FreshLaw.{noConfiguration}
 use Rattle.executive.specs.Promises.Demands.{Dispatched}
 use Rattle.executive.proofs.step.Dispatched.{dispatches}
 use Rattle.executive.proofs.Lists.Tests.{false-not-true, not-zero}
+use Rattle.executive.proofs.Lists.Pad.{pad-at}
 use Rattle.executive.proofs.queue.InFlight.{admits-rest, carry-still}
 use Rattle.executive.proofs.places.TaskAt.{at-other, put-length}
 use Rattle.executive.proofs.Plans.Size.{sum-zeros}
@@ -40,14 +41,6 @@ use Rattle.executive.proofs.configuration.Loops.{dormant-fit}
 use Rattle.executive.proofs.configuration.Shape.{Configured, configured}
 
 -- ---- the dormant table
-pad-at : {A : Type 0} (d : A) (n : ℕ) (xs : List A) (i : ℕ) → getD (pad n d xs) i d ≡ getD xs i d
-unfolding pad
-pad-at d zero xs i = refl
-pad-at d (suc n) [] zero = refl
-pad-at d (suc n) [] (suc i) = pad-at d n [] i
-pad-at d (suc n) (x ∷ xs) zero = refl
-pad-at d (suc n) (x ∷ xs) (suc i) = pad-at d n xs i
-
 module _ (s : List ℕ) (n : ℕ) where
   sleeper-at : (P : ℕ → Task → Type 0) → ((k : ℕ) → 0 < k → k ≤ n → P k (dormantAt (ownIn s k))) → ((k : ℕ) → P k noTask)
       → (m k i : ℕ) → 0 < k → k + m ≤ n + 1 → P (k + i) (getD (sleepers s m k) i noTask)
