@@ -3,6 +3,7 @@ pub mod Blanks
 pub mod Descent
 pub mod RuleByRule
 pub mod Passes
+pub mod PutTogether
 pub mod Subprograms
 pub mod Levels
 pub mod Decides

@@ -1,12 +1,12 @@
 -- The rule of the subprograms against its test, both ways; the loop that takes them one by one; where all are free and
 -- nobody waits there is nothing to count.
 use Prim.Native.Nat.{ℕ, zero, suc, _+_, _≤_, _<_}
-use mathlib.Core.Path.{_≡_, refl, sym, _∙_}
+use mathlib.Core.Path.{_≡_, refl, sym, ap, _∙_}
 use mathlib.Core.Bool.{Bool, true, false, not, cond, _&&_}
 use mathlib.Core.List.{List, [], _∷_}
 use native.Mathlib.Omega.{arith}
 use native.Mathlib.Numerals.{add-one}
-use borrow.Author.Tests.{eqb-true, eq-eqb, eqb-false, leb-true, le-leb, leb-false, ltb-true, ltb-false}
+use borrow.Author.Tests.{eqb-true, eq-eqb, eqb-false, leb-true, le-leb, leb-false, ltb-true, ltb-false, lt-ltb, le-ltb}
 use lib.Dec.{eqb, leb, ltb}
 use lib.ListN.{length, drop, getD, drop-of-length-le, List·getD-eq-default}
 use lib.Seq.{drop-cons}
@@ -146,6 +146,59 @@ module _ (ts : List Task) (n : ℕ) (ss : List Sub) where
 pub none-next : (ts : List Task) (k : ℕ) (b : Bool) → awaitsAny (getD ts k noTask .state) ≡ b → waitsForNone ts (k + 1) ≡ not b
 unfolding waitsForNone
 none-next ts k b e = rw (at-next ts k, e) refl
+
+-- the pass over all places, which asks those of the first n tasks alone
+abbrev pub among : ℕ → ℕ → ℕ
+among k n = cond (ltb k n) k n
+
+and-yes : (a : Bool) → a ≡ (a and true)
+and-yes true = refl
+and-yes false = refl
+
+and-is : (a b : Bool) → (a and b) ≡ cond a b false
+and-is true b = refl
+and-is false b = refl
+
+and-no : (a : Bool) → false ≡ (a and false)
+and-no true = refl
+and-no false = refl
+
+module _ (none x : Bool) (k n : ℕ) where
+  pub still-waits : k < n → x ≡ true → false ≡ (none and not (ltb k n and x))
+  still-waits h e = rw (lt-ltb k n h, e) (and-no none)
+
+  pub still-free : k < n → x ≡ false → none ≡ (none and not (ltb k n and x))
+  still-free h e = rw (lt-ltb k n h, e) (and-yes none)
+
+  pub still-past : n ≤ k → none ≡ (none and not (ltb k n and x))
+  still-past h = rw (le-ltb k n h) (and-yes none)
+
+module _ (ts : List Task) (n : ℕ) where
+  pub among-none : true ≡ upTo (waitsForNone ts) (among 0 n)
+  unfolding upTo
+  among-none = go (ltb 0 n) refl
+    where
+      go : (c : Bool) → ltb 0 n ≡ c → true ≡ upTo (waitsForNone ts) (cond c 0 n)
+      go true e = refl
+      go false e = let z : n ≡ 0 = omega (arith, ltb-false 0 n e) in rw z refl
+
+  pub among-turn : (k : ℕ) (a b : Bool) → a ≡ upTo (waitsForNone ts) (among k n) → b ≡ (a and not (ltb k n and awaitsAny (getD ts k noTask .state)))
+      → b ≡ upTo (waitsForNone ts) (among (k + 1) n)
+  unfolding upTo
+  among-turn k a b h e = e ∙ rw h (go (ltb k n) refl (ltb (k + 1) n) refl)
+    where
+      here : waitsForNone ts (suc k) ≡ not (awaitsAny (getD ts k noTask .state))
+      here = ap (waitsForNone ts) (sym (add-one k)) ∙ none-next ts k _ refl
+
+      go : (c : Bool) → ltb k n ≡ c → (d : Bool) → ltb (k + 1) n ≡ d
+          → (upTo (waitsForNone ts) (cond c k n) and not (c and awaitsAny (getD ts k noTask .state))) ≡ upTo (waitsForNone ts) (cond d (k + 1) n)
+      go true x true y = rw (add-one, ← here) (and-is (upTo (waitsForNone ts) k) (waitsForNone ts (suc k)))
+      go true x false y = let z : n ≡ suc k = omega (arith, ltb-true k n x, ltb-false (k + 1) n y) in rw (z, ← here) (and-is (upTo (waitsForNone ts) k) (waitsForNone ts (suc k)))
+      go false x true y = absurd (omega (arith, ltb-false k n x, ltb-true (k + 1) n y))
+      go false x false y = sym (and-yes (upTo (waitsForNone ts) n))
+
+  pub among-all : (k : ℕ) (a : Bool) → n ≤ k → a ≡ upTo (waitsForNone ts) (among k n) → a ≡ upTo (waitsForNone ts) n
+  among-all k a h e = e ∙ rw (le-ltb k n h) refl
 
 waits-not : (m a : ℕ) (b : Bool) → m ≤ lastSub → not (b and leb a lastSub) ≡ true → (b && eqb m a) ≡ false
 waits-not m a false h e = refl

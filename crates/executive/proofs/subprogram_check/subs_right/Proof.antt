@@ -1,64 +1,23 @@
 use mathlib.Core.Path.{_≡_, sym, _∙_}
-use native.Mathlib.Omega.{arith}
 use borrow.Author.Needs.{needs}
-use borrow.Author.Tests.{not-true, not-false}
-use Prim.Native.Nat.{_≤_, _-_}
-use Rattle.executive.specs.Check.{heldRight}
-use Rattle.executive.proofs.check.Subprograms.{heldFrom, held-first, held-turn, held-not, held-end, free-right}
+use Rattle.executive.proofs.check.Subprograms.{free-right}
 use Rattle.executive.proofs.subprogram_check.subs_right.Statement.{statement}
 use Rattle.executive.proofs.subprogram_check.subs_right.Tie as tie
 
-abbrev Inv-loop : tie.InvT-loop
-Inv-loop tasks count subs m₀ m = (m ≤ 8) × (heldFrom tasks count subs m ≡ heldRight tasks count subs)
-
-abbrev μ-loop : tie.MeasureT-loop
-μ-loop tasks count subs m₀ m = 8 - m
-
-returns : tie.Need-returns Inv-loop μ-loop
+returns : tie.Need-returns
 returns c =
     let s = c .before .before .before in
-    c .none-waits .ensures ∙ free-right (s .args .tasks) (s .args .count) (s .pre) (s .args .t2) (s .good .1 .0 .1 .0 .1) (sym (c .before .before .all-free .ensures) ∙ c .before .if1 .taken)
+    c .none-waits .ensures ∙ free-right (s .args .tasks) (s .args .count) (s .pre) (s .args .subs) (s .good .1 .0 .1 .0 .1) (sym (c .before .before .all-free .ensures) ∙ c .before .if1 .taken)
 
-loop-holds : tie.Need-loop-holds Inv-loop μ-loop
-loop-holds c = let s = c .before .before in (omega arith, held-first (s .args .tasks) (s .args .count) (s .args .t2))
-
-returns-2 : tie.Need-returns-2 Inv-loop μ-loop
-returns-2 c =
-    let v = c .before .before .before .before in
-    let s = v .before .before .before in
-    let l = s .good .1 .0 .1 .0 .1 in
-    sym (sym (v .loop .inv .1) ∙ held-not (s .args .tasks) (s .args .count) (s .args .t2) (v .loop .m) (omega arith) (sym (c .before .sub-right .ensures) ∙ not-true _ (c .if2 .taken)))
-
-loop-again : tie.Need-loop-again Inv-loop μ-loop
-loop-again c =
-    let v = c .before .before .before .before in
-    let s = v .before .before .before in
-    let l = s .good .1 .0 .1 .0 .1 in
-    (omega arith, held-turn (s .args .tasks) (s .args .count) (s .args .t2) (v .loop .m) (omega arith) (sym (c .before .sub-right .ensures) ∙ not-false _ (c .if2 .left)) ∙ v .loop .inv .1)
-
-returns-3 : tie.Need-returns-3 Inv-loop μ-loop
-returns-3 c =
-    let v = c .before in
-    let s = v .before .before .before in
-    let l = s .good .1 .0 .1 .0 .1 in
-    sym (held-end (s .args .tasks) (s .args .count) (s .args .t2) (v .loop .m) (omega arith)) ∙ v .loop .inv .1
+returns-2 : tie.Need-returns-2
+returns-2 c = c .each-right .ensures
 
 pub subs-right-spec : {M : Type 1} → statement M
 subs-right-spec =
     tie.close
     (tie.spec
-    Inv-loop
-    μ-loop
     (λ c κs. search needs)
     (λ c κs. c .before .before .pre)
     returns
-    loop-holds
-    (λ c. omega arith)
-    (λ c. omega arith)
-    (λ c. omega arith)
-    (λ c κs. c .before .before .before .before .before .pre)
-    returns-2
-    (λ c. omega arith)
-    (λ c. omega arith)
-    loop-again
-    returns-3)
+    (λ c κs. c .before .before .pre)
+    returns-2)
