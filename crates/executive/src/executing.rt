@@ -12,7 +12,7 @@ use crate::messages;
 use records::TaskNo;
 ghost use mathlib.Core.Path.{_≡_};
 ghost use Rattle.executive.specs.Table.{ArraysInOrder, FindsRoom, InFlight, line, view, levelsOf, relit, left?, depart};
-ghost use Rattle.executive.specs.Table.{withRest, enterAllInFlight, litInFlight, applyInFlight};
+ghost use Rattle.executive.specs.Table.{withRest, begin, enterAllInFlight, litInFlight, applyInFlight};
 ghost use Rattle.executive.specs.States.{isReady};
 ghost use Rattle.executive.specs.WellFormed.{Line};
 ghost use Rattle.executive.specs.Pool.{PoolInOrder};
@@ -98,20 +98,6 @@ impl Work {
 }
 
 impl Table {
-    // The rest of the table changes, if it is to.
-    fn changed(mut self, change: Change, q: Request) -> Table
-        requires { ⌜ PoolInOrder (self .rest) × Able change (self .rest) ⌝ }
-        ensures { λ r. ⌜ r ≡ withRest (changed change q (self .rest)) self ⌝ }
-    {
-        if alters(change) {
-            let old = self.rest;
-            let rest = old.changed(change, q);
-            self.rest = rest;
-            return self;
-        }
-        self
-    }
-
     // The mail of a task is gone; 0 names nobody.
     fn emptied(mut self, k: TaskNo) -> Table
         ensures { λ r. ⌜ r ≡ withRest (withMail (k .0) noMail (self .rest)) self ⌝ }
@@ -125,6 +111,25 @@ impl Table {
         self
     }
 
+    // The rest of the table changes, if it is to, and the mail of a task is gone; 0 names nobody.
+    fn changed(mut self, change: Change, q: Request, k: TaskNo) -> Table
+        requires { ⌜ PoolInOrder (self .rest) × Able change (self .rest) ⌝ }
+        ensures { λ r. ⌜ r ≡ withRest (withMail (k .0) noMail (changed change q (self .rest))) self ⌝ }
+    {
+        if alters(change) {
+            let old = self.rest;
+            let rest = old.changed(change, q);
+            if k.0 == 0 {
+                self.rest = rest;
+                return self;
+            }
+            let after = rest.with_mail(k, messages::NO_MAIL);
+            self.rest = after;
+            return self;
+        }
+        self.emptied(k)
+    }
+
     // The caller leaves, if it is to.
     fn left(mut self, how: Leave) -> Table
         requires { ⌜ ArraysInOrder self × Line isReady (self .tasks) (line self) × (self .levels ≡ levelsOf (view self)) ⌝ }
@@ -134,6 +139,18 @@ impl Table {
             return self.depart(how);
         }
         self
+    }
+
+    // Those who are listed enter, in order. Where nobody is listed the table is handed on as it stands.
+    fn entered_by(self, list: Entrants, q: Request, now: Millis) -> Work
+        requires { ⌜ InFlight (list .count) (begin self) × FindsRoom (joinsFor q now (named list)) self ⌝ }
+        ensures { λ r. ⌜ r ≡ litInFlight (enterAllInFlight (joinsFor q now (named list)) (begin self)) ⌝ }
+    {
+        if list.count == 0 {
+            return self.begin();
+        }
+        let w = self.begin();
+        w.enter_all(list, q, now)
     }
 
     // What is to be done is done. The rest changes before anybody enters, while no count is carried beside the table:
@@ -147,11 +164,9 @@ impl Table {
         let q = d.request;
         let t = self.left(leave);
         let change = d.change;
-        let t1 = t.changed(change, q);
         let k = d.empties;
-        let t2 = t1.emptied(k);
-        let w = t2.begin();
+        let t1 = t.changed(change, q, k);
         let list = d.entrants;
-        w.enter_all(list, q, now)
+        t1.entered_by(list, q, now)
     }
 }

@@ -61,12 +61,32 @@ fn free_from(messages: [Message; 32], sent: usize) -> bool
     true
 }
 
+// No place is taken: all their numbers, put together, and all their texts, are 0. It stops at none of them, so that the
+// compiler can take many at a time.
+fn none_sent(messages: [Message; 32]) -> bool
+    ensures { λ r. ⌜ r ≡ allOf isNoMessage messages ⌝ }
+{
+    let mut numbers: u8 = 0;
+    let mut texts: u64 = 0;
+    let mut i: usize = 0;
+    while i < 32 {
+        let m = messages[i];
+        numbers = numbers | m.to.0 | m.sender.0 | m.priority;
+        texts = texts | m.text.0;
+        i += 1;
+    }
+    if numbers != 0 {
+        return false;
+    }
+    texts == 0
+}
+
 // The messages keep their rules. Where none waits, zeros are all that is looked at.
 pub(crate) fn sent_right(tasks: [Task; 16], messages: [Message; 32], sent: u8, count: u8) -> bool
     ensures { λ r. ⌜ r ≡ sentRight tasks count sent messages ⌝ }
 {
     if sent == 0 {
-        return free_from(messages, 0);
+        return none_sent(messages);
     }
     if 32 < sent {
         return false;

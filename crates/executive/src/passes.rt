@@ -42,8 +42,28 @@ pub(crate) fn blank_past(tasks: [Task; 16], from: usize) -> bool
     true
 }
 
-// The pool's free places are zero.
-pub(crate) fn free_from(pool: [Request; 32], queued: usize) -> bool
+// No place of the pool is taken: all numbers of the requests, put together, and all their arguments, are 0. It stops at
+// none of them, so that the compiler can take many at a time.
+fn none_queued(pool: [Request; 32]) -> bool
+    ensures { λ r. ⌜ r ≡ allOf isFree pool ⌝ }
+{
+    let mut numbers: u8 = 0;
+    let mut arguments: u16 = 0;
+    let mut i: usize = 0;
+    while i < 32 {
+        let q = pool[i];
+        numbers = numbers | q.target.0 | q.priority | q.start_waiter.0 | q.end_waiter.0;
+        arguments = arguments | q.argument;
+        i += 1;
+    }
+    if numbers != 0 {
+        return false;
+    }
+    arguments == 0
+}
+
+// From a place on, the pool's places are zero.
+fn free_places(pool: [Request; 32], queued: usize) -> bool
     requires { ⌜ queued ≤ 32 ⌝ }
     ensures { λ r. ⌜ r ≡ allOf isFree (drop queued pool) ⌝ }
 {
@@ -56,6 +76,17 @@ pub(crate) fn free_from(pool: [Request; 32], queued: usize) -> bool
         i += 1;
     }
     true
+}
+
+// The pool's free places are zero.
+pub(crate) fn free_from(pool: [Request; 32], queued: usize) -> bool
+    requires { ⌜ queued ≤ 32 ⌝ }
+    ensures { λ r. ⌜ r ≡ allOf isFree (drop queued pool) ⌝ }
+{
+    if queued == 0 {
+        return none_queued(pool);
+    }
+    free_places(pool, queued)
 }
 
 // All queued requests keep the rules on one request, and name busy tasks only; in one pass.

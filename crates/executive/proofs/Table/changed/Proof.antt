@@ -1,6 +1,9 @@
 use mathlib.Core.Path.{_≡_, refl, ap, sym, _∙_}
-use Rattle.executive.proofs.executing.Leaving.{unaltered}
 use borrow.Author.Needs.{needs}
+use Rattle.executive.specs.declared.Table.{Table}
+use Rattle.executive.specs.Table.{withRest}
+use Rattle.executive.specs.Messages.{noMail, withMail}
+use Rattle.executive.proofs.executing.Leaving.{unaltered}
 use Rattle.executive.proofs.Table.changed.Statement.{statement}
 use Rattle.executive.proofs.Table.changed.Tie as tie
 
@@ -8,10 +11,17 @@ changed-requires : tie.Need-changed-requires
 changed-requires c κs = c .before .before .before .pre
 
 returns : tie.Need-returns
-returns c = rw (c .changed .ensures) refl
+returns c = rw (c .before .before .changed .ensures, c .if2 .taken) refl
 
 returns-2 : tie.Need-returns-2
-returns-2 c = unaltered (c .before .before .args .change) (c .before .before .args .q) (c .before .before .args .self) (sym (c .before .alters .ensures) ∙ c .if1 .left)
+returns-2 c = rw (c .with-mail .ensures, c .before .before .before .changed .ensures) refl
+
+returns-3 : tie.Need-returns-3
+returns-3 c =
+    let s = c .before .before .before in
+    c .emptied .ensures
+    ∙ ap (λ (u : Table). withRest (withMail (s .args .k .0) noMail (u .rest)) u)
+    (unaltered (s .args .change) (s .args .q) (s .args .self) (sym (c .before .before .alters .ensures) ∙ c .before .if1 .left))
 
 pub changed-spec : {M : Type 1} → statement M
 changed-spec =
@@ -20,4 +30,7 @@ changed-spec =
     (λ c κs. search needs)
     changed-requires
     returns
-    returns-2)
+    (λ c κs. search needs)
+    returns-2
+    (λ c κs. search needs)
+    returns-3)

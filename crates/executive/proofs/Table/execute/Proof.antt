@@ -2,7 +2,6 @@ use mathlib.Core.Path.{_≡_, refl, ap, _∙_}
 use mathlib.Core.List.{List}
 use Rattle.executive.specs.declared.Rest.{Rest}
 use Rattle.executive.specs.declared.Table.{Table}
-use Rattle.executive.specs.declared.Work.{Work}
 use Rattle.executive.specs.Table.{view, levelsOf, relit, Out, Join, depart, withRest, begin, enterAllInFlight, litInFlight}
 use Rattle.executive.specs.Messages.{noMail, withMail}
 use Rattle.executive.specs.Decisions.{named, outFor, joinsFor, changed, meant}
@@ -17,16 +16,16 @@ left-requires c κs = let s = c .before .before in (s .pre .fit, s .pre .queue, 
 
 changed-requires : tie.Need-changed-requires
 changed-requires c κs =
-    let s = c .before .before .before in
-    rw (c .left .ensures, depart-rest _ (s .args .self)) (s .pre .fit .neat, s .pre .able)
+    let s = c .before .before .before .before in
+    rw (c .before .left .ensures, depart-rest _ (s .args .self)) (s .pre .fit .neat, s .pre .able)
 
-enter-all-requires : tie.Need-enter-all-requires
-enter-all-requires c κs =
-    let m = c .before .before .before .before .before in
+entered-by-requires : tie.Need-entered-by-requires
+entered-by-requires c κs =
+    let m = c .before .before .before in
     let s = m .before .before .before in
     let n = changed-neat (s .args .d .change) (s .args .d .request) (s .args .self .rest) (s .pre .fit .neat) (s .pre .able) in
     let f = depart-fit (outFor (s .args .d .leave)) (s .args .self) (s .pre .fit) in
-    rw (c .before .begin .ensures, c .before .before .emptied .ensures, c .before .before .before .before .changed .ensures, m .left .ensures, depart-rest _ (s .args .self)) (
+    rw (c .before .changed .ensures, m .left .ensures, depart-rest _ (s .args .self)) (
       begin-flying _ _ (record { all = f .all; few = f .few; tidy = f .tidy; neat = record { room = n .room; clear = n .clear } }) (s .pre .room) refl,
       finds-beside (joinsFor (s .args .d .request) (s .args .self .rest .clock) (named (s .args .d .entrants)))
           (levelsOf (view (depart (outFor (s .args .d .leave)) (s .args .self))))
@@ -37,17 +36,15 @@ enter-all-requires c κs =
 returns : tie.Need-returns
 unfolding meant
 returns c =
-    let m = c .before .before .before .before .before .before in
+    let m = c .before .before .before .before in
     let s = m .before .before .before in
     let o : Out = outFor (s .args .d .leave) in
     let js : List Join = joinsFor (s .args .d .request) (s .args .self .rest .clock) (named (s .args .d .entrants)) in
     let r : Rest → Rest = λ (x : Rest). withMail (s .args .d .empties .0) noMail (changed (s .args .d .change) (s .args .d .request) x) in
-    c .enter-all .ensures
-    ∙ ap (λ (w : Work). litInFlight (enterAllInFlight js w))
-    (c .before .before .begin .ensures
-    ∙ ap begin (c .before .before .before .emptied .ensures
-    ∙ ap (λ (u : Table). withRest (withMail (s .args .d .empties .0) noMail (u .rest)) u) (c .before .before .before .before .before .changed .ensures)
-    ∙ ap (λ (u : Table). withRest (r (u .rest)) u) (m .left .ensures)))
+    c .entered-by .ensures
+    ∙ ap (λ (u : Table). litInFlight (enterAllInFlight js (begin u)))
+    (c .before .before .changed .ensures
+    ∙ ap (λ (u : Table). withRest (r (u .rest)) u) (m .left .ensures))
     ∙ ap (λ (x : Rest). litInFlight (enterAllInFlight js (begin (withRest (r x) (relit (depart o (s .args .self))))))) (depart-rest o (s .args .self))
     ∙ done-is o js (r (s .args .self .rest)) (s .args .self)
 
@@ -57,7 +54,5 @@ execute-spec =
     (tie.spec
     left-requires
     changed-requires
-    (λ c κs. search needs)
-    (λ c κs. search needs)
-    enter-all-requires
+    entered-by-requires
     returns)
