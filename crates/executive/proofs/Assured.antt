@@ -42,10 +42,11 @@ pub use Rattle.executive.proofs.Lists.Tests.{false-not-true, Le, le-yes
 pub use Rattle.executive.proofs.Lists.Tests.{and-true, true-and, and-false-left, and-false-right, and-true-left, one-none, none-one, not-of, of-not, leb-none, in-reach, sum-none, none-all}
 pub use Rattle.executive.proofs.Lists.Sums.{sum-set, sum-snoc, sum-append}
 pub use Rattle.executive.proofs.Lists.Pad.{line-pad, length-pad, pad-at, pad-more, pad-close, pad-slid}
-pub use Rattle.executive.proofs.Lists.Slid.{slid-length}
+pub use Rattle.executive.proofs.Lists.Slid.{slid-length, slid-start, slid-here, slid-carried, slid-turn, slid-done}
 pub use Rattle.executive.proofs.Lists.Arrays.{fill-turn, fill-end, getD-within}
 pub use Rattle.executive.proofs.Lists.Search.{next-hit, next-pass, next-end, next-bounds, next-is, each-next}
-pub use Rattle.executive.proofs.Lists.Loops.{one-le, every-get, every-make, every-turn, every-not, every-end, each-turn, each-end}
+pub use Rattle.executive.proofs.Lists.Loops.{one-le, every-get, every-make, every-turn, every-not, every-end, first-turn, first-not, first-end, each-turn, each-end}
+pub use Rattle.executive.proofs.Lists.Loops.{both, all-none, all-more, all-not, all-get, all-make}
 pub use Rattle.executive.proofs.places.TaskAt.{place-none, place-past, place-task, place-low, read-place, set-place, put-place, put-no-place}
 pub use Rattle.executive.proofs.places.TaskAt.{at-none, at-task, at-place, at-no-place, at-same, at-other, sum-put}
 pub use Rattle.executive.proofs.states.Laws.{dormant-is, dormant-named, dormant-kind, ready-named, ready-kind, ready-as}
@@ -59,9 +60,13 @@ pub use Rattle.executive.proofs.queue.InFlight.{relit-fit, begin-flying
 pub use Rattle.executive.proofs.queue.InFlight.{admits-append, admits-rest, rest-same, beside, finds-beside, enters-beside, carry-still}
 pub use Rattle.executive.proofs.executing.Leaving.{left-gone, left-stays, depart-rest, unaltered, changed-neat, done-is}
 pub use Rattle.executive.proofs.levels.OnTheWay.{lit-same, lit-departed, lit-entered}
-pub use Rattle.executive.proofs.decisions.Listing.{blank, enter-turn, find-turn, enter-end}
+pub use Rattle.executive.proofs.decisions.Listing.{blank, all-length, named-listed, listed-well, made-also, made-at, enter-turn, find-turn, enter-end}
+pub use Rattle.executive.proofs.decisions.ByTime.{quiet, woken-few, rising-few, sorted-length}
 pub use Rattle.executive.proofs.clock.Alarms.{due-on, ringing, ring-on, ring-turn, in-on, in-turn, flags-rung}
 pub use Rattle.executive.proofs.Plans.Tick.{advanced-alone}
+pub use Rattle.executive.proofs.calls.Ticking.{ticks}
+pub use Rattle.executive.proofs.clock.Interval.{interval-most, interval-some, next-by-rest, next-ahead, skips-some, every-some, aim-most, turned, step-within}
+pub use Rattle.executive.proofs.flags.Bits.{set-none, set-or, or-assoc, set-same, set-only, set-within, same-bits}
 pub use Rattle.executive.proofs.messages.Lines.{put-is-at, put-length, put-sum, stay-le, stay-stop, stay-pass, stay-end, noted-post, post-sorted}
 pub use Rattle.executive.proofs.messages.Arrays.{removed-length, letters-with, messages-length, letters-length, made-without, made-posted, without-in-order, posted-in-order}
 pub use Rattle.executive.proofs.messages.Arrays.{mail-place, mail-no-place, mail-same, mail-other, mail-length, mail-letters}
@@ -71,9 +76,13 @@ pub use Rattle.executive.proofs.messages.Kept.{MailOk}
 pub use Rattle.executive.proofs.subprograms.InLine.{made-joined, made-handed, made-free}
 pub use Rattle.executive.proofs.Plans.Enter.{held-neat}
 pub use Rattle.executive.proofs.check.Blanks.{blank-pad, nobody-is, zero-is, is-zero, blank-is, free-is}
-pub use Rattle.executive.proofs.check.Messages.{no-message-is, no-mail-is, astray-get, low-get}
+pub use Rattle.executive.proofs.check.Messages.{no-message-is, no-mail-is, astray-get, low-get, right-over, right-out, right-high, right-taken, right-on, mail-next}
+pub use Rattle.executive.proofs.check.Passes.{same, at-next, fits-not, ready-exact, sized}
+pub use Rattle.executive.proofs.check.Descent.{falls-turn, falls-off, falls-over, falls-end, word-on, word-end}
+pub use Rattle.executive.proofs.check.PutTogether.{every-put, every-done, or-none}
+pub use Rattle.executive.proofs.check.Subprograms.{placeless, heldFrom, held-first, held-turn, held-not, held-end, free-right}
 pub use Rattle.executive.proofs.check.Levels.{levels-get}
-pub use Rattle.executive.proofs.check.RuleByRule.{awaits-make, timely-get, timely-make, alarm-get, alarm-make, unmet-get, unmet-make}
+pub use Rattle.executive.proofs.check.RuleByRule.{Bounds, bounds-get, awaits-make, timely-get, timely-make, alarm-get, alarm-make, unmet-get, unmet-make}
 pub use Rattle.executive.proofs.Plans.WorkingForm.{StateOk, EntryOk, LinksOk, RestOk, SubOk, SubsOk, EntriesOk, WellFormedByPart, well-formed, line-waiting}
 -- the type of a step in flight
 pub use Rattle.executive.specs.declared.Work.{Work}
