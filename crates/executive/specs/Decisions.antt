@@ -194,14 +194,19 @@ pub record Doable (d : Deed) (t : Table) : Type 0 where
   pub finds : FindsRoom (joinsFor (d .request) (t .rest .clock) (named (d .entrants))) (depart (outFor (d .leave)) t)
 
 -- ---- each kind's deed, from the parts of the table that it looks at
--- 00: the tasks, the requests, the caller; the earliest request for it at place i
+-- 00: the caller c, the waiter w for its run's end; with the request q for it, at place i; with none
+abbrev pub anewDeed : TaskNo → TaskNo → Request → ℕ → Deed
+anewDeed w c q i = deedEmptying c leave.Sleeps (wakes w ++ (entrant c Begun ∷ wakes (q .«start_waiter»))) q (change.Taken i)
+
+abbrev pub sleepDeed : TaskNo → TaskNo → Deed
+sleepDeed w c = deedEmptying c leave.Sleeps (wakes w) noRequest change.Same
+
+-- the tasks, the requests, the caller; the earliest request for it at place i
 abbrev pub endDeedBy : List Task → List Request → TaskNo → ℕ → Deed
 endDeedBy ts rs c i =
     cond (ltb i (length rs))
-    (deedEmptying c leave.Sleeps
-    (wakes (taskAt ts (c .0) .«end_waiter») ++ (entrant c Begun ∷ wakes (getD rs i noRequest .«start_waiter»)))
-    (getD rs i noRequest) (change.Taken i))
-    (deedEmptying c leave.Sleeps (wakes (taskAt ts (c .0) .«end_waiter»)) noRequest change.Same)
+    (anewDeed (taskAt ts (c .0) .«end_waiter») c (getD rs i noRequest) i)
+    (sleepDeed (taskAt ts (c .0) .«end_waiter») c)
 
 unfoldable pub terminateDeed : List Task → List Request → TaskNo → Deed
 terminateDeed ts rs c = endDeedBy ts rs c (placeOf (c .0) rs)

@@ -47,7 +47,7 @@ pub fn marked(z: bool, v: bool, c: bool) -> Marks
 }
 
 // Z alone, where it is true.
-pub(crate) fn only_z(z: bool) -> Marks
+pub fn only_z(z: bool) -> Marks
     ensures { λ r. ⌜ r ≡ marks z false false ⌝ }
 {
     marked(z, false, false)

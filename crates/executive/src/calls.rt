@@ -25,11 +25,45 @@ ghost use lib.Dec.{eqb, ltb};
 ghost use lib.ListN.{take};
 ghost use Rattle.executive.specs.Numbers.{lastUnit, mostQueued, endOfTime};
 ghost use Rattle.executive.specs.States.{isPaused};
-ghost use Rattle.executive.specs.Decisions.{AllUnmet, AllRests, terminateDeed, restartDeed, pauseDeed, cancelPauseDeed, tickDeed, refusing, doing};
+ghost use Rattle.executive.specs.Decisions.{AllUnmet, AllRests, anewDeed, sleepDeed, terminateDeed, restartDeed, pauseDeed, cancelPauseDeed, tickDeed, refusing, doing};
 ghost use Rattle.executive.specs.Sheet.{onlyZ, restartMarks};
 
-// Kind 00: whoever waits for the end enters, then the caller with the earliest request for it, then whoever waited for
-// that start.
+// Kind 00 with the earliest request q for the caller, at place i: whoever waits for the end, w, enters, then the caller
+// with that request, then whoever waited for that start.
+pub fn begins_anew(w: TaskNo, c: TaskNo, q: Request, i: usize) -> Decision
+    ensures { λ r. ⌜ r ≡ doing (onlyZ false) (anewDeed w c q i) ⌝ }
+{
+    let marks = answers::only_z(false);
+    let l1 = decisions::only_woken(w);
+    let l2 = l1.also(c, How::Begun);
+    let entrants = l2.woken(q.start_waiter);
+    let deed = Deed {
+        leave: Leave::Sleeps,
+        entrants,
+        request: q,
+        change: Change::Taken(i),
+        empties: c,
+    };
+    decisions::accepted(marks, deed)
+}
+
+// Kind 00 with no request for the caller: whoever waits for the end enters.
+pub fn sleeps(w: TaskNo, c: TaskNo) -> Decision
+    ensures { λ r. ⌜ r ≡ doing (onlyZ false) (sleepDeed w c) ⌝ }
+{
+    let marks = answers::only_z(false);
+    let entrants = decisions::only_woken(w);
+    let deed = Deed {
+        leave: Leave::Sleeps,
+        entrants,
+        request: pool::NO_REQUEST,
+        change: Change::Same,
+        empties: c,
+    };
+    decisions::accepted(marks, deed)
+}
+
+// Kind 00.
 pub(crate) fn terminate(
     tasks: [Task; 16],
     pool: [Request; 32],
@@ -44,60 +78,38 @@ pub(crate) fn terminate(
         return decisions::refused(15);
     }
     let old = places::task_at(tasks, c);
-    let l = decisions::none();
-    let l1 = l.woken(old.end_waiter);
-    let marks = answers::only_z(false);
+    let w = old.end_waiter;
     match pool::first_for(pool, queued as usize, c) {
         Found::At(i) => {
             let q = pool[i];
-            let l2 = l1.also(c, How::Begun);
-            let entrants = l2.woken(q.start_waiter);
-            let deed = Deed {
-                leave: Leave::Sleeps,
-                entrants,
-                request: q,
-                change: Change::Taken(i),
-                empties: c,
-            };
-            decisions::accepted(marks, deed)
+            begins_anew(w, c, q, i)
         }
-        Found::Nothing => {
-            let deed = Deed {
-                leave: Leave::Sleeps,
-                entrants: l1,
-                request: pool::NO_REQUEST,
-                change: Change::Same,
-                empties: c,
-            };
-            decisions::accepted(marks, deed)
-        }
+        Found::Nothing => sleeps(w, c),
     }
 }
 
-// Kind 01: the caller is due at the time aimed at, and enters at once where that has come.
-pub(crate) fn restart(
-    old: Task,
-    now: Millis,
-    c: TaskNo,
-    holding: bool,
-    param: u8,
-    count: u8,
-) -> Decision
-    requires { ⌜ (old .start .0 ≤ now .0) × (now .0 ≤ endOfTime) ⌝ }
-    ensures { λ r. ⌜ r ≡ cond (eqb (param / 64 % 4) 3) (refusing 6)
-        (cond holding (refusing 15) (doing (restartMarks (old .start) now param count) (restartDeed c old now param count))) ⌝ }
+// Kind 01: the caller is due at the time aimed at, and enters at once where that has come. Where the clock is past its
+// end, or before the start of the run, there is no such table.
+pub fn restart(old: Task, now: Millis, c: TaskNo, holding: bool, param: u8, count: u8) -> Decision
+    ensures { λ r. ⌜ r ≡ cond (ltb endOfTime (now .0) || ltb (now .0) (old .start .0)) (refusing 1) (cond (eqb (param / 64 % 4) 3) (refusing 6)
+        (cond holding (refusing 15) (doing (restartMarks (old .start) now param count) (restartDeed c old now param count)))) ⌝ }
 {
+    if clock::END_OF_TIME < now.0 {
+        return decisions::refused(1);
+    }
+    let start = old.start;
+    if now.0 < start.0 {
+        return decisions::refused(1);
+    }
     if param / 64 % 4 == 3 {
         return decisions::refused(6);
     }
     if holding {
         return decisions::refused(15);
     }
-    let start = old.start;
     let aim = clock::aim_at(start, now, param, count);
     let marks = answers::restart_marks(start, now, param, count);
-    let l = decisions::none();
-    let l1 = l.woken(old.end_waiter);
+    let l1 = decisions::only_woken(old.end_waiter);
     let entrants = l1.raised(aim.0 <= now.0, c);
     let deed = Deed {
         leave: Leave::DueAt(aim),
@@ -109,11 +121,14 @@ pub(crate) fn restart(
     decisions::accepted(marks, deed)
 }
 
-// Kind 02.
-pub(crate) fn pause(now: Millis, unit: u8, count: u8) -> Decision
-    requires { ⌜ now .0 ≤ endOfTime ⌝ }
-    ensures { λ r. ⌜ r ≡ cond (ltb lastUnit unit) (refusing 6) (doing (onlyZ (eqb count 0)) (pauseDeed now unit count)) ⌝ }
+// Kind 02. Where the clock is past its end, there is no such table.
+pub fn pause(now: Millis, unit: u8, count: u8) -> Decision
+    ensures { λ r. ⌜ r ≡ cond (ltb endOfTime (now .0)) (refusing 1)
+        (cond (ltb lastUnit unit) (refusing 6) (doing (onlyZ (eqb count 0)) (pauseDeed now unit count))) ⌝ }
 {
+    if clock::END_OF_TIME < now.0 {
+        return decisions::refused(1);
+    }
     if clock::LAST_UNIT < unit {
         return decisions::refused(6);
     }
@@ -130,7 +145,7 @@ pub(crate) fn pause(now: Millis, unit: u8, count: u8) -> Decision
 }
 
 // Kind 03: only a paused task enters, not a due one.
-pub(crate) fn cancel_pause(e: Task, count: u8, k: TaskNo) -> Decision
+pub fn cancel_pause(e: Task, count: u8, k: TaskNo) -> Decision
     ensures { λ r. ⌜ r ≡ cond (eqb (k .0) 0 || ltb count (k .0)) (refusing 6) (doing (onlyZ (not (isPaused (e .state)))) (cancelPauseDeed (e .state) k)) ⌝ }
 {
     if refusals::no_such_task(count, k) {

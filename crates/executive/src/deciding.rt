@@ -31,7 +31,7 @@ pub struct Settled {
 }
 
 // 5: a call, not a tick, and nobody is active.
-fn nobody_active(c: TaskNo, call: Call) -> bool
+pub fn nobody_active(c: TaskNo, call: Call) -> bool
     ensures { λ r. ⌜ Idles c call r ⌝ }
 {
     let Call::Tick = call else {

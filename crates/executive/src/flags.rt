@@ -136,7 +136,7 @@ pub(crate) fn flag(tasks: [Task; 16], flags: u32, operation: u8, f: FlagNo) -> D
 }
 
 // Kind 0A: the caller leaves, unless its condition holds already.
-pub(crate) fn wait(flags: u32, mode: u8, mask: u32) -> Decision
+pub fn wait(flags: u32, mode: u8, mask: u32) -> Decision
     ensures { λ r. ⌜ r ≡ cond (ltb 1 mode || eqb mask 0) (refusing 6) (doing (onlyZ (met flags (modeOf mode) mask)) (waitDeed flags mode mask)) ⌝ }
 {
     if refusals::bad_wait(mode, mask) {

@@ -54,7 +54,7 @@ fn takes_from(number: u8, c: TaskNo) -> bool
 }
 
 // Whether a task in this state takes a message from task c.
-pub(crate) fn takes(s: State, c: TaskNo) -> bool
+pub fn takes(s: State, c: TaskNo) -> bool
     ensures { λ r. ⌜ r ≡ takes (c .0) s ⌝ }
 {
     states::is_of(s, states::AWAIT_MESSAGE) && takes_from(states::awaited_of(s), c)
@@ -153,8 +153,7 @@ pub(crate) fn send(
     }
     let marks = answers::only_z(false);
     if takes(s, c) {
-        let l = decisions::none();
-        let entrants = l.woken(k);
+        let entrants = decisions::only_woken(k);
         let deed = Deed {
             leave: Leave::Stays,
             entrants,
@@ -179,7 +178,7 @@ pub(crate) fn send(
 }
 
 // The marks of a receive that hands out a message.
-fn handing(m: Message) -> Marks
+pub fn handing(m: Message) -> Marks
     ensures { λ r. ⌜ r ≡ handsOut m ⌝ }
 {
     let sender = m.sender;
@@ -195,7 +194,7 @@ fn handing(m: Message) -> Marks
 }
 
 // The deed of a receive: the first that fits is at place i of n, or there is none and the caller waits for one.
-fn receiving(c: TaskNo, s: TaskNo, i: usize, n: usize) -> Deed
+pub fn receiving(c: TaskNo, s: TaskNo, i: usize, n: usize) -> Deed
     ensures { λ r. ⌜ r ≡ receiveDeedBy c s i n ⌝ }
 {
     let entrants = decisions::none();

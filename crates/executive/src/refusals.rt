@@ -13,7 +13,7 @@ ghost use Rattle.executive.specs.Places.{never};
 ghost use Rattle.executive.specs.Lists.{_and_};
 
 // 6 in kinds 03, 04 and 05: a task not 1 to the task count.
-pub(crate) fn no_such_task(count: u8, k: TaskNo) -> bool
+pub fn no_such_task(count: u8, k: TaskNo) -> bool
     ensures { λ r. ⌜ r ≡ (eqb (k .0) 0 || ltb count (k .0)) ⌝ }
 {
     if k.0 == 0 {

@@ -149,7 +149,7 @@ fn start_later(q: Request, wt: AwaitedMoment) -> Deed
 }
 
 // Kind 04.
-pub(crate) fn start_if_dormant(e: Task, count: u8, c: TaskNo, option: u8, k: TaskNo) -> Decision
+pub fn start_if_dormant(e: Task, count: u8, c: TaskNo, option: u8, k: TaskNo) -> Decision
     ensures { λ r. ⌜ r ≡ cond ((eqb (k .0) 0 || ltb count (k .0)) || not (eqb (option / 16 % 8) 0)) (refusing 6)
         (doing (onlyZ (not (isDormant (e .state)))) (startIfDormantDeed c e option k)) ⌝ }
 {
@@ -170,7 +170,7 @@ pub(crate) fn start_if_dormant(e: Task, count: u8, c: TaskNo, option: u8, k: Tas
 }
 
 // Kind 05.
-pub(crate) fn start_or_queue(
+pub fn start_or_queue(
     e: Task,
     count: u8,
     queued: u8,

@@ -96,8 +96,7 @@ pub(crate) fn exit(s: Sub, c: TaskNo, m: SubNo) -> Decision
     let marks = answers::only_z(false);
     let line = s.line;
     let w = queue::first(line, s.waiting);
-    let l = decisions::none();
-    let entrants = l.woken(w);
+    let entrants = decisions::only_woken(w);
     let deed = Deed {
         leave: Leave::Stays,
         entrants,

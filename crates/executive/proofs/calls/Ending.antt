@@ -2,7 +2,7 @@
 use Prim.Native.Nat.{ℕ, _≤_, _<_}
 use mathlib.Core.Path.{_≡_, refl, sym, _∙_}
 use mathlib.Core.Bool.{true, false}
-use mathlib.Core.List.{List, [], _∷_, _++_, append-assoc}
+use mathlib.Core.List.{List}
 use native.Mathlib.Omega.{arith}
 use borrow.Author.Tests.{lt-ltb}
 use lib.Dec.{ltb}
@@ -12,12 +12,9 @@ use Rattle.records.specs.declared.TaskNo.{TaskNo}
 use Rattle.executive.specs.declared.Task.{Task}
 use Rattle.executive.specs.declared.Request.{Request}
 use Rattle.executive.specs.declared.pool.Found.the-variants.{At, Nothing}
-use Rattle.executive.specs.declared.decisions.Leave.the-variants as leave
-use Rattle.executive.specs.declared.decisions.How.the-variants.{Begun}
-use Rattle.executive.specs.declared.decisions.Change.the-variants as change
 use Rattle.executive.specs.Pool.{foundAt, placeOf}
 use Rattle.executive.specs.Places.{noRequest, taskAt}
-use Rattle.executive.specs.Decisions.{entrant, wakes, deedEmptying, terminateDeed}
+use Rattle.executive.specs.Decisions.{anewDeed, sleepDeed, terminateDeed}
 use Rattle.executive.proofs.pool.FoundAt.{found-is, none-is}
 
 module _ (ts : List Task) (pool : List Request) (n : ℕ) (c : TaskNo) (l : n ≤ length pool) where
@@ -25,19 +22,17 @@ module _ (ts : List Task) (pool : List Request) (n : ℕ) (c : TaskNo) (l : n �
   m = length-take-le n pool l
 
   pub ends-run : (i : ℕ) → foundAt (placeOf (c .0) (take n pool)) n ≡ At i
-      → deedEmptying c leave.Sleeps ((wakes (taskAt ts (c .0) .«end_waiter») ++ (entrant c Begun ∷ [])) ++ wakes (getD pool i noRequest .«start_waiter»))
-      (getD pool i noRequest) (change.Taken i)
-      ≡ terminateDeed ts (take n pool) c
+      → anewDeed (taskAt ts (c .0) .«end_waiter») c (getD pool i noRequest) i ≡ terminateDeed ts (take n pool) c
   unfolding terminateDeed
   ends-run i e =
       let p = found-is (placeOf (c .0) (take n pool)) n i e in
       let x : placeOf (c .0) (take n pool) ≡ i = p .0 in
       let y : ltb i (length (take n pool)) ≡ true = lt-ltb i (length (take n pool)) (omega (arith, p .1, m)) in
       let g : getD (take n pool) i noRequest ≡ getD pool i noRequest = getD-take n pool i noRequest (omega (arith, p .1)) in
-      rw (x, y, g, append-assoc (wakes (taskAt ts (c .0) .«end_waiter»)) (entrant c Begun ∷ []) (wakes (getD pool i noRequest .«start_waiter»))) refl
+      rw (x, y, g) refl
 
   pub ends-none : foundAt (placeOf (c .0) (take n pool)) n ≡ Nothing
-      → deedEmptying c leave.Sleeps (wakes (taskAt ts (c .0) .«end_waiter»)) noRequest change.Same ≡ terminateDeed ts (take n pool) c
+      → sleepDeed (taskAt ts (c .0) .«end_waiter») c ≡ terminateDeed ts (take n pool) c
   unfolding terminateDeed
   ends-none e =
       let y : ltb (placeOf (c .0) (take n pool)) (length (take n pool)) ≡ false = rw m (none-is (placeOf (c .0) (take n pool)) n e) in

@@ -1,4 +1,5 @@
 use mathlib.Core.Path.{_≡_, refl, ap, sym, _∙_}
+use borrow.Author.Tests.{le-ltb}
 use Rattle.executive.specs.Sheet.{decided}
 use borrow.Author.Needs.{needs}
 use Rattle.executive.proofs.deciding.by_kind.Statement.{statement}
@@ -6,12 +7,6 @@ use Rattle.executive.proofs.deciding.by_kind.Tie as tie
 
 terminate-requires : tie.Need-terminate-requires
 terminate-requires c κs = c .before .before .before .before .before .before .pre .queued
-
-restart-requires : tie.Need-restart-requires
-restart-requires c κs = (rw (c .before .before .task-at .ensures) (c .before .before .before .before .before .before .before .pre .started), c .before .before .before .before .before .before .before .pre .clock)
-
-pause-requires : tie.Need-pause-requires
-pause-requires c κs = c .before .before .before .before .pre .clock
 
 alarm-requires : tie.Need-alarm-requires
 alarm-requires c κs = c .before .before .before .before .before .before .pre .clock
@@ -34,11 +29,13 @@ returns c = rw (c .terminate .ensures, c .before .holds-any .ensures, c .before 
 
 returns-2 : tie.Need-returns-2
 unfolding decided
-returns-2 c = rw (c .restart .ensures, c .before .holds-any2 .ensures, c .before .before .before .task-at .ensures, c .before .before .before .before .before .call .given .1) refl
+returns-2 c =
+    let p = c .before .before .before .before .before .before .before .before .pre in
+    rw (c .restart .ensures, c .before .holds-any2 .ensures, c .before .before .before .task-at .ensures, le-ltb _ _ (p .clock), le-ltb _ _ (p .started), c .before .before .before .before .before .call .given .1) refl
 
 returns-3 : tie.Need-returns-3
 unfolding decided
-returns-3 c = rw (c .pause .ensures, c .before .before .call2 .given .1) refl
+returns-3 c = rw (c .pause .ensures, le-ltb _ _ (c .before .before .before .before .before .pre .clock), c .before .before .call2 .given .1) refl
 
 returns-4 : tie.Need-returns-4
 unfolding decided
@@ -106,9 +103,9 @@ by-kind-spec =
     (λ c. search needs)
     (λ c κs. search needs)
     (λ c κs. search needs)
-    restart-requires
+    (λ c κs. search needs)
     (λ c. search needs)
-    pause-requires
+    (λ c κs. search needs)
     (λ c. search needs)
     (λ c κs. search needs)
     (λ c κs. search needs)
