@@ -9,7 +9,7 @@ use lib.ListN.{length}
 use borrow.Author.Tests.{eq-eqb, ne-eqb, lt-ltb, le-ltb}
 use Rattle.executive.specs.declared.Table.{Table}
 use Rattle.executive.specs.declared.Fresh.{Fresh}
-use Rattle.executive.specs.declared.Outcome.{Outcome}
+use Rattle.executive.specs.declared.Answer.{Answer}
 use Rattle.executive.specs.Check.{isWellFormed, Checked}
 use Rattle.executive.proofs.Assured.{decided}
 use Rattle.executive.specs.Step.{noTable, stepOf}
@@ -71,22 +71,10 @@ module _ (s k o : List ℕ) where
     unfolding stepNumber stepImage stepAnswer imageAfter answerTo
     step-none i eu = let e = le-ltb (length o) answerLength h in (rw (e, i), (rw (e, i), rw (e, i) eu))
 
-    module _ (x : Outcome) (ex : x ≡ stepOf (loadOf s) k) (i : isImage s ≡ true) where
-      pub step-refused : {u : List ℕ} → (x .answer .number ≡ 0 → ⊥) → u ≡ written o 0 (answerBytes (x .answer))
-          → (x .answer .number ≡ stepNumber s k o) × ((s ≡ stepImage s k o) × (u ≡ stepAnswer s k o))
-      unfolding stepNumber stepImage stepAnswer imageAfter answerTo
-      step-refused n eu =
-          let e = le-ltb (length o) answerLength h in
-          let z = ne-eqb (x .answer .number) 0 n in
-          (rw (e, i, ← ex), (rw (e, i, ← ex, z), rw (e, i, ← ex) eu))
-
-      pub step-done : {u v : List ℕ} → x .answer .number ≡ 0 → u ≡ written o 0 (answerBytes (x .answer)) → v ≡ imageOf (x .table)
-          → (0 ≡ stepNumber s k o) × ((v ≡ stepImage s k o) × (u ≡ stepAnswer s k o))
-      unfolding stepNumber stepImage stepAnswer imageAfter answerTo
-      step-done n eu ev =
-          let e = le-ltb (length o) answerLength h in
-          let z = eq-eqb (x .answer .number) 0 n in
-          (rw (e, i, ← ex) (sym n), (rw (e, i, ← ex, z) ev, rw (e, i, ← ex) eu))
+    pub step-said : {u v : List ℕ} (a : Answer) → isImage s ≡ true → a ≡ stepOf (loadOf s) k .answer → u ≡ written o 0 (answerBytes a) → v ≡ imageAfter s k
+        → (a .number ≡ stepNumber s k o) × ((v ≡ stepImage s k o) × (u ≡ stepAnswer s k o))
+    unfolding stepNumber stepImage stepAnswer answerTo
+    step-said a i ea eu ev = let e = le-ltb (length o) answerLength h in (rw (e, i, ← ea), (rw e ev, rw (e, i, ← ea) eu))
 
 -- ---- a question why a task is not running
 module _ (s : List ℕ) (k : TaskNo) (o : List ℕ) where

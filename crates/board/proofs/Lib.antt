@@ -6,6 +6,16 @@ pub mod Alike
 pub mod Images
 pub mod Trips
 pub mod Canonical
+pub mod Lent
+pub mod Joined
+pub mod Shifts
+pub mod Parts
+pub mod ReadOff
+pub mod QueueLaid
+pub mod RestLaid
+pub mod DoneLaid
+pub mod LoadLaid
+pub mod Stepwise
 pub mod Padded
 pub mod Answered
 pub mod Explained

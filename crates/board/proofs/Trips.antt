@@ -37,7 +37,7 @@ use Rattle.board.proofs.Alike.{decide, never, same-self, same-true}
 use Rattle.board.proofs.Images.{Filled, fill, filled, At, at-start, at-next, at-end, at-length, at-parted, cut-at, element-back, row-back, blocks-back}
 
 -- ---- a block's value is that of its numbers
-task-back : (e : Task) → taskOf (taskNumbers e) (awaitedNumbers e) ≡ e
+pub task-back : (e : Task) → taskOf (taskNumbers e) (awaitedNumbers e) ≡ e
 task-back e = λ i. record { own = e .own; state = states-told .back (e .state) i; priority = e .priority; argument = e .argument; start = e .start; «end_waiter» = e .«end_waiter» }
 
 line-back : (ks : List TaskNo) → Each (λ k. Fits placeWidths (placeNumbers k)) ks → length ks ≡ 16 → (s r : List ℕ) (n : ℕ) → At s n (row placeBytes ks ++ r) → lineFrom s n ≡ ks
@@ -102,31 +102,31 @@ post-made x o p q r n zm zl ep eq er =
     ∙ ap (written o messagesAt) (append-assoc a b c)
 
 module _ (t : Table) (z : Sizes t) where
-  tasks-length : length (row taskBytes (t .tasks)) ≡ 416
+  pub tasks-length : length (row taskBytes (t .tasks)) ≡ 416
   tasks-length = length-row taskBytes 26 (λ x. refl) (t .tasks) ∙ ap (λ n. n * 26) (z .tasks)
 
-  queue-length : length (row placeBytes (t .queue)) ≡ 16
+  pub queue-length : length (row placeBytes (t .queue)) ≡ 16
   queue-length = length-row placeBytes 1 (λ x. refl) (t .queue) ∙ ap (λ n. n * 1) (z .queue)
 
-  alarms-length : length (row alarmBytes (t .rest .alarms)) ≡ 256
+  pub alarms-length : length (row alarmBytes (t .rest .alarms)) ≡ 256
   alarms-length = length-row alarmBytes 8 (λ x. refl) (t .rest .alarms) ∙ ap (λ n. n * 8) (z .alarms)
 
-  pool-length : length (row requestBytes (t .rest .pool)) ≡ 192
+  pub pool-length : length (row requestBytes (t .rest .pool)) ≡ 192
   pool-length = length-row requestBytes 6 (λ x. refl) (t .rest .pool) ∙ ap (λ n. n * 6) (z .pool)
 
-  awaited-length : length (row awaitedBytes (t .tasks)) ≡ 16
+  pub awaited-length : length (row awaitedBytes (t .tasks)) ≡ 16
   awaited-length = length-row awaitedBytes 1 (λ x. refl) (t .tasks) ∙ ap (λ n. n * 1) (z .tasks)
 
-  subs-length : length (row subBytes (t .rest .subs)) ≡ 144
+  pub subs-length : length (row subBytes (t .rest .subs)) ≡ 144
   subs-length =
       row-length subBytes subLength (t .rest .subs)
       (each-so (λ x. length (x .line) ≡ 16) (Wide subBytes subLength) sub-length (t .rest .subs) (each-of (λ x. length (x .line) ≡ 16) noSub (t .rest .subs) (z .lines)))
       ∙ ap (λ n. n * subLength) (z .subs)
 
-  messages-length : length (row messageBytes (t .rest .messages)) ≡ 352
+  pub messages-length : length (row messageBytes (t .rest .messages)) ≡ 352
   messages-length = length-row messageBytes messageLength (λ x. refl) (t .rest .messages) ∙ ap (λ n. n * messageLength) (z .messages)
 
-  mail-length : length (row mailBytes (t .rest .mail)) ≡ 144
+  pub mail-length : length (row mailBytes (t .rest .mail)) ≡ 144
   mail-length = length-row mailBytes mailLength (λ x. refl) (t .rest .mail) ∙ ap (λ n. n * mailLength) (z .mail)
 
   post-length : length (postBytes (t .rest)) ≡ 497
@@ -283,7 +283,7 @@ module _ (s : List ℕ) (h : Bytes s) where
   cut-fits [] i = tt
   cut-fits (w ∷ ws) i = (number-small w i, cut-fits ws (i + w))
 
-each-block : {A : Type 0} (P : A → Type 0) (f : ℕ → A) → ((i : ℕ) → P (f i)) → (w n at : ℕ) → Each P (blocks f w n at)
+pub each-block : {A : Type 0} (P : A → Type 0) (f : ℕ → A) → ((i : ℕ) → P (f i)) → (w n at : ℕ) → Each P (blocks f w n at)
 unfolding blocks
 each-block P f g w zero at = tt
 each-block P f g w (suc n) at = (g at, each-block P f g w n (at + w))

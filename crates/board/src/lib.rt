@@ -8,11 +8,18 @@ ghost use Rattle.board.specs.EntryPoints.{MakesImage, CheckedImage, Step
 ghost use Rattle.board.specs.Reasons.{ExplainsImage};
 
 pub mod answers;
+mod changes;
 mod checking;
+mod doing;
+mod entries;
+mod fields;
 pub mod loading;
+mod moves;
+mod moving;
 pub mod numbers;
 pub mod promises;
 mod reasons;
+mod stepping;
 pub mod storing;
 
 // The board's own number: a buffer that is to be written to has not the length it needs. It is judged before any
@@ -93,17 +100,9 @@ pub extern "C" fn quermanic_step(image: &mut [u8], call: &[u8], answer: &mut [u8
         answers::put_answer(answer, none);
         return 1;
     }
-    let table = loading::load_whole(image);
-    let outcome = table.step(call);
-    let said = outcome.answer;
+    let said = stepping::step(image, call);
     answers::put_answer(answer, said);
-    let number = said.number;
-    if number != 0 {
-        return number;
-    }
-    let next = outcome.table;
-    storing::put_table(image, next);
-    0
+    said.number
 }
 
 // What the status lamp shows of an image: 0 to 15, the highest ready priority, or 16 for dark; 16 also where the bytes

@@ -51,7 +51,7 @@ pub(crate) fn state_of(kind: u8, time: Millis, mask: u32, number: u8) -> State
 }
 
 // The task whose entry is the i-th.
-fn task_in(bytes: &[u8], i: usize) -> Task
+pub(crate) fn task_in(bytes: &[u8], i: usize) -> Task
     requires { ⌜ (i < 16) × (imageLength ≤ length (now bytes)) ⌝ }
     ensures { λ r. ⌜ r ≡ taskFrom (now (bytes .entry)) i ⌝ }
 {

@@ -65,7 +65,7 @@ fn put_run(out: &mut [u8], at: usize, task: Task)
 }
 
 // Writes a task's entry over 26 bytes.
-fn put_task(out: &mut [u8], at: usize, task: Task)
+pub(crate) fn put_task(out: &mut [u8], at: usize, task: Task)
     requires { ⌜ at + 26 ≤ length (now out) ⌝ }
     ensures { λ _. ⌜ now (out .exit) ≡ written (now (out .entry)) at (taskBytes task) ⌝ }
 {
@@ -75,7 +75,7 @@ fn put_task(out: &mut [u8], at: usize, task: Task)
 }
 
 // Writes a request over 6 bytes.
-fn put_request(out: &mut [u8], at: usize, request: Request)
+pub(crate) fn put_request(out: &mut [u8], at: usize, request: Request)
     requires { ⌜ at + 6 ≤ length (now out) ⌝ }
     ensures { λ _. ⌜ now (out .exit) ≡ written (now (out .entry)) at (requestBytes request) ⌝ }
 {
@@ -103,7 +103,7 @@ fn put_place(out: &mut [u8], at: usize, task: TaskNo)
     numbers::put_byte(out, at, task.0);
 }
 
-fn put_alarm(out: &mut [u8], at: usize, time: Millis)
+pub(crate) fn put_alarm(out: &mut [u8], at: usize, time: Millis)
     requires { ⌜ at + 8 ≤ length (now out) ⌝ }
     ensures { λ _. ⌜ now (out .exit) ≡ written (now (out .entry)) at (alarmBytes time) ⌝ }
 {
@@ -157,7 +157,7 @@ fn put_pool(out: &mut [u8], pool: [Request; 32])
 }
 
 // Writes the number that a task's state waits for.
-fn put_awaited(out: &mut [u8], at: usize, task: Task)
+pub(crate) fn put_awaited(out: &mut [u8], at: usize, task: Task)
     requires { ⌜ at + 1 ≤ length (now out) ⌝ }
     ensures { λ _. ⌜ now (out .exit) ≡ written (now (out .entry)) at (awaitedBytes task) ⌝ }
 {
@@ -199,7 +199,7 @@ fn put_subs(out: &mut [u8], subs: [Sub; 8])
 }
 
 // Writes a waiting message over 11 bytes.
-fn put_message(out: &mut [u8], at: usize, message: Message)
+pub(crate) fn put_message(out: &mut [u8], at: usize, message: Message)
     requires { ⌜ at + 11 ≤ length (now out) ⌝ }
     ensures { λ _. ⌜ now (out .exit) ≡ written (now (out .entry)) at (messageBytes message) ⌝ }
 {
@@ -220,7 +220,7 @@ fn put_messages(out: &mut [u8], messages: [Message; 32])
 }
 
 // Writes a task's mail over 9 bytes.
-fn put_mail(out: &mut [u8], at: usize, mail: Mail)
+pub(crate) fn put_mail(out: &mut [u8], at: usize, mail: Mail)
     requires { ⌜ at + 9 ≤ length (now out) ⌝ }
     ensures { λ _. ⌜ now (out .exit) ≡ written (now (out .entry)) at (mailBytes mail) ⌝ }
 {

@@ -1,19 +1,16 @@
--- `quermanic_step` meets its contract: its four outcomes are the definition's.
+-- `quermanic_step` meets its contract: its three outcomes are the definition's.
 use Prim.Native.Nat.{ℕ, _≤_}
 use mathlib.Core.Path.{_≡_, sym, ap, _∙_}
+use mathlib.Core.Bool.{true}
 use mathlib.Core.List.{List}
 use native.Mathlib.Omega.{arith}
 use lib.ListN.{length}
 use denote.Ref.{now}
 use borrow.Author.Tests.{not-true, not-false}
-use Rattle.executive.specs.Step.{stepOf}
-use Rattle.executive.specs.declared.Outcome.{Outcome}
 use Rattle.board.specs.Blocks.{written}
 use Rattle.board.specs.EntryPoints.{answerLength, answerBytes}
-use Rattle.board.specs.Image.{loadOf}
-use Rattle.board.proofs.Owned.{outcome-owned}
-use Rattle.board.proofs.Trips.{image-parts}
-use Rattle.board.proofs.Answered.{holds, step-short, step-none, step-refused, step-done}
+use Rattle.board.specs.Image.{isImage}
+use Rattle.board.proofs.Answered.{step-short, step-none, step-said}
 use borrow.Author.Needs.{needs}
 use Rattle.board.proofs.quermanic_step.Statement.{statement}
 use Rattle.board.proofs.quermanic_step.Tie as tie
@@ -32,14 +29,6 @@ answer i = now (i .before .before .before .before .before .before .args .answer)
 room : (i : tie.After-is-image) → answerLength ≤ length (answer i)
 room i = i .before .before .if1 .left
 
--- where the bytes were held to an image's form, seen from the step
-abbrev found : tie.After-step → tie.After-is-image
-found x = x .before .before .before .before
-
--- the outcome is that of a step from what the image loads to
-stepped : (x : tie.After-step) → x .step .result ≡ stepOf (loadOf (image (found x))) (call (found x))
-stepped x = x .step .ensures ∙ ap (λ t. stepOf t (call (found x))) (x .before .load-whole .ensures)
-
 returns : tie.Need-returns
 returns c =
     let a = c .before .before .before .before .args in
@@ -55,40 +44,17 @@ returns-2 c =
     let e = step-none (image i) (call i) (answer i) (room i) (sym (i .is-image .ensures) ∙ not-true (i .is-image .result) (n .before .if2 .taken)) none in
     record { number = e .0; image = e .1 .0; answer = e .1 .1; holds = λ z. absurd (omega arith) }
 
-load-whole-requires : tie.Need-load-whole-requires
-load-whole-requires c κs = omega (arith, image-parts (now (c .before .before .before .before .before .before .before .before .args .image)) (sym (c .before .before .is-image .ensures) ∙ not-false (c .before .before .is-image .result) (c .before .if2 .left)) .0)
+step-requires : tie.Need-step-requires
+step-requires c κs = sym (c .before .before .is-image .ensures) ∙ not-false (c .before .before .is-image .result) (c .before .if2 .left)
 
 returns-3 : tie.Need-returns-3
 returns-3 c =
-    let p = c .before .before .before in
+    let p = c .before .before in
     let x = c .before .before .before .before .before .before in
-    let i = found x in
-    let e = sym (i .is-image .ensures) ∙ not-false (i .is-image .result) (c .before .before .before .before .before .before .before .before .before .if2 .left) in
-    let d =
-    step-refused (image i) (call i) (answer i) (room i) (x .step .result) (stepped x) e (c .if3 .taken)
-    (p .put-answer2 .ensures) in
-    record { number = d .0; image = d .1 .0; answer = d .1 .1; holds = λ z. absurd (c .if3 .taken z) }
-
-put-table-requires : tie.Need-put-table-requires
-put-table-requires c κs =
-    let i = c .before .before .before .before .before .before .before .before .before .before .before .before in
-    image-parts (image i) (sym (i .is-image .ensures) ∙ not-false (i .is-image .result) (c .before .before .before .before .before .before .before .before .before .before .before .if2 .left)) .0
-
-returns-4 : tie.Need-returns-4
-returns-4 c =
-    let s = c .before .before in
-    let p = c .before .before .before .before .before .before .before .before in
-    let x = c .before .before .before .before .before .before .before .before .before .before .before in
-    let i = found x in
-    let e = sym (i .is-image .ensures) ∙ not-false (i .is-image .result) (c .before .before .before .before .before .before .before .before .before .before .before .before .before .before .if2 .left) in
-    let d =
-    step-done (image i) (call i) (answer i) (room i) (x .step .result) (stepped x) e (omega (arith, c .before .before .before .before .before .if3 .left))
-    (p .put-answer2 .ensures) (s .put-table .ensures) in
-    let o = outcome-owned (x .step .result) _ (x .step .ok) in
-    let h =
-    holds (x .step .result .table) (stepOf (loadOf (image i)) (call i) .table) o (ap (λ (y : Outcome). y .table) (stepped x))
-    (s .put-table .ensures) in
-    record { number = d .0; image = d .1 .0; answer = d .1 .1; holds = λ z. h }
+    let i = c .before .before .before .before .before .before .before .before .before in
+    let e : isImage (image i) ≡ true = sym (i .is-image .ensures) ∙ not-false (i .is-image .result) (c .before .before .before .before .before .before .before .before .if2 .left) in
+    let d = step-said (image i) (call i) (answer i) (room i) (x .step .result) e (x .step .ensures .0) (p .put-answer2 .ensures) (x .step .ensures .1 .0) in
+    record { number = d .0; image = d .1 .0; answer = d .1 .1; holds = x .step .ensures .1 .1 }
 
 pub quermanic-step-spec : {M : Type 1} → statement M
 quermanic-step-spec =
@@ -101,13 +67,8 @@ quermanic-step-spec =
     (λ c. search needs)
     (λ c. search needs)
     returns-2
-    load-whole-requires
+    step-requires
     (λ c κs. search needs)
     (λ c. search needs)
     (λ c. search needs)
-    (λ c. search needs)
-    returns-3
-    put-table-requires
-    (λ c. search needs)
-    (λ c. search needs)
-    returns-4)
+    returns-3)
