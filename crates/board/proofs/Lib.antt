@@ -16,6 +16,7 @@ pub mod RestLaid
 pub mod DoneLaid
 pub mod LoadLaid
 pub mod Stepwise
+pub mod Listing
 pub mod Padded
 pub mod Answered
 pub mod Explained
