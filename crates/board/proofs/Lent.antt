@@ -5,5 +5,7 @@ pub mod ArraysAreLists
 pub mod InFlight
 pub mod Leaving
 pub mod Alarms
+pub mod Intervals
+pub mod Ticking
 pub mod Arrays
 pub mod InLine

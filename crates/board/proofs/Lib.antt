@@ -17,6 +17,10 @@ pub mod DoneLaid
 pub mod LoadLaid
 pub mod Stepwise
 pub mod Listing
+pub mod WakeLaid
+pub mod Searches
+pub mod RingLaid
+pub mod Timings
 pub mod Padded
 pub mod Answered
 pub mod Explained

@@ -4,6 +4,7 @@ pub mod Blocks
 pub mod Image
 pub mod Coding
 pub mod Laid
+pub mod Waking
 pub mod EntryPoints
 pub mod Reasons
 pub mod Promises

@@ -173,7 +173,7 @@ fn hand_on(b: &mut [u8], m: SubNo)
 }
 
 // The word with one bit.
-fn bit_of(n: usize) -> u32
+pub(crate) fn bit_of(n: usize) -> u32
     requires { ⌜ n < 32 ⌝ }
     ensures { λ r. ⌜ r ≡ 2 ^ n ⌝ }
 {
@@ -210,7 +210,7 @@ fn ring_from(b: &mut [u8], first: usize, time: u64)
 }
 
 // A byte as a longer number.
-fn wide(x: u8) -> u64
+pub(crate) fn wide(x: u8) -> u64
     ensures { λ r. ⌜ (r ≡ x) × (r < 256) ⌝ }
 {
     x as u64

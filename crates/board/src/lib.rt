@@ -15,14 +15,18 @@ mod doing;
 mod entrants;
 mod entries;
 mod fields;
+mod intervals;
 pub mod loading;
 mod moves;
 mod moving;
 pub mod numbers;
 pub mod promises;
 mod reasons;
+mod ringing;
 mod stepping;
 pub mod storing;
+mod timing;
+mod waking;
 
 // The board's own number: a buffer that is to be written to has not the length it needs. It is judged before any
 // other number.

@@ -3,11 +3,8 @@ use borrow.Author.Needs.{needs}
 use Rattle.board.proofs.deeds.alone.Statement.{statement}
 use Rattle.board.proofs.deeds.alone.Tie as tie
 
-nobody-requires : tie.Need-nobody-requires
-nobody-requires c κs = search needs
-
 returns : tie.Need-returns
 returns c = rw (c .nobody .ensures) refl
 
 pub alone-spec : {M : Type 1} → statement M
-alone-spec = tie.close (tie.spec nobody-requires returns)
+alone-spec = tie.close (tie.spec (λ c κs. search needs) returns)

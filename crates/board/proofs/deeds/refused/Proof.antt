@@ -3,11 +3,8 @@ use borrow.Author.Needs.{needs}
 use Rattle.board.proofs.deeds.refused.Statement.{statement}
 use Rattle.board.proofs.deeds.refused.Tie as tie
 
-nothing-requires : tie.Need-nothing-requires
-nothing-requires c κs = search needs
-
 returns : tie.Need-returns
 returns c = rw (c .nothing .ensures) refl
 
 pub refused-spec : {M : Type 1} → statement M
-refused-spec = tie.close (tie.spec nothing-requires returns)
+refused-spec = tie.close (tie.spec (λ c κs. search needs) returns)
