@@ -1,6 +1,7 @@
 -- The laws that belong to no one function.
 pub mod Digits
 pub mod Spans
+pub mod Loaded
 pub mod Pieces
 pub mod Alike
 pub mod Images

@@ -82,7 +82,7 @@ pub(crate) fn task_in(bytes: &[u8], i: usize) -> Task
 }
 
 // The request at a place.
-fn request_in(bytes: &[u8], at: usize) -> Request
+pub(crate) fn request_in(bytes: &[u8], at: usize) -> Request
     requires { ⌜ at + 6 ≤ length (now bytes) ⌝ }
     ensures { λ r. ⌜ r ≡ requestFrom (now (bytes .entry)) at ⌝ }
 {
@@ -159,7 +159,7 @@ fn pool_in(bytes: &[u8]) -> [Request; 32]
 }
 
 // The subprogram at a place.
-fn sub_in(bytes: &[u8], at: usize) -> Sub
+pub(crate) fn sub_in(bytes: &[u8], at: usize) -> Sub
     requires { ⌜ at + 18 ≤ length (now bytes) ⌝ }
     ensures { λ r. ⌜ r ≡ subFrom (now (bytes .entry)) at ⌝ }
 {
@@ -188,7 +188,7 @@ fn subs_in(bytes: &[u8]) -> [Sub; 8]
 }
 
 // The waiting message at a place.
-fn message_in(bytes: &[u8], at: usize) -> Message
+pub(crate) fn message_in(bytes: &[u8], at: usize) -> Message
     requires { ⌜ at + 11 ≤ length (now bytes) ⌝ }
     ensures { λ r. ⌜ r ≡ messageFrom (now (bytes .entry)) at ⌝ }
 {
@@ -221,7 +221,7 @@ fn messages_in(bytes: &[u8]) -> [Message; 32]
 }
 
 // The mail at a place.
-fn mail_at(bytes: &[u8], at: usize) -> Mail
+pub(crate) fn mail_at(bytes: &[u8], at: usize) -> Mail
     requires { ⌜ at + 9 ≤ length (now bytes) ⌝ }
     ensures { λ r. ⌜ r ≡ mailFrom (now (bytes .entry)) at ⌝ }
 {
