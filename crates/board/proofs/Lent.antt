@@ -9,3 +9,4 @@ pub mod Intervals
 pub mod Ticking
 pub mod Arrays
 pub mod InLine
+pub mod Bits

@@ -1,13 +1,15 @@
 -- The laws that belong to no one function.
 pub mod Digits
 pub mod Spans
-pub mod Loaded
 pub mod Pieces
 pub mod Alike
 pub mod Images
 pub mod Trips
 pub mod Canonical
 pub mod Lent
+pub mod Loaded
+pub mod Marked
+pub mod SoundParts
 pub mod Joined
 pub mod Shifts
 pub mod Parts

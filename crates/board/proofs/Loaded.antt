@@ -1,20 +1,30 @@
 -- What is read at a place of any bytes is what the table has that they load to; and the loops of the check, which hold
 -- each element of a loaded list to a test as it is read.
-use Prim.Native.Nat.{ℕ, _+_, _*_, _≤_, _<_}
+use Prim.Native.Nat.{ℕ, zero, suc, _+_, _*_, _≤_, _<_}
 use mathlib.Core.Path.{_≡_, refl, sym, ap, _∙_}
-use mathlib.Core.Bool.{Bool, true, false}
+use mathlib.Core.Bool.{Bool, true, false, _&&_}
 use mathlib.Core.List.{List}
 use native.Mathlib.Omega.{arith}
+use borrow.Author.Tests.{eqb-true, eqb-false, eq-eqb, ne-eqb}
+use lib.Dec.{eqb}
 use lib.ListN.{length, take, drop, getD}
+use Rattle.records.specs.declared.TaskNo.{TaskNo}
 use Rattle.records.specs.Numbers.{numberOf, part}
+use Rattle.executive.specs.declared.Millis.{Millis}
+use Rattle.executive.specs.declared.Mode.the-variants.{Any}
+use Rattle.executive.specs.declared.State.{State}
+use Rattle.executive.specs.declared.State.the-variants.{Flags}
+use Rattle.executive.specs.declared.Task.{Task}
 use Rattle.executive.specs.declared.Sub.{Sub}
 use Rattle.executive.specs.Lists.{allOf}
 use Rattle.executive.specs.Places.{nobody, never, noTask, noRequest, taskAt, entryPlace}
+use Rattle.executive.specs.States.{stateKind, awaitedOf, stateOf, isAs}
 use Rattle.executive.specs.Subprograms.{noSub}
 use Rattle.executive.specs.Messages.{noMessage, noMail}
 use Rattle.executive.proofs.Lists.Loops.{every-turn, every-not, every-end, first-turn, first-not, first-end}
 use Rattle.executive.proofs.places.TaskAt.{at-place}
 use Rattle.board.specs.Image.{taskFrom, placeFrom, lineFrom, alarmFrom, requestFrom, subFrom, messageFrom, mailFrom, loadOf}
+use Rattle.board.proofs.Alike.{decide}
 use Rattle.board.proofs.Spans.{length-blocks, block-at}
 
 -- ---- the arrays of any bytes: their lengths, and what stands at a place of them; p is where it is read
@@ -83,6 +93,14 @@ module _ (s : List ℕ) where
     pub in-line : (at p : ℕ) → i < 16 → p ≡ at + i → placeFrom s p ≡ getD (lineFrom s at) i nobody
     in-line at p h e = let z : at + i * 1 ≡ p = omega arith in sym (block-at (placeFrom s) 1 16 at i nobody h ∙ ap (placeFrom s) z)
 
+    -- the same by what was read, the number x at p: of an alarm, and of a place of a line
+    pub time-there : (p x : ℕ) → i < 32 → p ≡ 448 + i * 8 → x ≡ numberOf (part 8 p s) → _≡_ {A = Millis} (record { 0 = x }) (getD (loadOf s .rest .alarms) i never)
+    time-there p x h e g = let z : _≡_ {A = Millis} (record { 0 = x }) (alarmFrom s p) = λ j. record { 0 = g j } in z ∙ alarm-there p h e
+
+    -- and the place of the task who stands there
+    pub placed-there : (at k : ℕ) → i < 16 → k ≡ entryPlace (getD s (at + i) 0) → k ≡ entryPlace (getD (lineFrom s at) i nobody .0)
+    placed-there at k h e = e ∙ ap (λ (x : TaskNo). entryPlace (x .0)) (in-line at (at + i) h refl)
+
   -- a task's entry by its number n, k being its place
   pub entry-there : (n k : ℕ) → k ≡ entryPlace n → k < 16 → taskFrom s k ≡ taskAt (loadOf s .tasks) n
   entry-there n k e h = task-there k h ∙ sym (at-place (loadOf s .tasks) tasks-size n ∙ ap (λ i. getD (loadOf s .tasks) i noTask) (sym e))
@@ -123,6 +141,92 @@ module _ (s : List ℕ) where
   pub sent-there : getD s 1410 0 ≡ loadOf s .rest .sent
   unfolding loadOf
   sent-there = refl
+
+-- ---- the state of a task, by its kind's byte
+-- a byte that is a kind, and one that is none
+kind-some : (k : ℕ) (t : Millis) (m a : ℕ) → k ≤ 9 → stateKind (stateOf k t m a) ≡ k
+unfolding stateOf
+kind-some zero t m a h = refl
+kind-some (suc zero) t m a h = refl
+kind-some (suc (suc zero)) t m a h = refl
+kind-some (suc (suc (suc zero))) t m a h = refl
+kind-some (suc (suc (suc (suc zero)))) t m a h = refl
+kind-some (suc (suc (suc (suc (suc zero))))) t m a h = refl
+kind-some (suc (suc (suc (suc (suc (suc zero)))))) t m a h = refl
+kind-some (suc (suc (suc (suc (suc (suc (suc zero))))))) t m a h = refl
+kind-some (suc (suc (suc (suc (suc (suc (suc (suc zero)))))))) t m a h = refl
+kind-some (suc (suc (suc (suc (suc (suc (suc (suc (suc zero))))))))) t m a h = refl
+kind-some (suc (suc (suc (suc (suc (suc (suc (suc (suc (suc k)))))))))) t m a h = absurd (omega arith)
+
+no-kind : (k : ℕ) (t : Millis) (m a : ℕ) → 9 < k → stateOf k t m a ≡ Flags Any 0
+unfolding stateOf
+no-kind k t m a h =
+    simp (
+      ne-eqb k 0 (λ z. omega arith),
+      ne-eqb k 1 (λ z. omega arith),
+      ne-eqb k 2 (λ z. omega arith),
+      ne-eqb k 3 (λ z. omega arith),
+      ne-eqb k 4 (λ z. omega arith),
+      ne-eqb k 5 (λ z. omega arith),
+      ne-eqb k 6 (λ z. omega arith),
+      ne-eqb k 7 (λ z. omega arith),
+      ne-eqb k 8 (λ z. omega arith),
+      ne-eqb k 9 (λ z. omega arith),
+    )
+
+awaits-none : (k : ℕ) (t : Millis) (m a : ℕ) → k < 8 → awaitedOf (stateOf k t m a) ≡ 0
+unfolding stateOf
+awaits-none zero t m a h = refl
+awaits-none (suc zero) t m a h = refl
+awaits-none (suc (suc zero)) t m a h = refl
+awaits-none (suc (suc (suc zero))) t m a h = refl
+awaits-none (suc (suc (suc (suc zero)))) t m a h = refl
+awaits-none (suc (suc (suc (suc (suc zero))))) t m a h = refl
+awaits-none (suc (suc (suc (suc (suc (suc zero)))))) t m a h = refl
+awaits-none (suc (suc (suc (suc (suc (suc (suc zero))))))) t m a h = refl
+awaits-none (suc (suc (suc (suc (suc (suc (suc (suc k)))))))) t m a h = absurd (omega arith)
+
+awaits-some : (k : ℕ) (t : Millis) (m a : ℕ) → 8 ≤ k → k ≤ 9 → awaitedOf (stateOf k t m a) ≡ a
+unfolding stateOf
+awaits-some k t m a h l =
+    decide (eqb k 8)
+    (λ q. let z = eqb-true k 8 q in rw z refl)
+    (λ q. let z : k ≡ 9 = omega (arith, eqb-false k 8 q) in rw z refl)
+
+-- a state of a kind that waits for a number, by the kind r and the number a that were read
+module _ (k m r a : ℕ) (x : State) (e : r ≡ stateKind x) where
+  pub not-as : (k ≡ r → ⊥) → false ≡ isAs k m x
+  not-as n = sym (ap (λ (y : ℕ). eqb k y && eqb m (awaitedOf x)) (sym e) ∙ ap (λ (b : Bool). b && eqb m (awaitedOf x)) (ne-eqb k r n))
+
+  pub so-as : k ≡ r → a ≡ awaitedOf x → eqb m a ≡ isAs k m x
+  so-as q g = sym (ap (λ (y : ℕ). eqb k y && eqb m (awaitedOf x)) (sym e) ∙ ap (λ (b : Bool). b && eqb m (awaitedOf x)) (eq-eqb k r q) ∙ ap (eqb m) (sym g))
+
+module _ (s : List ℕ) (i : ℕ) (h : i < 16) where
+  abbrev told : State
+  told = getD (loadOf s .tasks) i noTask .state
+
+  same-state : told ≡ taskFrom s i .state
+  same-state = ap (λ (e : Task). e .state) (sym (task-there s i h))
+
+  module _ (k : ℕ) (e : k ≡ getD s (i * 26 + 1) 0) where
+    pub kind-there : k ≤ 9 → k ≡ stateKind told
+    kind-there l = sym (ap stateKind same-state ∙ rw (← e) (kind-some k _ _ _ l))
+
+    pub kind-none : 9 < k → 4 ≡ stateKind told
+    kind-none l = sym (ap stateKind same-state ∙ rw (← e, no-kind k _ _ _ l) refl)
+
+    pub awaited-low : k < 8 → 0 ≡ awaitedOf told
+    awaited-low l = sym (ap awaitedOf same-state ∙ rw (← e) (awaits-none k _ _ _ l))
+
+    pub awaited-high : 9 < k → 0 ≡ awaitedOf told
+    awaited-high l = sym (ap awaitedOf same-state ∙ rw (← e, no-kind k _ _ _ l) refl)
+
+    pub awaited-there : 8 ≤ k → k ≤ 9 → getD s (898 + i) 0 ≡ awaitedOf told
+    awaited-there g l = sym (ap awaitedOf same-state ∙ rw (← e) (awaits-some k _ _ _ g l))
+
+  -- its priority
+  pub level-there : (p : ℕ) → p ≡ i * 26 + 14 → getD s p 0 ≡ getD (loadOf s .tasks) i noTask .priority
+  level-there p e = let z : p ≡ i * 26 + 1 + 1 + 8 + 4 = omega arith in ap (λ (x : ℕ). getD s x 0) z ∙ ap (λ (e : Task). e .priority) (task-there s i h)
 
 -- ---- the loops: the elements of xs, of which there are m, are held to a test; x is the one that was read at place i, and
 -- d what a place past the end reads as

@@ -23,6 +23,8 @@ pub mod numbers;
 pub mod promises;
 mod reasons;
 mod ringing;
+mod sound_entries;
+mod sound_queue;
 mod stepping;
 pub mod storing;
 mod timing;
