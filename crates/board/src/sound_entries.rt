@@ -58,14 +58,14 @@ pub(crate) fn is_as(b: &[u8], i: usize, kind: u8, number: u8) -> bool
 }
 
 // The entries of the tasks keep the rules on one entry.
-pub(crate) fn entries_right(b: &[u8], count: usize, n: u8, time: Millis, flags: u32) -> bool
+pub(crate) fn entries_right(b: &[u8], count: u8, time: Millis, flags: u32) -> bool
     requires { ⌜ (length (now b) ≡ imageLength) × (count ≤ 16) ⌝ }
-    ensures { λ r. ⌜ r ≡ allOf (entryRight n (time .0) flags) (take count (loadOf (now (b .entry)) .tasks)) ⌝ }
+    ensures { λ r. ⌜ r ≡ allOf (entryRight count (time .0) flags) (take count (loadOf (now (b .entry)) .tasks)) ⌝ }
 {
     let mut i: usize = 0;
-    while i < count {
+    while i < count as usize {
         let e = loading::task_in(b, i);
-        if !rules::entry_right(e, n, time, flags) {
+        if !rules::entry_right(e, count, time, flags) {
             return false;
         }
         i += 1;
@@ -74,11 +74,11 @@ pub(crate) fn entries_right(b: &[u8], count: usize, n: u8, time: Millis, flags: 
 }
 
 // The entries past the task count are zero.
-pub(crate) fn blank_past(b: &[u8], from: usize) -> bool
-    requires { ⌜ (length (now b) ≡ imageLength) × (from ≤ 16) ⌝ }
-    ensures { λ r. ⌜ r ≡ allOf isBlank (drop from (loadOf (now (b .entry)) .tasks)) ⌝ }
+pub(crate) fn blank_past(b: &[u8], count: u8) -> bool
+    requires { ⌜ (length (now b) ≡ imageLength) × (count ≤ 16) ⌝ }
+    ensures { λ r. ⌜ r ≡ allOf isBlank (drop count (loadOf (now (b .entry)) .tasks)) ⌝ }
 {
-    let mut i = from;
+    let mut i = count as usize;
     while i < 16 {
         let e = loading::task_in(b, i);
         if !rules::is_blank(e) {

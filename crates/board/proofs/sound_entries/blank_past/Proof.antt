@@ -1,5 +1,5 @@
 -- `sound_entries::blank_past` meets its contract. The invariant: what is left decides.
-use mathlib.Core.Path.{_≡_, refl, sym, ap, _∙_}
+use mathlib.Core.Path.{_≡_, refl, sym, _∙_}
 use native.Mathlib.Omega.{arith}
 use borrow.Author.Needs.{needs}
 use denote.Ref.{now}
@@ -15,10 +15,10 @@ use Rattle.board.proofs.sound_entries.blank_past.Statement.{statement}
 use Rattle.board.proofs.sound_entries.blank_past.Tie as tie
 
 abbrev Inv-loop : tie.InvT-loop
-Inv-loop b from i₀ i = (i ≤ 16) × (allOf isBlank (drop i (loadOf b .tasks)) ≡ allOf isBlank (drop from (loadOf b .tasks)))
+Inv-loop b count i₀ i = (i ≤ 16) × (allOf isBlank (drop i (loadOf b .tasks)) ≡ allOf isBlank (drop count (loadOf b .tasks)))
 
 abbrev μ-loop : tie.MeasureT-loop
-μ-loop b from i₀ i = 16 - i
+μ-loop b count i₀ i = 16 - i
 
 loop-holds : tie.Need-loop-holds Inv-loop μ-loop
 loop-holds c = (c .before .pre .1, refl)

@@ -1,5 +1,5 @@
 -- `sound_entries::entries_right` meets its contract. The invariant: what is left decides.
-use mathlib.Core.Path.{_≡_, refl, sym, ap, _∙_}
+use mathlib.Core.Path.{_≡_, refl, sym, _∙_}
 use native.Mathlib.Omega.{arith}
 use borrow.Author.Needs.{needs}
 use denote.Ref.{now}
@@ -15,10 +15,10 @@ use Rattle.board.proofs.sound_entries.entries_right.Statement.{statemen
 use Rattle.board.proofs.sound_entries.entries_right.Tie as tie
 
 abbrev Inv-loop : tie.InvT-loop
-Inv-loop b count n time flags i₀ i = (i ≤ count) × (allOf (entryRight n (time .0) flags) (drop i (take count (loadOf b .tasks))) ≡ allOf (entryRight n (time .0) flags) (take count (loadOf b .tasks)))
+Inv-loop b count time flags i₀ i = (i ≤ count) × (allOf (entryRight count (time .0) flags) (drop i (take count (loadOf b .tasks))) ≡ allOf (entryRight count (time .0) flags) (take count (loadOf b .tasks)))
 
 abbrev μ-loop : tie.MeasureT-loop
-μ-loop b count n time flags i₀ i = count - i
+μ-loop b count time flags i₀ i = count - i
 
 loop-holds : tie.Need-loop-holds Inv-loop μ-loop
 loop-holds c = (omega arith, refl)
@@ -34,7 +34,7 @@ returns c =
     let s = now (c .before .before .before .before .before .before .args .b) in
     let v = c .before .before .before .before .loop in
     let g = c .before .before .before .before .before .before .pre .1 in
-    sym (sym (v .inv .1) ∙ read-first-not (entryRight (c .before .before .before .before .before .before .args .n) (c .before .before .before .before .before .before .args .time .0) (c .before .before .before .before .before .before .args .flags)) noTask (loadOf s .tasks) 16 (tasks-size s) (v .i) (c .before .before .before .before .before .before .args .count) g (c .before .before .task-in .result) (c .before .before .before .loop-test .taken) (c .before .before .task-in .ensures ∙ task-there s (v .i) (omega arith)) (sym (c .before .entry-right .ensures) ∙ not-true _ (c .if1 .taken)))
+    sym (sym (v .inv .1) ∙ read-first-not (entryRight (c .before .before .before .before .before .before .args .count) (c .before .before .before .before .before .before .args .time .0) (c .before .before .before .before .before .before .args .flags)) noTask (loadOf s .tasks) 16 (tasks-size s) (v .i) (c .before .before .before .before .before .before .args .count) g (c .before .before .task-in .result) (c .before .before .before .loop-test .taken) (c .before .before .task-in .ensures ∙ task-there s (v .i) (omega arith)) (sym (c .before .entry-right .ensures) ∙ not-true _ (c .if1 .taken)))
 
 add-i : tie.Need-add-i Inv-loop μ-loop
 add-i c = omega (arith, c .before .before .before .before .before .before .pre .1)
@@ -47,13 +47,13 @@ loop-again c =
     let s = now (c .before .before .before .before .before .before .args .b) in
     let v = c .before .before .before .before .loop in
     let g = c .before .before .before .before .before .before .pre .1 in
-    (omega arith, read-first-turn (entryRight (c .before .before .before .before .before .before .args .n) (c .before .before .before .before .before .before .args .time .0) (c .before .before .before .before .before .before .args .flags)) noTask (loadOf s .tasks) 16 (tasks-size s) (v .i) (c .before .before .before .before .before .before .args .count) g (c .before .before .task-in .result) (c .before .before .before .loop-test .taken) (c .before .before .task-in .ensures ∙ task-there s (v .i) (omega arith)) (sym (c .before .entry-right .ensures) ∙ not-false _ (c .if1 .left)) ∙ v .inv .1)
+    (omega arith, read-first-turn (entryRight (c .before .before .before .before .before .before .args .count) (c .before .before .before .before .before .before .args .time .0) (c .before .before .before .before .before .before .args .flags)) noTask (loadOf s .tasks) 16 (tasks-size s) (v .i) (c .before .before .before .before .before .before .args .count) g (c .before .before .task-in .result) (c .before .before .before .loop-test .taken) (c .before .before .task-in .ensures ∙ task-there s (v .i) (omega arith)) (sym (c .before .entry-right .ensures) ∙ not-false _ (c .if1 .left)) ∙ v .inv .1)
 
 returns-2 : tie.Need-returns-2 Inv-loop μ-loop
 returns-2 c =
     let s = now (c .before .before .before .args .b) in
     let v = c .before .loop in
-    sym (read-first-end (entryRight (c .before .before .before .args .n) (c .before .before .before .args .time .0) (c .before .before .before .args .flags)) noTask (loadOf s .tasks) 16 (tasks-size s) (v .i) (c .before .before .before .args .count) (c .before .before .before .pre .1) (c .loop-test .left)) ∙ v .inv .1
+    sym (read-first-end (entryRight (c .before .before .before .args .count) (c .before .before .before .args .time .0) (c .before .before .before .args .flags)) noTask (loadOf s .tasks) 16 (tasks-size s) (v .i) (c .before .before .before .args .count) (c .before .before .before .pre .1) (c .loop-test .left)) ∙ v .inv .1
 
 pub entries-right-spec : {M : Type 1} → statement M
 entries-right-spec =

@@ -1,12 +1,9 @@
 -- `sound_entries::is_as` meets its contract.
-use mathlib.Core.Path.{_≡_, refl, sym, ap, _∙_}
-use native.Mathlib.Omega.{arith}
 use denote.Ref.{now}
 use Rattle.board.specs.Image.{loadOf}
 use Rattle.board.proofs.Loaded.{not-as, so-as}
 use lib.ListN.{getD}
 use Rattle.executive.specs.Places.{noTask}
-use borrow.Author.Needs.{needs}
 use Rattle.board.proofs.sound_entries.is_as.Statement.{statement}
 use Rattle.board.proofs.sound_entries.is_as.Tie as tie
 

@@ -1,7 +1,6 @@
 -- `sound_queue::blank_from` meets its contract. The invariant: what is left decides.
-use mathlib.Core.Path.{_≡_, refl, sym, ap, _∙_}
+use mathlib.Core.Path.{_≡_, refl, sym, _∙_}
 use native.Mathlib.Omega.{arith}
-use borrow.Author.Needs.{needs}
 use denote.Ref.{now}
 use Prim.Native.Nat.{_+_, _≤_, _-_}
 use lib.ListN.{drop}

@@ -1,7 +1,5 @@
 -- `sound_queue::queue_right` meets its contract: the walk, the word and the set decide.
-use mathlib.Core.Path.{_≡_, refl, sym, ap, _∙_}
 use native.Mathlib.Omega.{arith}
-use borrow.Author.Needs.{needs}
 use denote.Ref.{now}
 use borrow.Author.Tests.{not-true, not-false}
 use Rattle.board.proofs.SoundParts.{queue-many, queue-long, queue-wrong, queue-unlit, queue-other, queue-last}

@@ -1,7 +1,6 @@
 -- `sound_queue::set_of` meets its contract. The invariant: it is the set of those who came before.
-use mathlib.Core.Path.{_≡_, refl, sym, ap, _∙_}
+use mathlib.Core.Path.{_≡_}
 use native.Mathlib.Omega.{arith}
-use borrow.Author.Needs.{needs}
 use denote.Ref.{now}
 use Rattle.board.specs.Image.{loadOf}
 use Prim.Native.Nat.{_≤_, _-_}

@@ -1,5 +1,4 @@
 -- `sound_queue::walk` meets its contract. The invariant is `Walking`.
-use mathlib.Core.Path.{_≡_, refl, sym, ap, _∙_}
 use native.Mathlib.Omega.{arith}
 use borrow.Author.Needs.{needs}
 use denote.Ref.{now}

@@ -1,8 +1,5 @@
 -- `sound_queue::with_bit` meets its contract.
-use mathlib.Core.Path.{_≡_, refl, sym, ap, _∙_}
-use native.Mathlib.Omega.{arith}
-use denote.Ref.{now}
-use borrow.Author.Needs.{needs}
+use mathlib.Core.Path.{refl}
 use Rattle.board.proofs.sound_queue.with_bit.Statement.{statement}
 use Rattle.board.proofs.sound_queue.with_bit.Tie as tie
 
