@@ -29,5 +29,11 @@ pub mod Answered
 pub mod Explained
 pub mod Histories
 pub mod Shown
+pub mod Rows
+pub mod Noughts
+pub mod Named
+pub mod KindsRead
+pub mod LinesRead
+pub mod PostRead
 pub mod Assured
 pub mod Owned

@@ -24,11 +24,15 @@ pub mod promises;
 mod reasons;
 mod ringing;
 mod sound_entries;
+mod sound_pool;
+mod sound_post;
 mod sound_queue;
+mod sound_subs;
 mod stepping;
 pub mod storing;
 mod timing;
 mod waking;
+mod zeros;
 
 // The board's own number: a buffer that is to be written to has not the length it needs. It is judged before any
 // other number.

@@ -16,7 +16,7 @@ fn pair(a: u8, b: u8) -> u16
 }
 
 // The number of four bytes, the first the highest.
-fn word(a: u8, b: u8, c: u8, d: u8) -> u32
+pub(crate) fn word(a: u8, b: u8, c: u8, d: u8) -> u32
     ensures { λ r. ⌜ r ≡ numberOf (a ∷ b ∷ c ∷ d ∷ []) ⌝ }
 {
     (((a as u32) * 256 + (b as u32)) * 256 + (c as u32)) * 256 + (d as u32)

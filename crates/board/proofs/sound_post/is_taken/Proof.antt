@@ -1,0 +1,51 @@
+use native.Mathlib.Omega.{arith}
+use denote.Ref.{now}
+use borrow.Author.Needs.{needs}
+use Rattle.board.proofs.KindsRead.{taken-none, taken-not, taken-any, taken-one}
+use Rattle.board.proofs.sound_post.is_taken.Statement.{statement}
+use Rattle.board.proofs.sound_post.is_taken.Tie as tie
+
+place-requires : tie.Need-place-requires
+place-requires c κs = search needs
+
+returns : tie.Need-returns
+returns c = taken-none (now (c .before .before .before .args .b)) (c .before .before .before .args .to) _ (c .before .place .ensures) (c .before .before .before .args .sender) (c .if1 .taken)
+
+mul-if2 : tie.Need-mul-if2
+mul-if2 c = search needs
+
+add-if2 : tie.Need-add-if2
+add-if2 c = search needs
+
+shared-slice-read-if2 : tie.Need-shared-slice-read-if2
+shared-slice-read-if2 c = search needs
+
+returns-2 : tie.Need-returns-2
+returns-2 c = taken-not (now (c .before .before .before .before .before .args .b)) (c .before .before .before .before .before .args .to) _ (c .before .before .before .place .ensures) (c .before .before .before .before .before .args .sender) (omega (arith, c .before .before .if1 .left)) (c .if2 .taken)
+
+add-from : tie.Need-add-from
+add-from c = search needs
+
+shared-slice-read-from : tie.Need-shared-slice-read-from
+shared-slice-read-from c = search needs
+
+returns-3 : tie.Need-returns-3
+returns-3 c = taken-any (now (c .before .before .before .before .before .before .before .args .b)) (c .before .before .before .before .before .before .before .args .to) _ (c .before .before .before .before .before .place .ensures) (c .before .before .before .before .before .before .before .args .sender) (omega (arith, c .before .before .before .before .if1 .left)) (c .before .before .if2 .left) (c .if3 .taken)
+
+returns-4 : tie.Need-returns-4
+returns-4 c = taken-one (now (c .before .before .before .before .before .before .before .args .b)) (c .before .before .before .before .before .before .before .args .to) _ (c .before .before .before .before .before .place .ensures) (c .before .before .before .before .before .before .before .args .sender) (omega (arith, c .before .before .before .before .if1 .left)) (c .before .before .if2 .left) (c .if3 .left)
+
+pub is-taken-spec : {M : Type 1} → statement M
+is-taken-spec =
+    tie.close
+    (tie.spec
+    place-requires
+    returns
+    mul-if2
+    add-if2
+    shared-slice-read-if2
+    returns-2
+    add-from
+    shared-slice-read-from
+    returns-3
+    returns-4)
