@@ -23,6 +23,7 @@ pub mod numbers;
 pub mod promises;
 mod reasons;
 mod ringing;
+mod sound;
 mod sound_entries;
 mod sound_pool;
 mod sound_post;
