@@ -18,10 +18,7 @@ use Rattle.executive.specs.Queue.{count}
 use Rattle.executive.specs.Messages.{noMail, withMail}
 use Rattle.executive.specs.Table.{ArraysInOrder, FindsRoom, InFlight, Join, Out, view, levelsOf, relit, depart, departed, entered, passedBy, withRest, begin, enterInFlight, enterAllInFlight, litInFlight, applyInFlight}
 use Rattle.executive.specs.Decisions.{named, outFor, goneAs, changeFor, joinsFor, changed, meant, Doable}
-use Rattle.executive.proofs.decisions.Listing.{blank, enter-turn, find-turn, enter-end}
-use Rattle.board.proofs.Lent.Leaving.{left-gone, depart-rest, changed-neat, done-is}
-use Rattle.executive.proofs.levels.OnTheWay.{lit-same}
-use Rattle.board.proofs.Lent.InFlight.{begin-flying, depart-fit, finds-beside, fewer-flying, enter-flying, lit-on-the-way, lit-flying}
+use Rattle.executive.proofs.Assured.{blank, enter-turn, find-turn, enter-end, left-gone, depart-rest, changed-neat, done-is, lit-same, begin-flying, depart-fit, finds-beside, fewer-flying, enter-flying, lit-on-the-way, lit-flying}
 use Rattle.board.specs.Laid.{Laid}
 
 -- ---- those who are still to enter, from a table on the way that the bytes are the image of, w being passed over so far: the

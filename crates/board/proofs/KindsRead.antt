@@ -14,8 +14,7 @@ use Rattle.executive.specs.Lists.{_and_}
 use Rattle.executive.specs.Places.{taskAt, entryPlace}
 use Rattle.executive.specs.States.{stateKind, stateOf, isOf, isDormant, takes, takesFrom}
 use Rattle.executive.specs.Check.{awaitsAny}
-use Rattle.executive.proofs.check.Passes.{at-next}
-use Rattle.executive.proofs.places.TaskAt.{at-no-place}
+use Rattle.executive.proofs.Assured.{at-next, at-no-place}
 use Rattle.board.specs.Image.{taskFrom}
 use Rattle.board.specs.Sound.{tasksIn}
 use Rattle.board.proofs.Alike.{decide}

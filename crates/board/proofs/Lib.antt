@@ -6,7 +6,6 @@ pub mod Alike
 pub mod Images
 pub mod Trips
 pub mod Canonical
-pub mod Lent
 pub mod Loaded
 pub mod Marked
 pub mod SoundParts

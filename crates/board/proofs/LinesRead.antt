@@ -15,8 +15,7 @@ use Rattle.executive.specs.Places.{taskAt}
 use Rattle.executive.specs.States.{awaitStart, awaitEnd, awaitSub, isDormant, isAs, waitsFor}
 use Rattle.executive.specs.WellFormed.{startsOf, endsOf, runsOf}
 use Rattle.executive.specs.Check.{requestInRange, requestFits, requestRight, waitersAt, awaitsAny, waitsForNone, isNobody, falls, exactAt, lineRight, holderRight, subInRange, subRight, heldRight}
-use Rattle.executive.proofs.Lists.Tests.{and-true, and-false-left, and-true-left}
-use Rattle.executive.proofs.check.Subprograms.{placeless, heldFrom, held-turn, held-not, free-right}
+use Rattle.executive.proofs.Assured.{and-true, and-false-left, and-true-left, placeless, heldFrom, held-turn, held-not, free-right}
 use Rattle.board.specs.Image.{taskFrom, requestFrom, lineFrom, subFrom, loadOf}
 use Rattle.board.specs.Sound.{noughts, tasksIn, poolIn, subsIn, namings, namesIn, setOf, waitsAs, namesOther}
 use Rattle.board.specs.Marks.{passed, Marked, Walks}

@@ -21,8 +21,7 @@ use Rattle.executive.specs.Places.{nobody, never, noTask, noRequest, taskAt, en
 use Rattle.executive.specs.States.{stateKind, awaitedOf, stateOf, isAs}
 use Rattle.executive.specs.Subprograms.{noSub}
 use Rattle.executive.specs.Messages.{noMessage, noMail}
-use Rattle.executive.proofs.Lists.Loops.{every-turn, every-not, every-end, first-turn, first-not, first-end}
-use Rattle.executive.proofs.places.TaskAt.{at-place}
+use Rattle.executive.proofs.Assured.{every-turn, every-not, every-end, first-turn, first-not, first-end, at-place}
 use Rattle.board.specs.Image.{taskFrom, placeFrom, lineFrom, alarmFrom, requestFrom, subFrom, messageFrom, mailFrom, loadOf}
 use Rattle.board.proofs.Alike.{decide}
 use Rattle.board.proofs.Spans.{length-blocks, block-at}

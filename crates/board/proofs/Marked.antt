@@ -20,12 +20,7 @@ use Rattle.executive.specs.Places.{nobody, noTask, taskAt, entryPlace}
 use Rattle.executive.specs.Table.{items, levelBit, levelsOf}
 use Rattle.executive.specs.Flags.{isSet}
 use Rattle.executive.specs.Check.{falls, standsIn, exactAt}
-use Rattle.executive.proofs.Lists.Loops.{one-le, all-not, all-get, all-make}
-use Rattle.executive.proofs.Lists.Tests.{false-not-true, and-false-left, and-false-right}
-use Rattle.executive.proofs.Lists.Sums.{sum-append, sum-snoc}
-use Rattle.board.proofs.Lent.Bits.{set-none, set-or, set-same, set-only, set-within, same-bits}
-use Rattle.executive.proofs.check.Passes.{same}
-use Rattle.executive.proofs.check.Descent.{falls-turn, falls-off, falls-over, falls-end, word-on, word-end}
+use Rattle.executive.proofs.Assured.{one-le, all-not, all-get, all-make, false-not-true, and-false-left, and-false-right, sum-append, sum-snoc, set-none, set-or, set-same, set-only, set-within, same-bits, same, falls-turn, falls-off, falls-over, falls-end, word-on, word-end}
 use Rattle.board.specs.Image.{lineFrom, loadOf}
 use Rattle.board.specs.Marks.{stood, passed, Marked, Walks}
 use Rattle.board.proofs.Alike.{decide}

@@ -13,7 +13,7 @@ use Rattle.executive.specs.declared.Task.{Task}
 use Rattle.executive.specs.declared.Table.{Table}
 use Rattle.executive.specs.Places.{nobody, never, noTask, taskAt, entryPlace}
 use Rattle.executive.specs.States.{stateKind, timeOf, maskOf, awaitedOf}
-use Rattle.executive.proofs.places.TaskAt.{at-place, at-no-place}
+use Rattle.executive.proofs.Assured.{at-place, at-no-place}
 use Rattle.board.specs.Blocks.{row, Each}
 use Rattle.board.specs.Image.{taskBytes, placeBytes, headBytes, alarmBytes, awaitedBytes, taskWidths, awaitedWidths, taskNumbers, awaitedNumbers, taskOf, taskFrom}
 use Rattle.board.specs.Laid.{Laid}

@@ -28,12 +28,7 @@ use Rattle.executive.specs.Flags.{withFlags}
 use Rattle.executive.specs.Subprograms.{noSub, subAt, lineOf, LineInOrder, entersIt, joinsLine, handedOn, withSub}
 use Rattle.executive.specs.Messages.{noMessage, letters, LettersInOrder, withLetters, putInAt, withMail}
 use Rattle.executive.specs.Decisions.{firstDue}
-use Rattle.executive.proofs.Lists.Slid.{slid-length}
-use Rattle.executive.proofs.Lists.Loops.{each-turn, each-end}
-use Rattle.board.proofs.Lent.Alarms.{ringing, ring-on}
-use Rattle.board.proofs.Lent.Arrays.{made-without, made-posted, mail-place, mail-no-place}
-use Rattle.board.proofs.Lent.ArraysAreLists.{take-le, made-removed, made-queued, head-taken}
-use Rattle.board.proofs.Lent.InLine.{made-joined, made-handed, made-free}
+use Rattle.executive.proofs.Assured.{slid-length, each-turn, each-end, ringing, ring-on, made-without, made-posted, mail-place, mail-no-place, take-le, made-removed, made-queued, head-taken, made-joined, made-handed, made-free}
 use Rattle.executive.specs.WellFormed.{Sizes}
 use Rattle.board.specs.Blocks.{row, Each, written}
 use Rattle.board.specs.Image.{placeBytes, requestBytes, subBytes, messageBytes, mailBytes, subLength}

@@ -16,10 +16,7 @@ use Rattle.executive.specs.States.{ready, isAs, isReady}
 use Rattle.executive.specs.Table.{items, levelsOf}
 use Rattle.executive.specs.Check.{isNobody, falls, exactAt, lineRight, queueRight, isBlank, inBounds, alarmRight, entryRight}
 use Rattle.executive.specs.Check.{askedRight, heldRight, sentRight, mailRight, inPasses, isWellFormed}
-use Rattle.executive.proofs.Lists.Tests.{and-true, true-and}
-use Rattle.executive.proofs.Lists.Loops.{both}
-use Rattle.executive.proofs.check.Blanks.{blank-is}
-use Rattle.executive.proofs.check.Passes.{ready-exact, sized}
+use Rattle.executive.proofs.Assured.{and-true, true-and, both, blank-is, ready-exact, sized}
 use Rattle.board.specs.Image.{lineFrom, loadOf}
 use Rattle.board.specs.Marks.{passed, Marked, Walks}
 use Rattle.board.proofs.Alike.{decide, never}

@@ -28,12 +28,11 @@ use Rattle.executive.specs.Deciding.{decisionFor}
 use Rattle.executive.specs.Step.{noTable, answerOf, hasV, refused, stepOf}
 use Rattle.executive.specs.Sheet.{marks}
 use Rattle.executive.specs.Promises.ByDecision.{done, enacted}
-use Rattle.executive.proofs.Assured.{demands, by-decision, queue-right, can-be-done}
+use Rattle.executive.proofs.Assured.{demands, by-decision, queue-right, can-be-done, head-taken}
 use Rattle.board.specs.Blocks.{blocks}
 use Rattle.board.specs.Image.{imageLength, imageOf, loadOf, isImage, taskFrom, placeFrom, alarmFrom, requestFrom, subFrom, messageFrom, mailFrom}
 use Rattle.board.specs.EntryPoints.{answerTo, imageAfter, Holds}
 use Rattle.board.specs.Laid.{Laid}
-use Rattle.board.proofs.Lent.ArraysAreLists.{head-taken}
 use Rattle.board.proofs.Spans.{each-or, length-blocks}
 use Rattle.board.proofs.Trips.{each-block, image-parts}
 use Rattle.board.proofs.ReadOff.{place-read, ready-read}

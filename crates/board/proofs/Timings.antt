@@ -23,7 +23,7 @@ use Rattle.executive.specs.Flags.{isSet, flagSet}
 use Rattle.executive.specs.Plans.{holds, timed}
 use Rattle.executive.specs.Decisions.{raisedAll, rising, deed, alone, noDeed, rungIn, setDeed, flagDeed, alarmDeed, tickDeed, refusing, doing}
 use Rattle.executive.specs.Sheet.{marks, flagMarks, decided}
-use Rattle.board.proofs.Lent.Ticking.{ticks}
+use Rattle.executive.proofs.Assured.{ticks}
 
 pub set-is : (ts : List Task) (fs : ℕ) (f : FlagNo) (m : ℕ) → m ≡ flagSet fs (f .0) → deed leave.Stays (rising (holds m) 1 ts) noRequest (change.Flags m) ≡ setDeed ts fs f
 unfolding setDeed

@@ -6,7 +6,7 @@ use Rattle.executive.specs.declared.Table.{Table}
 use Rattle.executive.specs.Pool.{PoolInOrder}
 use Rattle.executive.specs.Table.{applyInFlight, enterAllInFlight, litInFlight, FindsRoom, begin, depart, relit}
 use Rattle.executive.specs.Decisions.{Able, outFor, joinsFor, named, meant}
-use Rattle.board.proofs.Lent.Leaving.{depart-rest}
+use Rattle.executive.proofs.Assured.{depart-rest}
 use Rattle.board.specs.Laid.{Laid, withPool}
 use Rattle.board.proofs.Parts.{onto}
 use Rattle.board.proofs.ReadOff.{clock-read}

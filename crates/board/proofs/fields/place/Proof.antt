@@ -1,5 +1,5 @@
 use native.Mathlib.Omega.{arith}
-use Rattle.executive.proofs.places.TaskAt.{place-none, place-past, place-task}
+use Rattle.executive.proofs.Assured.{place-none, place-past, place-task}
 use borrow.Author.Needs.{needs}
 use Rattle.board.proofs.fields.place.Statement.{statement}
 use Rattle.board.proofs.fields.place.Tie as tie

@@ -6,7 +6,7 @@ use native.Mathlib.Omega.{arith}
 use lib.Bits.{bitAnd, and-mask}
 use borrow.Author.Needs.{needs}
 use Rattle.executive.specs.Numbers.{longest}
-use Rattle.board.proofs.Lent.Intervals.{turned, step-within}
+use Rattle.executive.proofs.Assured.{turned, step-within}
 use Rattle.board.proofs.intervals.added_up.Statement.{statement}
 use Rattle.board.proofs.intervals.added_up.Tie as tie
 

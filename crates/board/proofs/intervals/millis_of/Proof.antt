@@ -2,7 +2,7 @@ use mathlib.Core.Path.{refl}
 use native.Mathlib.Omega.{arith}
 use borrow.Author.Needs.{needs}
 use Rattle.executive.specs.Clock.{interval}
-use Rattle.board.proofs.Lent.Intervals.{interval-most}
+use Rattle.executive.proofs.Assured.{interval-most}
 use Rattle.board.proofs.intervals.millis_of.Statement.{statement}
 use Rattle.board.proofs.intervals.millis_of.Tie as tie
 

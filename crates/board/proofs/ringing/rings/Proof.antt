@@ -10,8 +10,7 @@ use Rattle.executive.specs.Lists.{nextOf, each}
 use Rattle.executive.specs.Places.{never}
 use Rattle.executive.specs.Clock.{isDue}
 use Rattle.executive.specs.Decisions.{rungIn}
-use Rattle.executive.proofs.Assured.{each-end}
-use Rattle.board.proofs.Lent.Alarms.{in-on, in-turn}
+use Rattle.executive.proofs.Assured.{each-end, in-on, in-turn}
 use Rattle.board.proofs.ringing.rings.Statement.{statement}
 use Rattle.board.proofs.ringing.rings.Tie as tie
 

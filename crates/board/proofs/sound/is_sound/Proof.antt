@@ -6,7 +6,7 @@ use denote.Ref.{now}
 use Rattle.board.specs.Image.{loadOf}
 use lib.ListN.{getD}
 use borrow.Author.Tests.{not-true, not-false}
-use Rattle.executive.proofs.check.RuleByRule.{bounds-get}
+use Rattle.executive.proofs.Assured.{bounds-get}
 use Rattle.board.proofs.Alike.{never}
 use Rattle.board.proofs.Loaded.{ready-there, count-there, granule-there, queued-there, clock-there, flags-there, sent-there}
 use Rattle.board.proofs.SoundParts.{not-sound, sound-last}

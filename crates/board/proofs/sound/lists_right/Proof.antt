@@ -4,7 +4,7 @@ use denote.Ref.{now}
 use Rattle.board.specs.Image.{loadOf}
 use borrow.Author.Tests.{not-true, not-false}
 use Rattle.executive.specs.Check.{askedRight, heldRight, sentRight}
-use Rattle.executive.proofs.Lists.Tests.{and-false-left, and-true-left}
+use Rattle.executive.proofs.Assured.{and-false-left, and-true-left}
 use Rattle.board.proofs.sound.lists_right.Statement.{statement}
 use Rattle.board.proofs.sound.lists_right.Tie as tie
 

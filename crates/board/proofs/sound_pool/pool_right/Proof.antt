@@ -6,7 +6,7 @@ use lib.ListN.{take}
 use Rattle.executive.specs.Lists.{allOf}
 use Rattle.executive.specs.Check.{requestRight}
 use Rattle.board.specs.Sound.{tasksIn, poolIn}
-use Rattle.executive.proofs.Lists.Tests.{and-false-left, and-false-right, and-true-left}
+use Rattle.executive.proofs.Assured.{and-false-left, and-false-right, and-true-left}
 use Rattle.board.proofs.Noughts.{pool-nought}
 use Rattle.board.proofs.sound_pool.pool_right.Statement.{statement}
 use Rattle.board.proofs.sound_pool.pool_right.Tie as tie

@@ -9,7 +9,7 @@ use lib.ListN.{take, drop}
 use Rattle.executive.specs.Lists.{allOf}
 use Rattle.executive.specs.Places.{noRequest}
 use Rattle.executive.specs.Check.{requestRight}
-use Rattle.executive.proofs.check.Passes.{fits-not}
+use Rattle.executive.proofs.Assured.{fits-not}
 use Rattle.board.specs.Sound.{tasksIn, poolIn}
 use Rattle.board.proofs.LinesRead.{request-kept}
 use Rattle.board.proofs.Loaded.{pool-size, request-there, read-first-turn, read-first-not, read-first-end}

@@ -6,7 +6,7 @@ use denote.Ref.{now}
 use borrow.Author.Needs.{needs}
 use Rattle.executive.specs.Lists.{upTo}
 use Rattle.executive.specs.States.{awaitStart, awaitEnd}
-use Rattle.executive.proofs.Lists.Loops.{all-none, all-more}
+use Rattle.executive.proofs.Assured.{all-none, all-more}
 use Rattle.board.specs.Sound.{setOf, tasksIn, waitsAs, namesOther}
 use Rattle.board.proofs.Named.{set-turn, itself-named, other-named, starts-differ, starts-agree}
 use Rattle.board.proofs.KindsRead.{kind-there, waiter-there}

@@ -10,7 +10,7 @@ use Rattle.board.specs.Sound.{tasksIn, messagesIn}
 use Rattle.board.proofs.PostRead.{letter-out, letter-high, letter-taken, letter-on}
 use Rattle.board.proofs.Loaded.{messages-size, message-there}
 use mathlib.Core.Bool.{not}
-use Rattle.executive.proofs.check.Messages.{right-over}
+use Rattle.executive.proofs.Assured.{right-over}
 use Rattle.board.proofs.sound_post.letters_right.Statement.{statement}
 use Rattle.board.proofs.sound_post.letters_right.Tie as tie
 

@@ -6,7 +6,7 @@ use denote.Ref.{now}
 use borrow.Author.Tests.{not-true, not-false}
 use Rattle.executive.specs.Lists.{upTo}
 use Rattle.executive.specs.Check.{mailRightAt}
-use Rattle.executive.proofs.Lists.Loops.{all-none, all-more, all-not}
+use Rattle.executive.proofs.Assured.{all-none, all-more, all-not}
 use Rattle.board.specs.Sound.{tasksIn, mailIn}
 use Rattle.board.proofs.PostRead.{no-mail-right}
 use Rattle.board.proofs.sound_post.mail_right.Statement.{statement}

@@ -2,7 +2,7 @@ use mathlib.Core.Path.{sym, _∙_}
 use native.Mathlib.Omega.{arith}
 use denote.Ref.{now}
 use borrow.Author.Tests.{not-true, not-false, le-leb, lt-leb}
-use Rattle.executive.proofs.Lists.Tests.{and-false-left, and-true-left}
+use Rattle.executive.proofs.Assured.{and-false-left, and-true-left}
 use Rattle.board.proofs.Noughts.{messages-nought}
 use Rattle.board.proofs.sound_post.sent_right.Statement.{statement}
 use Rattle.board.proofs.sound_post.sent_right.Tie as tie

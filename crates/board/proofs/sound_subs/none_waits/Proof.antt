@@ -5,7 +5,7 @@ use native.Mathlib.Omega.{arith}
 use denote.Ref.{now}
 use Rattle.executive.specs.Lists.{upTo}
 use Rattle.executive.specs.Check.{waitsForNone}
-use Rattle.executive.proofs.Lists.Loops.{all-none, all-more, all-not}
+use Rattle.executive.proofs.Assured.{all-none, all-more, all-not}
 use Rattle.board.specs.Sound.{tasksIn}
 use Rattle.board.proofs.LinesRead.{waits-none}
 use Rattle.board.proofs.sound_subs.none_waits.Statement.{statement}

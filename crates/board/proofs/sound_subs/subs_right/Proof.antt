@@ -6,7 +6,7 @@ use borrow.Author.Needs.{needs}
 use borrow.Author.Tests.{not-true, not-false}
 use Rattle.board.specs.Sound.{tasksIn, subsIn}
 use Rattle.executive.specs.Check.{heldRight}
-use Rattle.executive.proofs.check.Subprograms.{heldFrom, held-first, held-end}
+use Rattle.executive.proofs.Assured.{heldFrom, held-first, held-end}
 use Rattle.board.proofs.LinesRead.{held-on, held-off, all-free}
 use Rattle.board.proofs.Loaded.{subs-size}
 use Rattle.board.proofs.sound_subs.subs_right.Statement.{statement}

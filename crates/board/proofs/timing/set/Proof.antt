@@ -6,7 +6,7 @@ use lib.Bits.{bitOr}
 use lib.ListN.{length}
 use Rattle.executive.specs.Plans.{holds}
 use Rattle.executive.specs.Decisions.{rising}
-use Rattle.executive.proofs.decisions.ByTime.{rising-few}
+use Rattle.executive.proofs.Assured.{rising-few}
 use Rattle.board.proofs.Timings.{set-is}
 use borrow.Author.Needs.{needs}
 use Rattle.board.proofs.timing.set.Statement.{statement}
