@@ -1,5 +1,5 @@
-# How a command reads its file: sourced by ./bench, ./table and ./why. Whoever sources it has refuse, the repository's
-# folder in root, and what it is called in who.
+# How a command reads its file: sourced by ./bench, ./table, ./why and ./mend. Whoever sources it has refuse, the
+# repository's folder in root, and what it is called in who.
 
 # work_folder: makes work, a temporary folder, which is gone when the command ends.
 work_folder() {
