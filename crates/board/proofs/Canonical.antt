@@ -15,7 +15,7 @@ use Rattle.records.proofs.Assured.{promises}
 use Rattle.executive.specs.declared.Millis.{Millis}
 use Rattle.executive.specs.declared.State.{State}
 use Rattle.executive.specs.declared.Task.{Task}
-use Rattle.executive.specs.States.{stateKind, timeOf, maskOf, awaitedOf, stateOf}
+use Rattle.executive.specs.States.{stateKind, timeOf, maskOf, awaitedOf}
 use Rattle.executive.specs.Places.{noTask}
 use Rattle.board.specs.Blocks.{row, blocks}
 use Rattle.board.specs.Image.{taskWidths, placeWidths, headWidths, alarmWidths, requestWidths, levelsWidths, awaitedWidths, subWidths}
@@ -36,7 +36,7 @@ pub record Are (x : State) (kind time mask number : ℕ) : Type 0 where
   pub number-is : awaitedOf x ≡ number
 
 module _ (x : State) (k t m n : ℕ) where
-  are : areOf x k t m n ≡ true → Are x k t m n
+  pub are : areOf x k t m n ≡ true → Are x k t m n
   unfolding areOf
   are e =
       decide (eqb (stateKind x) k)
@@ -51,7 +51,7 @@ module _ (x : State) (k t m n : ℕ) where
       (λ b. let z : false ≡ true = rw (a, b) at e in absurd (never z)))
       (λ a. let z : false ≡ true = rw a at e in absurd (never z))
 
-  are-told : Are x k t m n → areOf x k t m n ≡ true
+  pub are-told : Are x k t m n → areOf x k t m n ≡ true
   unfolding areOf
   are-told z = rw (eq-eqb (stateKind x) k (z .kind-is), eq-eqb (timeOf x .0) t (z .time-is), eq-eqb (maskOf x) m (z .mask-is)) (eq-eqb (awaitedOf x) n (z .number-is))
 
@@ -96,10 +96,10 @@ module _ (s : List ℕ) where
     parted (suc n) k l = let z : k + suc n ≡ suc k + n = omega arith in rw z (ap (λ t. getD s k 0 ∷ t) (parted n (suc k) (omega arith)) ∙ sym (drop-cons s k 0 (omega arith)))
 
   module _ (h : Bytes s) where
-    task-again : (i : ℕ) → Canonical i → taskBytes (taskFrom s i) ≡ part taskLength (i * taskLength) s
+    pub task-again : (i : ℕ) → Canonical i → taskBytes (taskFrom s i) ≡ part taskLength (i * taskLength) s
     task-again i c = rw (c .kind-is, c .time-is, c .mask-is) (promises .lay-cut s h taskWidths (i * taskLength))
 
-    awaited-again : (i : ℕ) → Canonical i → awaitedBytes (taskFrom s i) ≡ part 1 (awaitedAt + i) s
+    pub awaited-again : (i : ℕ) → Canonical i → awaitedBytes (taskFrom s i) ≡ part 1 (awaitedAt + i) s
     awaited-again i c = rw (c .number-is) refl
 
     line-again : (at : ℕ) → row placeBytes (blocks (placeFrom s) 1 16 at) ≡ part 16 at s
@@ -138,7 +138,7 @@ module _ (s : List ℕ) where
     canonical-image n c = sym (made-image s n (canonical-back n c))
 
     -- and the states of an image are such
-    image-canonical : isImage s ≡ true → (i : ℕ) → i < 16 → Canonical i
+    pub image-canonical : isImage s ≡ true → (i : ℕ) → i < 16 → Canonical i
     unfolding loadOf
     image-canonical e i l =
         let t = loadOf s in
@@ -159,7 +159,7 @@ module _ (s : List ℕ) where
     -- ---- the four numbers of an entry, as they were read
     module _ (i : ℕ) (l : i < 16) (kind : ℕ) (time : Millis) (mask number : ℕ) (ek : kind ≡ getD s (i * 26 + 1) 0) (et : time .0 ≡ numberOf (part 8 (i * 26 + 2) s))
         (em : mask ≡ numberOf (part 4 (i * 26 + 10) s)) (en : number ≡ getD s (awaitedAt + i) 0) where
-      read-code : isCode kind time mask number ≡ isCode (getD s (i * 26 + 1) 0) (record { 0 = numberOf (part 8 (i * 26 + 1 + 1) s) }) (numberOf (part 4 (i * 26 + 1 + 1 + 8) s)) (getD s (awaitedAt + i) 0)
+      pub read-code : isCode kind time mask number ≡ isCode (getD s (i * 26 + 1) 0) (record { 0 = numberOf (part 8 (i * 26 + 1 + 1) s) }) (numberOf (part 4 (i * 26 + 1 + 1 + 8) s)) (getD s (awaitedAt + i) 0)
       read-code =
           let y : i * 26 + 2 ≡ i * 26 + 1 + 1 = omega arith in
           let z : i * 26 + 10 ≡ i * 26 + 1 + 1 + 8 = omega arith in

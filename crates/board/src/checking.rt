@@ -12,7 +12,7 @@ ghost use Rattle.board.specs.Coding.{isCode};
 
 // Whether a kind, a time, a mask and a number are those of the state that they make. A byte that is no kind is none,
 // and a time, a mask or a number is none where the state holds no such.
-fn is_code(kind: u8, time: Millis, mask: u32, number: u8) -> bool
+pub(crate) fn is_code(kind: u8, time: Millis, mask: u32, number: u8) -> bool
     ensures { λ r. ⌜ r ≡ isCode kind time mask number ⌝ }
 {
     let state = loading::state_of(kind, time, mask, number);
