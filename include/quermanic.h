@@ -19,7 +19,7 @@ extern "C" {
 
 /* The version. The second number rises with each landing (docs/CHANGES.md); the first, with the second at 0 again,
  * where a board must change: the image, a part of the answer that stands already, what a function takes and returns. */
-#define QUERMANIC_VERSION "4.1"
+#define QUERMANIC_VERSION "4.2"
 
 /* A length in bytes. The code takes 64 bits on every machine; size_t has 32 on some, and would be wrong there. */
 typedef uint64_t quermanic_length;
@@ -47,6 +47,24 @@ typedef uint64_t quermanic_length;
 #define QUERMANIC_ANSWER_SKIPPED 8
 #define QUERMANIC_ANSWER_SENDER 16
 #define QUERMANIC_ANSWER_TEXT 17
+
+/* The bytes of the list of what was mended: how many notes, and of each, from 0, the task and the rule that its entry broke
+ * (docs/TABLE.md), two bytes; zeros behind them. */
+#define QUERMANIC_LIST_BYTES 33
+#define QUERMANIC_LIST_LENGTH 0
+#define QUERMANIC_LIST_NOTES 1 /* note i begins QUERMANIC_LIST_NOTE_BYTES * i further on */
+#define QUERMANIC_LIST_NOTE_BYTES 2
+#define QUERMANIC_LIST_TASK 0
+#define QUERMANIC_LIST_RULE 1
+#define QUERMANIC_RULE_STRAY 0 /* its state has no use for some of its bytes */
+#define QUERMANIC_RULE_RANGE 1
+#define QUERMANIC_RULE_TIME 3
+#define QUERMANIC_RULE_START 4
+#define QUERMANIC_RULE_MASK 5
+#define QUERMANIC_RULE_LINK 7
+#define QUERMANIC_RULE_DORMANT 8
+#define QUERMANIC_RULE_MESSAGE 11
+#define QUERMANIC_RULE_LOST 13 /* a waiter whose link was lost */
 
 /* The bytes of the reasons why a task is not running, and where each part stands: the path's steps, the first is the task
  * asked for; of a step the task, its cause, the task it waits on, a byte of its cause, and eight bytes, the highest first.
@@ -266,6 +284,20 @@ uint8_t quermanic_lamp(const uint8_t *image, quermanic_length image_length);
  */
 uint8_t quermanic_why(const uint8_t *image, quermanic_length image_length, uint8_t task, uint8_t *out,
                       quermanic_length out_length);
+
+/*
+ * Mends a table that is not well formed, so that its sound tasks go on (docs/TABLE.md has what is looked at).
+ *
+ *   0   `image` holds the image of a well-formed table, and `list` says which entries changed; one that was well formed
+ *       is as it was, and the list is empty
+ *   1   `image_length` is not QUERMANIC_IMAGE_LENGTH
+ *   17  the clock, the granule or the count is out of range
+ *   30  `list_length` is less than QUERMANIC_LIST_BYTES
+ *
+ * After 1, 17 and 30 no byte of `image` or of `list` is changed. After 0 the list is in the first QUERMANIC_LIST_BYTES bytes of
+ * `list`, and the bytes after it keep their content.
+ */
+uint8_t quermanic_mend(uint8_t *image, quermanic_length image_length, uint8_t *list, quermanic_length list_length);
 
 /*
  * What follows is for convenience, and no part of what is proved: builders of each record, and readers of an answer

@@ -3,7 +3,7 @@
 # of their own, so that their variables are nobody else's.
 
 targets='cortex-m3 cortex-m0plus riscv32 riscv64 aarch64 aarch64-linux x86-64'
-entries='quermanic_fresh quermanic_check quermanic_step quermanic_lamp quermanic_why'
+entries='quermanic_fresh quermanic_check quermanic_step quermanic_lamp quermanic_why quermanic_mend'
 rounds='quermanic_why 17' # why goes from task to task: sixteen, and one that is met again
 memory_stack=32 # bytes of stack that a memory function of the board counts for
 
@@ -78,7 +78,7 @@ make_library() (
     if [ "$1" = x86-64 ]; then # as the kit has it: what it makes of the kept module is its archive
         cp target/module/board.ll "$out/board.ll" && cp target/module/board.object "$out/board.o" || return 1
     else
-        retarget board 5 "${4-}" >"$out/board.ll" &&
+        retarget board 6 "${4-}" >"$out/board.ll" &&
             compile_module "$level" "$out/board.ll" "$out/board.o" -c || return 1
     fi
     compile_module "$level" "$out/board.ll" "$out/board.s" -S -fstack-usage &&

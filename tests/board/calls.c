@@ -1,7 +1,7 @@
 /* The board library's functions as a program, for a trial that cannot link them: it reads calls and answers them.
- * A call is a letter (f fresh, c check, l lamp, s step, w why), the lengths of three buffers, four bytes each, the
- * highest first, and their bytes: the image; the configuration, the record or the task; the answer. What it gives: the
- * number that was returned, as four bytes, so that what a machine leaves above the returned byte is seen; the
+ * A call is a letter (f fresh, c check, l lamp, m mend, s step, w why), the lengths of three buffers, four bytes each, the
+ * highest first, and their bytes: the image; the configuration, the record or the task; the answer or the list. What it
+ * gives: the number that was returned, as four bytes, so that what a machine leaves above the returned byte is seen; the
  * instructions that it took, four bytes, 0 where nothing counts them; and the bytes of image and answer after it.
  * Built with BOTH_ENGINES it answers for the second engine too: F fresh, C check, S step. */
 #include "pipe.h"
@@ -72,6 +72,8 @@ static uint32_t call(uint8_t kind, struct guarded *image, struct guarded *given,
         return quermanic_check(inside(image), image->length);
     case 'l':
         return quermanic_lamp(inside(image), image->length);
+    case 'm':
+        return quermanic_mend(inside(image), image->length, inside(answer), answer->length);
     case 'w':
         need(given->length == 1, "calls: a task is one byte\n");
         return quermanic_why(inside(image), image->length, inside(given)[0], inside(answer), answer->length);

@@ -386,6 +386,35 @@ static void try_lamp(void) {
              image[word] == 0 && image[word + 1] == 0);
 }
 
+/* Mending: of three ready tasks, two equal, the second is listed as in another state, and the queue has a stray place;
+ * then what is sound, and what is refused. */
+static void try_mending(void) {
+    static const uint8_t three[] = {0x40, 1, 0x41, 7, 1, 0x41, 9, 1, 0x41, 7, 1, 0x42};
+    const size_t whole = QUERMANIC_IMAGE_LENGTH, room = QUERMANIC_LIST_BYTES;
+    uint8_t list[QUERMANIC_LIST_BYTES + 1], kept[QUERMANIC_IMAGE_LENGTH];
+    static const uint8_t none[QUERMANIC_LIST_BYTES];
+
+    memset(list, 0xA5, sizeof list);
+    quermanic_fresh(three, sizeof three, image, whole);
+    memcpy(kept, image, whole);
+    tell("a sound table is mended: nothing changes",
+         quermanic_mend(image, whole, list, sizeof list) == 0 && memcmp(image, kept, whole) == 0 &&
+             memcmp(list, none, room) == 0 && list[room] == 0xA5);
+    image[26 + 1] = QUERMANIC_STATE_WAITS_START;
+    image[26 * 2 + 9] = 1; /* a time, and it is ready */
+    image[416 + 3] = 3;
+    tell("a step from a damaged table: 1", quermanic_check(image, whole) == 1);
+    tell("it is mended", quermanic_mend(image, whole, list, room) == 0 && memcmp(image, kept, whole) == 0);
+    tell("and 2 and 3 are listed", memcmp(list, "\2\2\15\3\0\0", 6) == 0);
+    image[434] = 0;
+    memcpy(kept, image, whole);
+    memset(list, 0xA5, sizeof list);
+    tell("a granule of 0: 17", quermanic_mend(image, whole, list, room) == 17);
+    tell("an image of another length: 1", quermanic_mend(image, whole - 1, list, room) == 1);
+    tell("a short list: 30", quermanic_mend(image, whole, list, room - 1) == 30);
+    tell("and nothing changes", memcmp(image, kept, whole) == 0 && list[0] == 0xA5 && list[room - 1] == 0xA5);
+}
+
 int main(void) {
     take_listing();
     try_refusals();
@@ -397,5 +426,6 @@ int main(void) {
     try_messages();
     try_stray_messages();
     try_lamp();
+    try_mending();
     return failed;
 }

@@ -3,11 +3,13 @@
 use mathlib.Core.Path.{sym, _∙_}
 use Rattle.board.specs.Promises.{Promises}
 use Rattle.board.specs.Reasons.{WhyPromises}
+use Rattle.board.specs.Mending.{MendPromises}
 use Rattle.board.proofs.Trips.{load-store, image-parts, stored, load-fits}
 use Rattle.board.proofs.Answered.{refused, short, not-made, why-short}
 use Rattle.board.proofs.Explained.{of-table, numbers-in}
 use Rattle.board.proofs.Histories.{fresh-kept, step-kept, active, overtaking}
 use Rattle.board.proofs.Shown.{lamp}
+use Rattle.board.proofs.Listed as mending
 pub use Rattle.board.proofs.Spans.{and-then, written-whole, length-row, row-start, row-turn, row-end, length-blocks, block-at, block-turn, block-end}
 pub use Rattle.board.proofs.Alike.{decide, never, same-self, same-true}
 pub use Rattle.board.proofs.Images.{blocks-back}
@@ -43,4 +45,16 @@ why-promises = record {
   numbers = numbers-in;
   table = of-table;
   determined = λ s k o _ _ x y p q. (p .answer ∙ sym (q .answer), p .number ∙ sym (q .number));
+}
+
+pub mend-promises : MendPromises
+mend-promises = record {
+  short = λ s o h. let e = mending.mend-short s o h in (sym (e .0), sym (e .1), sym (e .2));
+  refused = λ s o h. let e = mending.mend-kept s o h in (sym (e .0), sym (e .1));
+  numbers = λ s o b h. mending.mend-numbers s o h b;
+  mended = λ s o p q b x. mending.mended s b o p q x;
+  sound-stays = λ s o b w h. mending.sound-stays s o h b w;
+  listed-bytes = λ s o p q b c x. mending.listed-bytes s b o p q c x;
+  rule-right = mending.rule-right;
+  determined = λ s o _ _ _ _ x y p q. (p .image ∙ sym (q .image), p .list ∙ sym (q .list), p .number ∙ sym (q .number));
 }

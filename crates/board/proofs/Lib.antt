@@ -34,5 +34,7 @@ pub mod Named
 pub mod KindsRead
 pub mod LinesRead
 pub mod PostRead
+pub mod Noted
+pub mod Listed
 pub mod Assured
 pub mod Owned

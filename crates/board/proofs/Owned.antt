@@ -35,6 +35,8 @@ use Rattle.executive.proofs.Table.{the-type as table-type}
 use Rattle.executive.proofs.Table.Laws.{the-laws as table-laws}
 use Rattle.executive.proofs.Fresh.{the-type as fresh-type}
 use Rattle.executive.proofs.Fresh.Laws.{the-laws as fresh-laws}
+use Rattle.mender.proofs.Mended.{the-type as mended-type}
+use Rattle.mender.proofs.Mended.Laws.{the-laws as mended-laws}
 use Rattle.records.specs.declared.TaskNo.{TaskNo}
 use Rattle.records.specs.Numbers.{Fits}
 use Rattle.executive.specs.declared.Millis.{Millis}
@@ -48,6 +50,7 @@ use Rattle.executive.specs.declared.Message.{Message}
 use Rattle.executive.specs.declared.Mail.{Mail}
 use Rattle.executive.specs.declared.Table.{Table}
 use Rattle.executive.specs.declared.Fresh.{Fresh}
+use Rattle.mender.specs.declared.Mended.{Mended}
 use Rattle.board.specs.Blocks.{Each}
 use Rattle.board.specs.Image.{taskWidths, placeWidths, alarmWidths, requestWidths, awaitedWidths, taskNumbers, placeNumbers, alarmNumbers, requestNumbers, awaitedNumbers, FitsSub, FitsTable}
 use Rattle.board.specs.Image.{messageWidths, mailWidths, messageNumbers, mailNumbers}
@@ -143,3 +146,6 @@ table-owned t vs q =
 
 pub fresh-owned : (f : Fresh) (vs : List Val) → Is (row fresh-type) f vs → FitsTable (f .table)
 fresh-owned f vs q = let g = owed fresh-type fresh-laws f vs q in table-owned (f .table) _ (g .1 .0)
+
+pub mended-owned : (x : Mended) (vs : List Val) → Is (row mended-type) x vs → FitsTable (x .table)
+mended-owned x vs q = let f = owed mended-type mended-laws x vs q in table-owned (x .table) _ (f .1 .0)

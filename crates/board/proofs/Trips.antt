@@ -5,13 +5,15 @@ use mathlib.Core.Bool.{Bool, true, false, cond}
 use mathlib.Core.List.{List, [], _∷_, _++_, append-assoc}
 use native.Mathlib.Omega.{arith}
 use native.Mathlib.Nat.{add-zero}
-use lib.Dec.{eqb}
+use lib.Dec.{eqb, ltb}
 use lib.ListN.{length, getD, length-append}
 use borrow.Author.Tests.{eq-eqb, eqb-true}
 use Rattle.records.specs.declared.TaskNo.{TaskNo}
 use Rattle.records.specs.Numbers.{Bytes, numberFrom, numberOf, part, lay, cut, Fits}
 use Rattle.executive.specs.declared.Millis.{Millis}
+use Rattle.executive.specs.declared.Mode.the-variants.{Any, All}
 use Rattle.executive.specs.declared.State.{State}
+use Rattle.executive.specs.declared.State.the-variants.{Dormant, Ready, Paused, Due, Flags, AwaitStart, AwaitEnd, AwaitSub, AwaitMessage}
 use Rattle.executive.specs.declared.Task.{Task}
 use Rattle.executive.specs.declared.Sub.{Sub}
 use Rattle.executive.specs.declared.Rest.{Rest}
@@ -26,7 +28,7 @@ use Rattle.executive.proofs.Assured.{states-told}
 use Rattle.board.specs.Blocks.{row, blocks, Each, written, same}
 use Rattle.board.specs.Image.{taskWidths, placeWidths, headWidths, alarmWidths, requestWidths, levelsWidths, awaitedWidths, subWidths}
 use Rattle.board.specs.Image.{taskNumbers, placeNumbers, headNumbers, alarmNumbers, requestNumbers, levelsNumbers, awaitedNumbers, subNumbers}
-use Rattle.board.specs.Image.{taskOf, placeOf, alarmOf, requestOf, subOf, tableOf, taskBytes, placeBytes, headBytes, alarmBytes, requestBytes, levelsBytes, awaitedBytes, subBytes}
+use Rattle.board.specs.Image.{noKind, stateIn, taskOf, placeOf, alarmOf, requestOf, subOf, tableOf, taskBytes, placeBytes, headBytes, alarmBytes, requestBytes, levelsBytes, awaitedBytes, subBytes}
 use Rattle.board.specs.Image.{taskFrom, placeFrom, alarmFrom, requestFrom, lineFrom, subFrom, queueAt, headAt, alarmsAt, poolAt, levelsAt, awaitedAt, subsAt, imageLength, taskLength, subLength}
 use Rattle.board.specs.Image.{messageWidths, sentWidths, mailWidths, messageNumbers, sentNumbers, mailNumbers, messageOf, mailOf, messageBytes, sentBytes, mailBytes}
 use Rattle.board.specs.Image.{messageFrom, mailFrom, messagesAt, sentAt, mailsAt, messageLength, mailLength, postBytes}
@@ -37,8 +39,24 @@ use Rattle.board.proofs.Alike.{decide, never, same-self, same-true}
 use Rattle.board.proofs.Images.{Filled, fill, filled, At, at-start, at-next, at-end, at-length, at-parted, cut-at, element-back, row-back, blocks-back}
 
 -- ---- a block's value is that of its numbers
+known-kind : (x : State) → ltb awaitMessage (stateKind x) ≡ false
+known-kind Dormant = refl
+known-kind Ready = refl
+known-kind (Paused at) = refl
+known-kind (Due at) = refl
+known-kind (Flags Any mask) = refl
+known-kind (Flags All mask) = refl
+known-kind AwaitStart = refl
+known-kind AwaitEnd = refl
+known-kind (AwaitSub m) = refl
+known-kind (AwaitMessage k) = refl
+
+state-back : (x : State) → stateIn (stateKind x) (timeOf x) (maskOf x) (awaitedOf x) ≡ x
+unfolding stateIn
+state-back x = rw (known-kind x) (states-told .back x)
+
 pub task-back : (e : Task) → taskOf (taskNumbers e) (awaitedNumbers e) ≡ e
-task-back e = λ i. record { own = e .own; state = states-told .back (e .state) i; priority = e .priority; argument = e .argument; start = e .start; «end_waiter» = e .«end_waiter» }
+task-back e = λ i. record { own = e .own; state = state-back (e .state) i; priority = e .priority; argument = e .argument; start = e .start; «end_waiter» = e .«end_waiter» }
 
 line-back : (ks : List TaskNo) → Each (λ k. Fits placeWidths (placeNumbers k)) ks → length ks ≡ 16 → (s r : List ℕ) (n : ℕ) → At s n (row placeBytes ks ++ r) → lineFrom s n ≡ ks
 line-back ks h l s r n z = blocks-back placeWidths placeNumbers placeOf (λ x. refl) 1 (λ x. refl) ks nobody s r 16 n h l z
@@ -299,10 +317,11 @@ either false x y f g = g
 small : Fits (8 ∷ 4 ∷ 1 ∷ []) (0 ∷ 0 ∷ 0 ∷ [])
 small = (omega arith, (omega arith, (omega arith, tt)))
 
-state-fits : (a : ℕ) (b : Millis) (c d : ℕ) → b .0 < 256 ^ 8 → c < 256 ^ 4 → d < 256 ^ 1 → FitsState (stateOf a b c d)
-unfolding stateOf
+state-fits : (a : ℕ) (b : Millis) (c d : ℕ) → b .0 < 256 ^ 8 → c < 256 ^ 4 → d < 256 ^ 1 → FitsState (stateIn a b c d)
+unfolding stateIn stateOf
 state-fits a b c d f g h =
-    either (eqb a dormant) _ _ (omega arith, small)
+    either (ltb awaitMessage a) noKind _ (omega arith, (omega arith, (omega arith, (omega arith, tt))))
+    (either (eqb a dormant) _ _ (omega arith, small)
     (either (eqb a ready) _ _ (omega arith, small)
     (either (eqb a paused) _ _ (omega arith, (f, (omega arith, (omega arith, tt))))
     (either (eqb a due) _ _ (omega arith, (f, (omega arith, (omega arith, tt))))
@@ -311,7 +330,7 @@ state-fits a b c d f g h =
     (either (eqb a awaitStart) _ _ (omega arith, small)
     (either (eqb a awaitEnd) _ _ (omega arith, small)
     (either (eqb a awaitSub) _ _ (omega arith, (omega arith, (omega arith, (h, tt))))
-    (either (eqb a awaitMessage) _ _ (omega arith, (omega arith, (omega arith, (h, tt)))) (omega arith, small))))))))))
+    (either (eqb a awaitMessage) _ _ (omega arith, (omega arith, (omega arith, (h, tt)))) (omega arith, small)))))))))))
 
 -- what the state of the i-th task holds
 read-fits : (s : List ℕ) → Bytes s → (i : ℕ) → FitsState (taskFrom s i .state)

@@ -8,8 +8,8 @@ use Rattle.executive.specs.declared.Millis.{Millis}
 use Rattle.executive.specs.declared.State.{State}
 use Rattle.executive.specs.declared.Task.{Task}
 use Rattle.executive.specs.declared.Rest.{Rest}
-use Rattle.executive.specs.States.{stateKind, timeOf, maskOf, awaitedOf, stateOf}
-use Rattle.board.specs.Image.{headWidths}
+use Rattle.executive.specs.States.{stateKind, timeOf, maskOf, awaitedOf}
+use Rattle.board.specs.Image.{headWidths, stateIn}
 
 abbrev pub frontBytes : ℕ → State → List ℕ
 frontBytes own s = lay (1 ∷ 1 ∷ 8 ∷ 4 ∷ []) (own ∷ stateKind s ∷ timeOf s .0 ∷ maskOf s ∷ [])
@@ -26,4 +26,4 @@ areOf x kind time mask number =
     cond (eqb (stateKind x) kind) (cond (eqb (timeOf x .0) time) (cond (eqb (maskOf x) mask) (eqb (awaitedOf x) number) false) false) false
 
 abbrev pub isCode : ℕ → Millis → ℕ → ℕ → Bool
-isCode kind time mask number = areOf (stateOf kind time mask number) kind (time .0) mask number
+isCode kind time mask number = areOf (stateIn kind time mask number) kind (time .0) mask number

@@ -3,11 +3,13 @@ use Prim.Native.Nat.{ℕ, _+_, _*_}
 use mathlib.Core.Path.{_≡_}
 use mathlib.Core.Bool.{Bool, false, cond}
 use mathlib.Core.List.{List, [], _∷_, _++_}
-use lib.Dec.{eqb}
+use lib.Dec.{eqb, ltb}
 use lib.ListN.{length, getD}
 use Rattle.records.specs.declared.TaskNo.{TaskNo}
 use Rattle.records.specs.Numbers.{lay, cut, Fits}
 use Rattle.executive.specs.declared.Millis.{Millis}
+use Rattle.executive.specs.declared.State.{State}
+use Rattle.executive.specs.declared.State.the-variants.{AwaitSub}
 use Rattle.executive.specs.declared.Task.{Task}
 use Rattle.executive.specs.declared.Request.{Request}
 use Rattle.executive.specs.declared.Sub.{Sub}
@@ -15,7 +17,7 @@ use Rattle.executive.specs.declared.Message.{Message}
 use Rattle.executive.specs.declared.Mail.{Mail}
 use Rattle.executive.specs.declared.Rest.{Rest}
 use Rattle.executive.specs.declared.Table.{Table}
-use Rattle.executive.specs.States.{stateKind, timeOf, maskOf, awaitedOf, stateOf}
+use Rattle.executive.specs.States.{awaitMessage, stateKind, timeOf, maskOf, awaitedOf, stateOf}
 use Rattle.executive.specs.WellFormed.{Sizes}
 use Rattle.board.specs.Blocks.{row, blocks, Each, same}
 
@@ -67,6 +69,14 @@ abbrev pub taskNumbers : Task → List ℕ
 taskNumbers e =
     e .own ∷ stateKind (e .state) ∷ timeOf (e .state) .0 ∷ maskOf (e .state) ∷ e .priority ∷ e .argument ∷ e .start .0 ∷ e .«end_waiter» .0 ∷ []
 
+-- the state of four numbers; a byte past the last kind is a wait for a subprogram that there is not, so that its entry has a
+-- number out of range
+abbrev pub noKind : State
+noKind = AwaitSub (record { 0 = 255 })
+
+unfoldable pub stateIn : ℕ → Millis → ℕ → ℕ → State
+stateIn kind time mask number = cond (ltb awaitMessage kind) noKind (stateOf kind time mask number)
+
 -- a task is made of its entry's numbers and, apart from them, the number that its state waits for
 abbrev pub awaitedNumbers : Task → List ℕ
 awaitedNumbers e = awaitedOf (e .state) ∷ []
@@ -74,7 +84,7 @@ awaitedNumbers e = awaitedOf (e .state) ∷ []
 abbrev pub taskOf : List ℕ → List ℕ → Task
 taskOf xs ys = record {
   own = getD xs 0 0;
-  state = stateOf (getD xs 1 0) (record { 0 = getD xs 2 0 }) (getD xs 3 0) (getD ys 0 0);
+  state = stateIn (getD xs 1 0) (record { 0 = getD xs 2 0 }) (getD xs 3 0) (getD ys 0 0);
   priority = getD xs 4 0;
   argument = getD xs 5 0;
   start = record { 0 = getD xs 6 0 };

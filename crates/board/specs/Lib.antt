@@ -1,5 +1,5 @@
 -- The definitions: rows of equal blocks, the image of a table, what the entry points answer and leave, and why a task
--- is not running, as bytes.
+-- is not running, as bytes; and what mending an image answers and leaves.
 pub mod Blocks
 pub mod Image
 pub mod Coding
@@ -9,4 +9,5 @@ pub mod Sound
 pub mod Marks
 pub mod EntryPoints
 pub mod Reasons
+pub mod Mending
 pub mod Promises

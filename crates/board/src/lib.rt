@@ -6,6 +6,7 @@ use records::TaskNo;
 ghost use Rattle.records.specs.declared.TaskNo.{TaskNo};
 ghost use Rattle.board.specs.EntryPoints.{MakesImage, CheckedImage, StepsImage, ReadsLamp};
 ghost use Rattle.board.specs.Reasons.{ExplainsImage};
+ghost use Rattle.board.specs.Mending.{MendsImage};
 
 pub mod answers;
 mod changes;
@@ -19,6 +20,7 @@ mod intervals;
 pub mod loading;
 mod moves;
 mod moving;
+mod mending;
 pub mod numbers;
 pub mod promises;
 mod reasons;
@@ -146,4 +148,20 @@ pub extern "C" fn quermanic_why(image: &[u8], task: u8, out: &mut [u8]) -> u8
     let told = reasons::reasons_of(image, TaskNo(task));
     reasons::put_reasons(out, told);
     told.number
+}
+
+// Mends an image: 0 and the mended image, with the list of what changed at the start of its buffer. Where that is shorter
+// than 33 bytes: 30; where the bytes have not an image's length: 1; where clock, granule or task count is out of range: 17;
+// and then no byte of any buffer is changed.
+#[no_mangle]
+pub extern "C" fn quermanic_mend(image: &mut [u8], list: &mut [u8]) -> u8
+    ensures { λ r. ⌜ MendsImage (now (image .entry)) (now (list .entry)) (now (image .exit)) (now (list .exit)) r ⌝ }
+{
+    if list.len() < 33 {
+        return NO_ROOM;
+    }
+    if image.len() != IMAGE {
+        return 1;
+    }
+    mending::mend_whole(image, list)
 }

@@ -26,14 +26,13 @@ use records::Text;
 ghost use mathlib.Core.Path.{_≡_};
 ghost use Prim.Native.Nat.{ℕ, _+_, _≤_, _<_};
 ghost use lib.ListN.{length, getD};
-ghost use Rattle.executive.specs.States.{stateOf};
 ghost use Rattle.board.specs.Blocks.{blocks};
-ghost use Rattle.board.specs.Image.{taskFrom, lineFrom, alarmFrom, requestFrom, subFrom, alarmsAt, poolAt, subsAt, imageLength, subLength, Loads};
+ghost use Rattle.board.specs.Image.{stateIn, taskFrom, lineFrom, alarmFrom, requestFrom, subFrom, alarmsAt, poolAt, subsAt, imageLength, subLength, Loads};
 ghost use Rattle.board.specs.Image.{messageFrom, mailFrom, messagesAt, mailsAt, messageLength, mailLength};
 
-// The state of a kind, a time, a mask and a number. A byte that is no kind gives a wait that no well-formed table holds.
+// The state of a kind, a time, a mask and a number. A byte that is no kind gives a wait for a subprogram that there is not.
 pub(crate) fn state_of(kind: u8, time: Millis, mask: u32, number: u8) -> State
-    ensures { λ r. ⌜ r ≡ stateOf kind time mask number ⌝ }
+    ensures { λ r. ⌜ r ≡ stateIn kind time mask number ⌝ }
 {
     match kind {
         0 => State::Dormant,
@@ -46,7 +45,7 @@ pub(crate) fn state_of(kind: u8, time: Millis, mask: u32, number: u8) -> State
         7 => State::AwaitEnd,
         8 => State::AwaitSub(SubNo(number)),
         9 => State::AwaitMessage(TaskNo(number)),
-        _ => State::Flags(Mode::Any, 0),
+        _ => State::AwaitSub(SubNo(255)),
     }
 }
 

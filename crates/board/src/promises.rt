@@ -6,6 +6,7 @@ use executive::Table;
 ghost use Rattle.board.specs.Image.{ComesBack};
 ghost use Rattle.board.specs.Promises.{Promises};
 ghost use Rattle.board.specs.Reasons.{WhyPromises};
+ghost use Rattle.board.specs.Mending.{MendPromises};
 
 // Stores a table and loads its image: the same table.
 pub fn write_then_read(table: Table) -> Table
@@ -17,5 +18,5 @@ pub fn write_then_read(table: Table) -> Table
 }
 
 fn promised()
-    ensures { λ r. ⌜ Promises × WhyPromises ⌝ }
+    ensures { λ r. ⌜ Promises × WhyPromises × MendPromises ⌝ }
 {}
