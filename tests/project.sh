@@ -37,3 +37,16 @@ scan_trial() (
     export BOARD_LIBRARY BOARD_SUM SCAN_LIBRARY SCAN_SUM
     project build --quiet --release --bin scan-trial && echo "$root/target/rust/release/scan-trial"
 )
+
+# mend_trial WAY: builds the trial of the mender, over the board library for this machine (linked), or with the model in
+# its place (model); prints where it is.
+mend_trial() (
+    words=
+    if [ "$1" = linked ]; then
+        library=$(cd "$root" && native_library) || return 1
+        BOARD_LIBRARY=$root/$library words='--features linked'
+        BOARD_SUM=$(cksum <"$BOARD_LIBRARY/libboard.a") || return 1
+        export BOARD_LIBRARY BOARD_SUM
+    fi
+    project build --quiet --release --bin mend-trial $words && echo "$root/target/rust/release/mend-trial"
+)

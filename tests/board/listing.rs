@@ -24,13 +24,26 @@ fn of(library: &mut Library, input: &[u8]) -> String {
         return "stop 12\n".to_string();
     }
     let used = fresh_from_start(input).map_or(input.len(), |(_, used)| used);
-    let (number, mut image) = library.fresh(&input[..used], &[0; LENGTH]);
+    let (number, image) = library.fresh(&input[..used], &[0; LENGTH]);
     if number != 0 {
         return format!("stop {number}\n");
     }
+    steps(library, image, &input[used..])
+}
+
+/// The listing of the steps on standard input, from the image in a file on; false where one cannot be read.
+pub fn from(library: &mut Library, file: &str) -> bool {
+    let mut input = Vec::new();
+    let read = std::io::stdin().lock().read_to_end(&mut input);
+    match (std::fs::read(file), read) {
+        (Ok(image), Ok(_)) if library.check(&image) == 0 => written(steps(library, image, &input).as_bytes()),
+        _ => false,
+    }
+}
+
+fn steps(library: &mut Library, mut image: Vec<u8>, mut rest: &[u8]) -> String {
     // granule, count and the queue's first place, by docs/TABLE.md
     let mut lines = vec![format!("granule {} tasks {} active {}\n", image[434], image[433], image[416])];
-    let mut rest = &input[used..];
     let mut step = 0;
     while !rest.is_empty() {
         let (record, more) = match cut(rest) {

@@ -34,6 +34,7 @@ const USAGE: &str = "usage: trial [--steps N] [--seed S] [--fault NAME]
        trial --account [--steps N] [--seed S] [--fault NAME]
        trial --instructions [--steps N] [--seed S]
        trial --listing < input
+       trial --from IMAGE < steps
        trial --images N
        trial --run INDEX
        trial --passes WAY MIX N
@@ -89,6 +90,7 @@ fn asked(library: &mut Library, words: &[&str]) -> Option<bool> {
             passes.parse().ok().and_then(|passes| speed::passes(library, way, mix, passes))
         }
         ["--listing"] => Some(listing::listing(library)),
+        ["--from", image] => Some(listing::from(library, image)),
         ["--run", index] => index.parse().ok().map(|index| listing::written(&run(1, index))),
         ["--images", many] => many.parse().ok().map(|many| images::images(library, many)),
         // a part of a trial, too short to meet everything

@@ -11,13 +11,16 @@ pub fn listing(input: &[u8], step: impl Fn(&mut Table, &[u8]) -> Answer) -> Vec<
     if input.len() > LONGEST_INPUT {
         return b"stop 12\n".to_vec();
     }
-    let (mut table, used) = match fresh_from_start(input) {
-        Some(begun) => begun,
-        None => return b"stop 2\n".to_vec(),
-    };
-    let mut out = Vec::with_capacity(64 + 16 * input.len());
+    match fresh_from_start(input) {
+        Some((table, used)) => listing_from(table, &input[used..], step),
+        None => b"stop 2\n".to_vec(),
+    }
+}
+
+/// The same from any table on.
+pub fn listing_from(mut table: Table, mut rest: &[u8], step: impl Fn(&mut Table, &[u8]) -> Answer) -> Vec<u8> {
+    let mut out = Vec::with_capacity(64 + 16 * rest.len());
     header(&mut out, table.granule, table.count, table.queue[0]);
-    let mut rest = &input[used..];
     let mut number = 0;
     while !rest.is_empty() {
         let (record, more) = match cut(rest) {

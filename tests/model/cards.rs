@@ -3,6 +3,10 @@
 use crate::bench::listing;
 use crate::check::well_formed;
 use crate::configuration::fresh;
+use crate::mend_cards::{
+    chain, lost_holder, rebuilt, rules_of_an_entry, rules_of_links, seventeen, sound_stays, stray_bytes, stray_counts,
+    two_links,
+};
 use crate::steps::step;
 use crate::table::{Answer, Mail, Message, State, Sub, Table, Task, Text, LAST_CLOCK, LONGEST};
 use crate::why::{why, Reason, Why};
@@ -77,6 +81,16 @@ cards! {
     "A8: refusals": refusals_of_messages,
     "A8: broken tables give 1": broken_messages,
     "A8: mail is gone": mail_is_gone,
+    "A13: the rules of an entry": rules_of_an_entry,
+    "A13: the rules of links": rules_of_links,
+    "A13: a chain": chain,
+    "A13: two links to one waiter": two_links,
+    "A13: a lost holder": lost_holder,
+    "A13: stray counts": stray_counts,
+    "A13: what is rebuilt": rebuilt,
+    "A13: what is sound stays": sound_stays,
+    "A13: 17": seventeen,
+    "A13: stray bytes": stray_bytes,
 }
 
 /// Prints of every card whether it holds; true if all do.
@@ -91,7 +105,7 @@ pub fn cards() -> bool {
 }
 
 /// The fresh table of a granule and tasks of own priority and mark.
-fn table(granule: u8, tasks: &[(u8, u8)]) -> Table {
+pub(crate) fn table(granule: u8, tasks: &[(u8, u8)]) -> Table {
     let mut bytes = vec![0x40, granule];
     tasks.iter().for_each(|(own, mark)| bytes.extend([0x41, *own, *mark]));
     bytes.push(0x42);
@@ -99,7 +113,7 @@ fn table(granule: u8, tasks: &[(u8, u8)]) -> Table {
 }
 
 /// Steps that must all be accepted; the last answer.
-fn accepted(table: &mut Table, records: &[&[u8]]) -> Answer {
+pub(crate) fn accepted(table: &mut Table, records: &[&[u8]]) -> Answer {
     let mut last = Answer::default();
     for record in records {
         last = step(table, record);
@@ -403,7 +417,7 @@ fn refusals_at_a_routine() -> bool {
 }
 
 /// Subprogram 2 is held by 1, which is paused; 2 and 3, of one priority, and 4 wait for it; 5 is active, 6 dormant.
-fn lined_table() -> Table {
+pub(crate) fn lined_table() -> Table {
     let mut t = table(1, &[(9, 1), (7, 1), (7, 1), (5, 1), (4, 1), (7, 0)]);
     accepted(&mut t, &[&[6, 2], &[2, 0, 9], &[6, 2], &[6, 2], &[6, 2]]);
     t
@@ -514,7 +528,7 @@ fn refusals_of_messages() -> bool {
 }
 
 /// Task 1 waits for a message from 2; 3 waits for any; a message of 3 for 1, and two of 4 for 2, wait; 6 is dormant.
-fn mailed_table() -> Table {
+pub(crate) fn mailed_table() -> Table {
     let mut t = table(1, &[(9, 1), (5, 1), (8, 1), (7, 1), (6, 1), (7, 0)]);
     accepted(&mut t, &[&[0x15, 2], &message(1, 1), &[0x15, 0], &message(2, 2), &message(2, 3)]);
     t

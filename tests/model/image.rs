@@ -3,6 +3,20 @@
 use crate::table::{Mail, Message, Request, State, Sub, Table, Task, TASKS};
 
 pub const LENGTH: usize = 1_555;
+/// Where the numbers that the states wait for begin, and the messages in the entries; and their lengths.
+const ENTRY: usize = 26;
+const AWAITED: usize = 898;
+const MAILS: usize = 1_411;
+const MAIL: usize = 9;
+/// What a byte that is no state's is a wait for.
+const NO_SUB: u8 = 255;
+
+/// The bytes of a task's entry in an image: its fields, what its state waits for, and its mail.
+pub fn block(image: &[u8], number: u8) -> [&[u8]; 3] {
+    let place = number as usize - 1;
+    let part = |from: usize, length: usize| &image[from + place * length..][..length];
+    [part(0, ENTRY), part(AWAITED, 1), part(MAILS, MAIL)]
+}
 
 /// The image of a table.
 pub fn encode(table: &Table) -> Vec<u8> {
@@ -72,13 +86,19 @@ fn encode_task(image: &mut Vec<u8>, task: &Task) {
 
 /// The table that some bytes are the image of, well formed or not; `None` where they are no image.
 pub fn decode(image: &[u8]) -> Option<Table> {
+    load(image).filter(|table| encode(table) == image)
+}
+
+/// The table that bytes of an image's length hold: what a state does not use is passed over, and a byte that is no
+/// state's is a wait for a subprogram that there is not.
+pub fn load(image: &[u8]) -> Option<Table> {
     if image.len() != LENGTH {
         return None;
     }
     let mut bytes = Bytes(image);
     let mut table = Table::default();
     for task in &mut table.tasks {
-        *task = decode_task(&mut bytes)?;
+        *task = load_task(&mut bytes);
     }
     table.queue = bytes.take();
     [table.queued, table.count, table.granule, table.asked] = bytes.take();
@@ -88,15 +108,21 @@ pub fn decode(image: &[u8]) -> Option<Table> {
         *time = u64::from_be_bytes(bytes.take());
     }
     for place in &mut table.pool {
-        *place = decode_request(&mut bytes);
+        *place = load_request(&mut bytes);
     }
     table.levels = u16::from_be_bytes(bytes.take());
+    load_later(&mut bytes, &mut table);
+    Some(table)
+}
+
+/// What stands behind the word of the ready levels: the subprograms and the messages.
+fn load_later(bytes: &mut Bytes, table: &mut Table) {
     let numbers: [u8; TASKS] = bytes.take();
     for (task, number) in table.tasks.iter_mut().zip(numbers) {
-        if let State::WaitSub(awaited) | State::WaitMessage(awaited) = &mut task.state {
-            *awaited = number;
-        } else if number != 0 {
-            return None;
+        match &mut task.state {
+            State::WaitSub(NO_SUB) => {}
+            State::WaitSub(awaited) | State::WaitMessage(awaited) => *awaited = number,
+            _ => {}
         }
     }
     for sub in &mut table.subs {
@@ -112,35 +138,34 @@ pub fn decode(image: &[u8]) -> Option<Table> {
         let [sender] = bytes.take();
         task.mail = Mail { sender, text: bytes.take() };
     }
-    Some(table)
 }
 
-fn decode_task(bytes: &mut Bytes) -> Option<Task> {
+fn load_task(bytes: &mut Bytes) -> Task {
     let [own, state] = bytes.take();
     let time = u64::from_be_bytes(bytes.take());
     let mask = u32::from_be_bytes(bytes.take());
-    let state = match (state, time, mask) {
-        (0, 0, 0) => State::Dormant,
-        (1, 0, 0) => State::Ready,
-        (2, time, 0) => State::Paused(time),
-        (3, time, 0) => State::Due(time),
-        (4, 0, mask) => State::WaitAny(mask),
-        (5, 0, mask) => State::WaitAll(mask),
-        (6, 0, 0) => State::WaitStart,
-        (7, 0, 0) => State::WaitEnd,
+    let state = match state {
+        0 => State::Dormant,
+        1 => State::Ready,
+        2 => State::Paused(time),
+        3 => State::Due(time),
+        4 => State::WaitAny(mask),
+        5 => State::WaitAll(mask),
+        6 => State::WaitStart,
+        7 => State::WaitEnd,
         // its number stands behind the entries
-        (8, 0, 0) => State::WaitSub(0),
-        (9, 0, 0) => State::WaitMessage(0),
-        _ => return None,
+        8 => State::WaitSub(0),
+        9 => State::WaitMessage(0),
+        _ => State::WaitSub(NO_SUB),
     };
     let [priority] = bytes.take();
     let argument = u16::from_be_bytes(bytes.take());
     let started = u64::from_be_bytes(bytes.take());
     let [end_waiter] = bytes.take();
-    Some(Task { own, state, priority, argument, started, end_waiter, mail: Mail::default() })
+    Task { own, state, priority, argument, started, end_waiter, mail: Mail::default() }
 }
 
-fn decode_request(bytes: &mut Bytes) -> Request {
+fn load_request(bytes: &mut Bytes) -> Request {
     let [task, priority] = bytes.take();
     let argument = u16::from_be_bytes(bytes.take());
     let [start_waiter, end_waiter] = bytes.take();

@@ -8,6 +8,8 @@ pub mod configuration;
 pub mod ending;
 pub mod faults;
 pub mod image;
+pub mod mend;
+mod mend_cards;
 pub mod mixes;
 pub mod records;
 mod refusals;

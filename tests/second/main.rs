@@ -9,7 +9,7 @@ use model::faults::FAULTS;
 use model::records::cut;
 use model::steps::{step, step_unchecked};
 use model::table::Table;
-use model::{bench, cards, ending, image, mixes, runs, why};
+use model::{bench, cards, ending, image, mend, mixes, runs, why};
 use std::io::{Read, Write};
 use std::process::ExitCode;
 
@@ -21,6 +21,8 @@ const USAGE: &str = "usage: second listing [--no-check] [--fault NAME] < input
        second mix NAME
        second image < input
        second why TASK < image
+       second mend < image
+       second from IMAGE < steps
        second run INDEX [--seed S]";
 
 fn main() -> ExitCode {
@@ -45,6 +47,8 @@ fn main() -> ExitCode {
         ["mix", name] => print_mix(name),
         ["image"] => Some(print_image()),
         ["why", task] => task.parse().ok().map(print_why),
+        ["mend"] => Some(print_mended()),
+        ["from", image] => Some(print_from(image)),
         _ => None,
     };
     ending::ending(right, USAGE)
@@ -124,4 +128,29 @@ fn print_why(task: u8) -> bool {
         None => "refused 1\n".to_string(),
     });
     told.and_then(|told| std::io::stdout().lock().write_all(told.as_bytes())).is_ok()
+}
+
+/// A mended image, and the list of what was mended on standard error; the list alone where it is refused.
+fn print_mended() -> bool {
+    let done = input().and_then(|bytes| {
+        let mended = mend::mend_image(&bytes);
+        let image: &[u8] = if mended.number == 0 { &mended.image } else { &[] };
+        std::io::stdout().lock().write_all(image)?;
+        std::io::stderr().lock().write_all(mend::told(&bytes, &mended).as_bytes())
+    });
+    done.is_ok()
+}
+
+/// The listing of the steps on standard input, from the image in a file on.
+fn print_from(file: &str) -> bool {
+    let table = std::fs::read(file).ok().and_then(|bytes| image::decode(&bytes));
+    match (table, input()) {
+        (Some(table), Ok(steps)) => {
+            std::io::stdout().lock().write_all(&bench::listing_from(table, &steps, step)).is_ok()
+        }
+        _ => {
+            eprintln!("second: '{file}' is no image, or the steps cannot be read.");
+            false
+        }
+    }
 }
