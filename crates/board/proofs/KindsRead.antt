@@ -1,6 +1,6 @@
 -- What the bytes of a task's entry say of it without its being loaded: its state by the byte of its kind and the byte of the
 -- number that it waits for, its priority, its waiter.
-use Prim.Native.Nat.{ℕ, zero, suc, _+_, _*_, _≤_, _<_}
+use Prim.Native.Nat.{ℕ, _+_, _*_, _≤_, _<_}
 use mathlib.Core.Path.{_≡_, refl, sym, ap, _∙_}
 use mathlib.Core.Bool.{Bool, true, false, _&&_}
 use mathlib.Core.List.{List}
@@ -9,6 +9,7 @@ use borrow.Author.Tests.{eqb-true, eq-eqb, ne-eqb, leb-true, leb-false}
 use lib.Dec.{eqb, leb}
 use lib.ListN.{getD}
 use Rattle.executive.specs.declared.Millis.{Millis}
+use Rattle.executive.specs.declared.State.{State}
 use Rattle.executive.specs.declared.Task.{Task}
 use Rattle.executive.specs.Lists.{_and_}
 use Rattle.executive.specs.Places.{taskAt, entryPlace}
@@ -18,49 +19,18 @@ use Rattle.executive.proofs.Assured.{at-next, at-no-place}
 use Rattle.board.specs.Image.{taskFrom}
 use Rattle.board.specs.Sound.{tasksIn}
 use Rattle.board.proofs.Alike.{decide}
-use Rattle.board.proofs.Loaded.{tasks-size, task-there, entry-there}
+use Rattle.board.proofs.Loaded.{tasks-size, task-there, entry-there, kind-some, no-kind}
 
 -- ---- the state of a kind, a time, a mask and a number
 module _ (t : Millis) (m a : ℕ) where
-  kind-near : (k : ℕ) → k ≤ 9 → stateKind (stateOf k t m a) ≡ k
-  unfolding stateOf
-  kind-near zero h = refl
-  kind-near (suc zero) h = refl
-  kind-near (suc (suc zero)) h = refl
-  kind-near (suc (suc (suc zero))) h = refl
-  kind-near (suc (suc (suc (suc zero)))) h = refl
-  kind-near (suc (suc (suc (suc (suc zero))))) h = refl
-  kind-near (suc (suc (suc (suc (suc (suc zero)))))) h = refl
-  kind-near (suc (suc (suc (suc (suc (suc (suc zero))))))) h = refl
-  kind-near (suc (suc (suc (suc (suc (suc (suc (suc zero)))))))) h = refl
-  kind-near (suc (suc (suc (suc (suc (suc (suc (suc (suc zero))))))))) h = refl
-  kind-near (suc (suc (suc (suc (suc (suc (suc (suc (suc (suc k)))))))))) h = absurd (omega arith)
-
-  kind-far : (k : ℕ) → 9 < k → stateKind (stateOf k t m a) ≡ 4
-  unfolding stateOf
-  kind-far k h =
-      rw (
-        ne-eqb k 0 (λ z. omega arith),
-        ne-eqb k 1 (λ z. omega arith),
-        ne-eqb k 2 (λ z. omega arith),
-        ne-eqb k 3 (λ z. omega arith),
-        ne-eqb k 4 (λ z. omega arith),
-        ne-eqb k 5 (λ z. omega arith),
-        ne-eqb k 6 (λ z. omega arith),
-        ne-eqb k 7 (λ z. omega arith),
-        ne-eqb k 8 (λ z. omega arith),
-        ne-eqb k 9 (λ z. omega arith),
-      )
-      refl
-
   -- of any kind but that of a byte that is none
   is-kind : (n k : ℕ) → n ≤ 9 → (n ≡ 4 → ⊥) → isOf n (stateOf k t m a) ≡ eqb n k
   is-kind n k h d =
       decide (leb k 9)
-      (λ e. ap (eqb n) (kind-near k (leb-true k 9 e)))
+      (λ e. ap (eqb n) (kind-some k t m a (leb-true k 9 e)))
       (λ e.
       let l = leb-false k 9 e in
-      ap (eqb n) (kind-far k l) ∙ ne-eqb n 4 d ∙ sym (ne-eqb n k (λ z. omega (arith, l))))
+      ap (λ (x : State). eqb n (stateKind x)) (no-kind k t m a l) ∙ ne-eqb n 4 d ∙ sym (ne-eqb n k (λ z. omega (arith, l))))
 
   any-sub : (k : ℕ) → awaitsAny (stateOf k t m a) ≡ (eqb 8 k and leb a 7)
   unfolding stateOf

@@ -143,7 +143,7 @@ module _ (s : List ℕ) where
 
 -- ---- the state of a task, by its kind's byte
 -- a byte that is a kind, and one that is none
-kind-some : (k : ℕ) (t : Millis) (m a : ℕ) → k ≤ 9 → stateKind (stateOf k t m a) ≡ k
+pub kind-some : (k : ℕ) (t : Millis) (m a : ℕ) → k ≤ 9 → stateKind (stateOf k t m a) ≡ k
 unfolding stateOf
 kind-some zero t m a h = refl
 kind-some (suc zero) t m a h = refl
@@ -157,7 +157,7 @@ kind-some (suc (suc (suc (suc (suc (suc (suc (suc zero)))))))) t m a h = refl
 kind-some (suc (suc (suc (suc (suc (suc (suc (suc (suc zero))))))))) t m a h = refl
 kind-some (suc (suc (suc (suc (suc (suc (suc (suc (suc (suc k)))))))))) t m a h = absurd (omega arith)
 
-no-kind : (k : ℕ) (t : Millis) (m a : ℕ) → 9 < k → stateOf k t m a ≡ Flags Any 0
+pub no-kind : (k : ℕ) (t : Millis) (m a : ℕ) → 9 < k → stateOf k t m a ≡ Flags Any 0
 unfolding stateOf
 no-kind k t m a h =
     simp (

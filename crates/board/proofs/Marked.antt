@@ -27,7 +27,7 @@ use Rattle.board.proofs.Alike.{decide}
 use Rattle.board.proofs.Loaded.{tasks-size, line-size, placed-there, level-there}
 
 -- ---- one bit
-bit-other : (k j : ℕ) → (j ≡ k → ⊥) → isSet (2 ^ k) j ≡ false
+pub bit-other : (k j : ℕ) → (j ≡ k → ⊥) → isSet (2 ^ k) j ≡ false
 bit-other k j n = decide (isSet (2 ^ k) j) (λ h. absurd (n (sym (set-only k j h)))) (λ h. h)
 
 or-none : (a : Bool) → (a || false) ≡ a
@@ -104,7 +104,7 @@ unfolding taskAt
 passed-at f ts k b e = ap one (sym e)
 
 -- ---- the law: the two sets are one exactly where each task stands in the line as often as its state says
-one-same : (a b : Bool) → one a ≡ one b → a ≡ b
+pub one-same : (a b : Bool) → one a ≡ one b → a ≡ b
 one-same true true e = refl
 one-same true false e = absurd (omega arith)
 one-same false true e = absurd (omega arith)

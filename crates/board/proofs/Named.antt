@@ -20,19 +20,21 @@ use Rattle.executive.specs.States.{awaitStart, awaitEnd}
 use Rattle.executive.specs.Flags.{isSet}
 use Rattle.executive.specs.WellFormed.{startsOf, endsOf, runsOf}
 use Rattle.executive.specs.Check.{waitersAt}
-use Rattle.executive.proofs.Assured.{one-le, all-not, all-get, all-make, sum-append, false-not-true, eqb-self, and-true, and-false-left, and-false-right, and-true-left, of-not, set-none, set-or, set-same, set-only, same-bits, same}
+use Rattle.executive.proofs.Lists.Loops.{one-le, all-not, all-get, all-make}
+use Rattle.executive.proofs.Lists.Sums.{sum-append}
+use Rattle.executive.proofs.Lists.Tests.{false-not-true, eqb-self, and-true, and-false-left, and-false-right, and-true-left, of-not}
+use Rattle.board.proofs.Lent.Bits.{set-none, set-or, set-same, same-bits}
+use Rattle.executive.proofs.check.Passes.{same}
 use Rattle.board.specs.Sound.{naming, namings, namesIn, setOf, waitsAs, namesOther}
 use Rattle.board.proofs.Alike.{decide}
 use Rattle.board.proofs.Spans.{length-blocks, block-at}
+use Rattle.board.proofs.Marked.{bit-other, one-same}
 
 -- how often number k stands among some
 abbrev pub timesOf : ℕ → List ℕ → ℕ
 timesOf k ks = sumOf (λ (j : ℕ). one (eqb k j)) ks
 
 -- ---- single bits
-bit-other : (q p : ℕ) → (q ≡ p → ⊥) → isSet (2 ^ q) p ≡ false
-bit-other q p n = decide (isSet (2 ^ q) p) (λ e. absurd (n (set-only q p e))) (λ e. e)
-
 or-false : (a b : Bool) → a ≡ false → b ≡ false → (a || b) ≡ false
 or-false a b e f = rw (e, f) refl
 
@@ -108,7 +110,7 @@ module _ (n : ℕ) (hn : n ≤ 16) where
               let y : isSet (bitOr w (2 ^ j)) k ≡ true = set-or k w (2 ^ j) ∙ or-right (isSet w k) _ (ap (isSet (2 ^ j)) q ∙ set-same j) in
               omega (arith, t .once z k a b, ap one x, ap one y, ap one d))
               (λ d.
-              let y : isSet (bitOr w (2 ^ j)) k ≡ isSet w k = set-or k w (2 ^ j) ∙ or-same (isSet w k) _ (bit-other j k (λ q. eqb-false k j d (sym q))) in
+              let y : isSet (bitOr w (2 ^ j)) k ≡ isSet w k = set-or k w (2 ^ j) ∙ or-same (isSet w k) _ (bit-other j k (eqb-false k j d)) in
               omega (arith, t .once z k a b, ap one y, ap one d))
 
     told-more : Told n (naming n w j) (λ k. c k + one (eqb k j))
@@ -136,7 +138,7 @@ module _ (n : ℕ) (hn : n ≤ 16) where
 
 -- ---- the set of those who pass a test
 bit-if : (b : Bool) (q p : ℕ) → (q ≡ p → ⊥) → isSet (cond b (2 ^ q) 0) p ≡ false
-bit-if true q p n = bit-other q p n
+bit-if true q p n = bit-other q p (λ z. n (sym z))
 bit-if false q p n = set-none p
 
 bit-of : (b : Bool) (q : ℕ) → isSet (cond b (2 ^ q) 0) q ≡ b
@@ -179,12 +181,6 @@ module _ (f : ℕ → Bool) where
   unfolding setOf
   set-below zero h = omega arith
   set-below (suc n) h = or-lt 17 (setOf f n) _ (set-below n (omega arith)) (bit-low (f (suc n)) (suc n) h)
-
-one-same : (a b : Bool) → one a ≡ one b → a ≡ b
-one-same true true e = refl
-one-same true false e = absurd (omega arith)
-one-same false true e = absurd (omega arith)
-one-same false false e = refl
 
 -- ---- the law
 pub named-exact : (n : ℕ) → n ≤ 16 → (f : ℕ → Bool) (ks : List ℕ) → eqb (namings n 0 ks) (setOf f n) ≡ upTo (λ (k : ℕ). eqb (timesOf k ks) (one (f k))) n

@@ -1,17 +1,15 @@
 -- Bytes that are all zero: numbers, blocks and rows of blocks that are, as one test of their bytes.
-use Prim.Native.Nat.{ℕ, zero, suc, _+_, _-_, _*_, _≤_, _<_}
+use Prim.Native.Nat.{ℕ, zero, suc, _+_, _-_, _*_, _≤_}
 use mathlib.Core.Path.{_≡_, refl, sym, ap, _∙_}
 use mathlib.Core.Bool.{Bool, true, false, cond}
 use mathlib.Core.List.{List, [], _∷_}
 use native.Mathlib.Omega.{arith}
 use native.Mathlib.Nat.{add-zero, suc-mul, zero-mul}
-use native.Mathlib.Numerals.{add-one}
 use borrow.Author.Tests.{eqb-true, eqb-false, eq-eqb, ne-eqb}
 use lib.Dec.{eqb}
-use lib.Bits.{bitOr, bitAnd, or-zero-l, or-add-and, and-le-l, and-le-r}
-use lib.ListN.{length, getD, take, drop}
-use Rattle.records.specs.declared.TaskNo.{TaskNo}
-use Rattle.records.specs.Numbers.{numberFrom, numberOf, part, cut}
+use lib.Bits.{bitOr, or-zero-l, or-add-and, and-le-l, and-le-r}
+use lib.ListN.{length, getD, drop}
+use Rattle.records.specs.Numbers.{numberFrom, numberOf, part}
 use Rattle.executive.specs.Lists.{_and_, allOf}
 use Rattle.executive.specs.Check.{isNobody, isFree, isFreeSub, isNoMessage, isNoMail}
 use Rattle.board.specs.Blocks.{blocks}
@@ -102,8 +100,8 @@ module _ (s : List ℕ) where
       let z : ((0 * 256 + 0) * 256 + 0) * 256 + getD s at 0 ≡ getD s at 0 = omega arith in
       ap (λ (n : ℕ). eqb n 0) z ∙ sym (cond-true (eqb (getD s at 0) 0))
 
-  pub eight-nought : (at x y : ℕ) → eqb x 0 ≡ noughts s 4 at → eqb y 0 ≡ noughts s 4 (at + 4) → eqb (bitOr x y) 0 ≡ noughts s 8 at
-  eight-nought at x y e f = or-nought x y ∙ rw (e, f) (sym (noughts-join 4 4 at))
+  pub twice-noughts : (w at x y : ℕ) → eqb x 0 ≡ noughts s w at → eqb y 0 ≡ noughts s w (at + w) → eqb (bitOr x y) 0 ≡ noughts s (w + w) at
+  twice-noughts w at x y e f = or-nought x y ∙ rw (e, f) (sym (noughts-join w w at))
 
   -- the loop over them: none yet, and w more
   pub none-nought : (from : ℕ) → eqb 0 0 ≡ noughts s (from - from) from

@@ -1,21 +1,23 @@
 -- The check of the messages and the mail where they lie: what a turn of each loop says of the loaded table.
 use Prim.Native.Nat.{ℕ, _+_, _-_, _*_, _≤_, _<_}
 use mathlib.Core.Path.{_≡_, refl, sym, ap, _∙_}
-use mathlib.Core.Bool.{Bool, true, false, not, cond}
+use mathlib.Core.Bool.{Bool, true, false, cond}
 use mathlib.Core.List.{List}
 use native.Mathlib.Omega.{arith}
-use borrow.Author.Tests.{eqb-true, eq-eqb, ne-eqb, le-leb, lt-leb}
+use borrow.Author.Tests.{eq-eqb, ne-eqb, le-leb, lt-leb}
 use lib.Dec.{eqb, leb}
 use lib.ListN.{length, getD, take, drop}
 use Rattle.executive.specs.declared.Task.{Task}
 use Rattle.executive.specs.declared.Message.{Message}
 use Rattle.executive.specs.declared.Mail.{Mail}
-use Rattle.executive.specs.Lists.{_and_, upTo, allOf}
-use Rattle.executive.specs.Places.{noTask, taskAt}
+use Rattle.executive.specs.Lists.{_and_}
+use Rattle.executive.specs.Places.{noTask}
 use Rattle.executive.specs.Messages.{noMessage, noMail}
 use Rattle.executive.specs.States.{isDormant}
-use Rattle.executive.specs.Check.{messageInRange, isUntaken, lettersRight, mailInRange, isNoMail, isEmptied, mailRightAt, mailRight}
-use Rattle.executive.proofs.Assured.{every-get, all-make, at-next, right-over, right-out, right-high, right-taken, right-on, mail-next, no-mail-is}
+use Rattle.executive.specs.Check.{messageInRange, isUntaken, lettersRight, isNoMail, mailRightAt, mailRight}
+use Rattle.executive.proofs.Lists.Loops.{every-get, all-make}
+use Rattle.executive.proofs.check.Passes.{at-next}
+use Rattle.executive.proofs.check.Messages.{right-out, right-high, right-taken, right-on, mail-next, no-mail-is}
 use Rattle.board.specs.Sound.{noughts, tasksIn, mailIn}
 use Rattle.board.proofs.Noughts.{mail-nought}
 use Rattle.board.proofs.KindsRead.{kind-there}

@@ -6,7 +6,7 @@ ghost use lib.Dec.{eqb};
 ghost use lib.ListN.{length};
 ghost use Rattle.board.specs.Sound.{noughts};
 
-// A number that is zero where a byte is, and so four and eight.
+// A number that is zero where a byte is, and so four, eight and sixteen.
 fn one(b: &[u8], at: usize) -> u32
     requires { ⌜ at + 1 ≤ length (now b) ⌝ }
     ensures { λ r. ⌜ eqb r 0 ≡ noughts (now (b .entry)) 1 at ⌝ }
@@ -28,6 +28,13 @@ fn eight(b: &[u8], at: usize) -> u32
     four(b, at) | four(b, at + 4)
 }
 
+fn sixteen(b: &[u8], at: usize) -> u32
+    requires { ⌜ at + 16 ≤ length (now b) ⌝ }
+    ensures { λ r. ⌜ eqb r 0 ≡ noughts (now (b .entry)) 16 at ⌝ }
+{
+    eight(b, at) | eight(b, at + 8)
+}
+
 // Whether the bytes from a place up to another are all zero.
 pub(crate) fn are_zero(b: &[u8], from: usize, to: usize) -> bool
     requires { ⌜ (from ≤ to) × (to ≤ length (now b)) ⌝ }
@@ -35,9 +42,9 @@ pub(crate) fn are_zero(b: &[u8], from: usize, to: usize) -> bool
 {
     let mut any: u32 = 0;
     let mut at = from;
-    while 8 <= to - at {
-        any = any | eight(b, at);
-        at += 8;
+    while 16 <= to - at {
+        any = any | sixteen(b, at);
+        at += 16;
     }
     while at < to {
         any = any | one(b, at);

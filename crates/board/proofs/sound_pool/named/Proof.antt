@@ -1,3 +1,4 @@
+-- `sound_pool::named` meets its contract. The invariant: those whose numbers stand from i on, with those so far, are all.
 use Prim.Native.Nat.{_-_, _≤_}
 use mathlib.Core.Path.{_≡_, refl, sym, _∙_}
 use native.Mathlib.Omega.{arith}

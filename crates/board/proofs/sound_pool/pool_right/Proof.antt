@@ -1,3 +1,4 @@
+-- `sound_pool::pool_right` meets its contract: its three tests, one after the other.
 use mathlib.Core.Path.{sym, _∙_}
 use native.Mathlib.Omega.{arith}
 use denote.Ref.{now}

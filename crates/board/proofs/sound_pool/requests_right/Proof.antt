@@ -1,3 +1,4 @@
+-- `sound_pool::requests_right` meets its contract. The invariant: the requests from i on decide.
 use Prim.Native.Nat.{_-_, _≤_}
 use mathlib.Core.Path.{_≡_, refl, sym, _∙_}
 use mathlib.Core.Bool.{true, false}
@@ -33,9 +34,6 @@ add-request-in c = omega (arith, c .before .before .before .pre .0, c .before .b
 
 request-in-requires : tie.Need-request-in-requires Inv-loop μ-loop
 request-in-requires c κs = omega (arith, c .before .before .before .pre .0, c .before .before .before .pre .1, c .loop-test .taken)
-
-request-fits-requires : tie.Need-request-fits-requires Inv-loop μ-loop
-request-fits-requires c κs = search needs
 
 returns : tie.Need-returns Inv-loop μ-loop
 returns c =
@@ -84,7 +82,7 @@ requests-right-spec =
     mul-request-in
     add-request-in
     request-in-requires
-    request-fits-requires
+    (λ c κs. search needs)
     returns
     is-idle-requires
     returns-2

@@ -1,3 +1,4 @@
+-- `sound_pool::wait_as_named` meets its contract. The invariant: the sets are those of the first k tasks, none of whose runs names itself.
 use Prim.Native.Nat.{_-_, _≤_, _<_}
 use mathlib.Core.Path.{_≡_, refl}
 use mathlib.Core.Bool.{true}
@@ -26,9 +27,6 @@ abbrev μ-loop : tie.MeasureT-loop
 loop-holds : tie.Need-loop-holds Inv-loop μ-loop
 unfolding setOf
 loop-holds c = (omega arith, refl, refl, all-none (namesOther (tasksIn (now (c .before .args .b)))))
-
-cast-at : tie.Need-cast-at Inv-loop μ-loop
-cast-at c = search needs
 
 mul-at : tie.Need-mul-at Inv-loop μ-loop
 mul-at c = omega (arith, c .before .before .before .pre .0, c .before .before .before .pre .1, c .loop-test .taken)
@@ -96,7 +94,7 @@ wait-as-named-spec =
     Inv-loop
     μ-loop
     loop-holds
-    cast-at
+    (λ c. search needs)
     mul-at
     add-kind
     shared-slice-read-kind

@@ -1,3 +1,4 @@
+-- `sound_pool::waiters_right` meets its contract: the sets of those named against those who wait.
 use mathlib.Core.Path.{_∙_}
 use native.Mathlib.Omega.{arith}
 use denote.Ref.{now}
@@ -6,14 +7,8 @@ use Rattle.board.proofs.LinesRead.{waiters-by-names}
 use Rattle.board.proofs.sound_pool.waiters_right.Statement.{statement}
 use Rattle.board.proofs.sound_pool.waiters_right.Tie as tie
 
-add-named : tie.Need-add-named
-add-named c = search needs
-
 named-requires : tie.Need-named-requires
 named-requires c κs = (c .before .pre .0, c .before .pre .2, λ i h. omega (arith, h, c .before .pre .1))
-
-add-named-2 : tie.Need-add-named-2
-add-named-2 c = search needs
 
 named-requires-2 : tie.Need-named-requires-2
 named-requires-2 c κs = (c .before .before .pre .0, c .before .before .pre .2, λ i h. omega (arith, h, c .before .before .pre .1))
@@ -31,9 +26,9 @@ pub waiters-right-spec : {M : Type 1} → statement M
 waiters-right-spec =
     tie.close
     (tie.spec
-    add-named
+    (λ c. search needs)
     named-requires
-    add-named-2
+    (λ c. search needs)
     named-requires-2
     named-requires-3
     wait-as-named-requires

@@ -1,3 +1,4 @@
+-- `sound_pool::with` meets its contract: a number that names no task, one that is named already, one that is not.
 use native.Mathlib.Omega.{arith}
 use Rattle.board.proofs.Named.{naming-none, naming-past, naming-again, naming-new, some-of}
 use Rattle.board.proofs.sound_pool.with.Statement.{statement}

@@ -1,3 +1,4 @@
+-- `sound_post::is_taken` meets its contract: the bytes of its kind and of its number tell.
 use native.Mathlib.Omega.{arith}
 use denote.Ref.{now}
 use borrow.Author.Needs.{needs}
@@ -5,29 +6,11 @@ use Rattle.board.proofs.KindsRead.{taken-none, taken-not, taken-any, ta
 use Rattle.board.proofs.sound_post.is_taken.Statement.{statement}
 use Rattle.board.proofs.sound_post.is_taken.Tie as tie
 
-place-requires : tie.Need-place-requires
-place-requires c κs = search needs
-
 returns : tie.Need-returns
 returns c = taken-none (now (c .before .before .before .args .b)) (c .before .before .before .args .to) _ (c .before .place .ensures) (c .before .before .before .args .sender) (c .if1 .taken)
 
-mul-if2 : tie.Need-mul-if2
-mul-if2 c = search needs
-
-add-if2 : tie.Need-add-if2
-add-if2 c = search needs
-
-shared-slice-read-if2 : tie.Need-shared-slice-read-if2
-shared-slice-read-if2 c = search needs
-
 returns-2 : tie.Need-returns-2
 returns-2 c = taken-not (now (c .before .before .before .before .before .args .b)) (c .before .before .before .before .before .args .to) _ (c .before .before .before .place .ensures) (c .before .before .before .before .before .args .sender) (omega (arith, c .before .before .if1 .left)) (c .if2 .taken)
-
-add-from : tie.Need-add-from
-add-from c = search needs
-
-shared-slice-read-from : tie.Need-shared-slice-read-from
-shared-slice-read-from c = search needs
 
 returns-3 : tie.Need-returns-3
 returns-3 c = taken-any (now (c .before .before .before .before .before .before .before .args .b)) (c .before .before .before .before .before .before .before .args .to) _ (c .before .before .before .before .before .place .ensures) (c .before .before .before .before .before .before .before .args .sender) (omega (arith, c .before .before .before .before .if1 .left)) (c .before .before .if2 .left) (c .if3 .taken)
@@ -39,13 +22,13 @@ pub is-taken-spec : {M : Type 1} → statement M
 is-taken-spec =
     tie.close
     (tie.spec
-    place-requires
+    (λ c κs. search needs)
     returns
-    mul-if2
-    add-if2
-    shared-slice-read-if2
+    (λ c. search needs)
+    (λ c. search needs)
+    (λ c. search needs)
     returns-2
-    add-from
-    shared-slice-read-from
+    (λ c. search needs)
+    (λ c. search needs)
     returns-3
     returns-4)

@@ -1,3 +1,4 @@
+-- `sound_post::letters_right` meets its contract. The invariant: those from i on decide.
 use Prim.Native.Nat.{_-_, _≤_}
 use mathlib.Core.Path.{_≡_, refl, sym, ap, _∙_}
 use native.Mathlib.Omega.{arith}
@@ -31,9 +32,6 @@ add-message-in c = omega (arith, c .before .before .before .pre .0, c .before .b
 
 message-in-requires : tie.Need-message-in-requires Inv-loop μ-loop
 message-in-requires c κs = omega (arith, c .before .before .before .pre .0, c .before .before .before .pre .1, c .loop-test .taken)
-
-message-in-range-requires : tie.Need-message-in-range-requires Inv-loop μ-loop
-message-in-range-requires c κs = search needs
 
 returns : tie.Need-returns Inv-loop μ-loop
 returns c =
@@ -89,7 +87,7 @@ letters-right-spec =
     mul-message-in
     add-message-in
     message-in-requires
-    message-in-range-requires
+    (λ c κs. search needs)
     returns
     returns-2
     is-taken-requires

@@ -1,3 +1,4 @@
+-- `sound_post::mail_right` meets its contract. The invariant: the mail of the first i tasks is right.
 use Prim.Native.Nat.{_-_, _≤_}
 use mathlib.Core.Path.{_≡_, sym, _∙_}
 use mathlib.Core.Bool.{true}

@@ -1,3 +1,4 @@
+-- `sound_post::one_mail` meets its contract: out of range, that of a dormant task, that of another.
 use mathlib.Core.Path.{refl, _∙_}
 use denote.Ref.{now}
 use borrow.Author.Needs.{needs}
@@ -6,29 +7,8 @@ use Rattle.board.proofs.Loaded.{mail-there}
 use Rattle.board.proofs.sound_post.one_mail.Statement.{statement}
 use Rattle.board.proofs.sound_post.one_mail.Tie as tie
 
-mul-mail-at : tie.Need-mul-mail-at
-mul-mail-at c = search needs
-
-add-mail-at : tie.Need-add-mail-at
-add-mail-at c = search needs
-
-mail-at-requires : tie.Need-mail-at-requires
-mail-at-requires c κs = search needs
-
 returns : tie.Need-returns
 returns c = mail-out (now (c .before .before .before .before .args .b)) (c .before .before .before .before .args .count) (c .before .before .before .before .args .i) (c .before .before .before .before .pre .1) (c .before .before .mail-at .result) (c .before .before .mail-at .ensures ∙ mail-there (now (c .before .before .before .before .args .b)) (c .before .before .before .before .args .i) _ (c .before .before .before .before .pre .1) refl) (c .if1 .taken)
-
-mul-if2 : tie.Need-mul-if2
-mul-if2 c = search needs
-
-add-if2 : tie.Need-add-if2
-add-if2 c = search needs
-
-shared-slice-read-if2 : tie.Need-shared-slice-read-if2
-shared-slice-read-if2 c = search needs
-
-is-no-mail-requires : tie.Need-is-no-mail-requires
-is-no-mail-requires c κs = search needs
 
 returns-2 : tie.Need-returns-2
 returns-2 c = c .is-no-mail .ensures ∙ mail-idle (now (c .before .before .before .before .before .before .before .args .b)) (c .before .before .before .before .before .before .before .args .count) (c .before .before .before .before .before .before .before .args .i) (c .before .before .before .before .before .before .before .pre .1) (c .before .before .before .before .before .mail-at .result) (c .before .before .before .before .before .mail-at .ensures ∙ mail-there (now (c .before .before .before .before .before .before .before .args .b)) (c .before .before .before .before .before .before .before .args .i) _ (c .before .before .before .before .before .before .before .pre .1) refl) (c .before .before .before .if1 .left) (c .before .if2 .taken)
@@ -40,13 +20,13 @@ pub one-mail-spec : {M : Type 1} → statement M
 one-mail-spec =
     tie.close
     (tie.spec
-    mul-mail-at
-    add-mail-at
-    mail-at-requires
+    (λ c. search needs)
+    (λ c. search needs)
+    (λ c κs. search needs)
     returns
-    mul-if2
-    add-if2
-    shared-slice-read-if2
-    is-no-mail-requires
+    (λ c. search needs)
+    (λ c. search needs)
+    (λ c. search needs)
+    (λ c κs. search needs)
     returns-2
     returns-3)

@@ -1,3 +1,4 @@
+-- `sound_subs::line_right` meets its contract: the walk, the set and the free places decide.
 use denote.Ref.{now}
 use borrow.Author.Tests.{not-true, not-false}
 use Rattle.board.proofs.LinesRead.{line-wrong, line-other, line-last}

@@ -1,3 +1,4 @@
+-- `sound_subs::none_waits` meets its contract. The invariant: none of the first k tasks waits for one.
 use Prim.Native.Nat.{_-_, _≤_}
 use mathlib.Core.Path.{_≡_, sym, _∙_}
 use mathlib.Core.Bool.{true, false}

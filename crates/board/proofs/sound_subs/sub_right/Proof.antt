@@ -1,3 +1,4 @@
+-- `sound_subs::sub_right` meets its contract: its tests, one after the other.
 use mathlib.Core.Path.{sym, _∙_}
 use native.Mathlib.Omega.{arith}
 use denote.Ref.{now}
@@ -37,9 +38,6 @@ add-line-right-2 c = omega (arith, c .before .before .before .before .before .be
 shared-slice-read-line-right : tie.Need-shared-slice-read-line-right
 shared-slice-read-line-right c = omega (arith, c .before .before .before .before .before .before .before .before .pre .0, c .before .before .before .before .before .before .before .before .pre .1)
 
-cast-line-right : tie.Need-cast-line-right
-cast-line-right c = search needs
-
 line-right-requires : tie.Need-line-right-requires
 line-right-requires c κs = (c .before .before .before .before .before .before .before .before .pre .0, omega (arith, c .before .before .before .before .before .before .before .before .pre .1), c .before .before .before .if2 .left, c .before .before .before .before .before .before .before .before .pre .2)
 
@@ -60,6 +58,6 @@ sub-right-spec =
     add-line-right
     add-line-right-2
     shared-slice-read-line-right
-    cast-line-right
+    (λ c. search needs)
     line-right-requires
     returns-4)

@@ -1,3 +1,4 @@
+-- `sound_subs::subs_right` meets its contract. The invariant: those from m on decide.
 use Prim.Native.Nat.{_-_, _≤_}
 use mathlib.Core.Path.{_≡_, sym, _∙_}
 use native.Mathlib.Omega.{arith}
@@ -29,9 +30,6 @@ returns c = c .none-waits .ensures ∙ all-free (now (c .before .before .before 
 
 loop-holds : tie.Need-loop-holds Inv-loop μ-loop
 loop-holds c = (omega arith, held-first (tasksIn (now (c .before .before .before .args .b))) (c .before .before .before .args .count) (subsIn (now (c .before .before .before .args .b))))
-
-cast-sub-right : tie.Need-cast-sub-right Inv-loop μ-loop
-cast-sub-right c = search needs
 
 mul-sub-right : tie.Need-mul-sub-right Inv-loop μ-loop
 mul-sub-right c = omega (arith, c .loop-test .taken)
@@ -73,7 +71,7 @@ subs-right-spec =
     none-waits-requires
     returns
     loop-holds
-    cast-sub-right
+    (λ c. search needs)
     mul-sub-right
     add-sub-right
     sub-right-requires

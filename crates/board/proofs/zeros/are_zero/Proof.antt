@@ -1,8 +1,8 @@
+-- `zeros::are_zero` meets its contract. The invariant of both loops: what is put together is zero where all bytes up to there are.
 use Prim.Native.Nat.{_-_, _≤_}
 use mathlib.Core.Path.{_≡_}
 use native.Mathlib.Omega.{arith}
 use denote.Ref.{now}
-use borrow.Author.Needs.{needs}
 use lib.Dec.{eqb}
 use Rattle.board.specs.Sound.{noughts}
 use Rattle.board.proofs.Noughts.{none-nought, more-noughts}
@@ -27,8 +27,8 @@ loop-holds c = (omega arith, c .before .pre .0, none-nought (now (c .before .arg
 sub-loop : tie.Need-sub-loop Inv-loop μ-loop Inv-loop2 μ-loop2
 sub-loop c = c .loop .inv .1
 
-eight-requires : tie.Need-eight-requires Inv-loop μ-loop Inv-loop2 μ-loop2
-eight-requires c κs = omega (arith, c .before .before .before .pre .1, c .loop-test .taken, c .before .loop .inv .1)
+sixteen-requires : tie.Need-sixteen-requires Inv-loop μ-loop Inv-loop2 μ-loop2
+sixteen-requires c κs = omega (arith, c .before .before .before .pre .1, c .loop-test .taken, c .before .loop .inv .1)
 
 add-at : tie.Need-add-at Inv-loop μ-loop Inv-loop2 μ-loop2
 add-at c = omega (arith, c .before .loop-test .taken, c .before .before .loop .inv .1)
@@ -39,7 +39,7 @@ loop-less c = omega (arith, c .before .loop-test .taken, c .before .before .loop
 loop-again : tie.Need-loop-again Inv-loop μ-loop Inv-loop2 μ-loop2
 loop-again c =
     let v = c .before .before .loop in
-    (omega (arith, v .inv .0), omega (arith, c .before .loop-test .taken, v .inv .1), more-noughts (now (c .before .before .before .before .args .b)) (c .before .before .before .before .args .from) (v .at) 8 (v .any) (c .eight .result) (v .inv .0) (v .inv .2) (c .eight .ensures))
+    (omega (arith, v .inv .0), omega (arith, c .before .loop-test .taken, v .inv .1), more-noughts (now (c .before .before .before .before .args .b)) (c .before .before .before .before .args .from) (v .at) 16 (v .any) (c .sixteen .result) (v .inv .0) (v .inv .2) (c .sixteen .ensures))
 
 loop2-holds : tie.Need-loop2-holds Inv-loop μ-loop Inv-loop2 μ-loop2
 loop2-holds c = c .before .loop .inv
@@ -74,7 +74,7 @@ are-zero-spec =
     μ-loop2
     loop-holds
     sub-loop
-    eight-requires
+    sixteen-requires
     add-at
     loop-less
     loop-again

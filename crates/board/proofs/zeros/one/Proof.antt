@@ -1,3 +1,4 @@
+-- `zeros::one` meets its contract: a byte, as the lowest of four.
 use Prim.Native.Nat.{ℕ}
 use mathlib.Core.Path.{ap, _∙_}
 use denote.Ref.{now}
@@ -7,14 +8,8 @@ use Rattle.board.proofs.Noughts.{noughts-one}
 use Rattle.board.proofs.zeros.one.Statement.{statement}
 use Rattle.board.proofs.zeros.one.Tie as tie
 
-shared-slice-read-word : tie.Need-shared-slice-read-word
-shared-slice-read-word c = search needs
-
-word-requires : tie.Need-word-requires
-word-requires c κs = search needs
-
 returns : tie.Need-returns
 returns c = ap (λ (n : ℕ). eqb n 0) (c .word .ensures) ∙ noughts-one (now (c .before .before .before .args .b)) (c .before .before .before .args .at)
 
 pub one-spec : {M : Type 1} → statement M
-one-spec = tie.close (tie.spec shared-slice-read-word word-requires returns)
+one-spec = tie.close (tie.spec (λ c. search needs) (λ c κs. search needs) returns)
