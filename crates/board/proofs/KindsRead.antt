@@ -16,7 +16,7 @@ use Rattle.executive.specs.Places.{taskAt, entryPlace}
 use Rattle.executive.specs.States.{stateKind, stateOf, isOf, isDormant, takes, takesFrom}
 use Rattle.executive.specs.Check.{awaitsAny}
 use Rattle.executive.proofs.Assured.{at-next, at-no-place}
-use Rattle.board.specs.Image.{taskFrom}
+use Rattle.board.specs.Image.{taskFrom, noKind, stateIn}
 use Rattle.board.specs.Sound.{tasksIn}
 use Rattle.board.proofs.Alike.{decide}
 use Rattle.board.proofs.Loaded.{tasks-size, task-there, entry-there, kind-some, no-kind}
@@ -24,23 +24,26 @@ use Rattle.board.proofs.Loaded.{tasks-size, task-there, entry-there, ki
 -- ---- the state of a kind, a time, a mask and a number
 module _ (t : Millis) (m a : ℕ) where
   -- of any kind but that of a byte that is none
-  is-kind : (n k : ℕ) → n ≤ 9 → (n ≡ 4 → ⊥) → isOf n (stateOf k t m a) ≡ eqb n k
+  is-kind : (n k : ℕ) → n ≤ 9 → (n ≡ 8 → ⊥) → isOf n (stateIn k t m a) ≡ eqb n k
   is-kind n k h d =
       decide (leb k 9)
       (λ e. ap (eqb n) (kind-some k t m a (leb-true k 9 e)))
       (λ e.
       let l = leb-false k 9 e in
-      ap (λ (x : State). eqb n (stateKind x)) (no-kind k t m a l) ∙ ne-eqb n 4 d ∙ sym (ne-eqb n k (λ z. omega (arith, l))))
+      ap (λ (x : State). eqb n (stateKind x)) (no-kind k t m a l) ∙ ne-eqb n 8 d ∙ sym (ne-eqb n k (λ z. omega (arith, l))))
 
-  any-sub : (k : ℕ) → awaitsAny (stateOf k t m a) ≡ (eqb 8 k and leb a 7)
-  unfolding stateOf
+  any-sub : (k : ℕ) → awaitsAny (stateIn k t m a) ≡ (eqb 8 k and leb a 7)
+  unfolding stateIn stateOf
   any-sub k =
       decide (eqb 8 k)
       (λ e. let q : k ≡ 8 = sym (eqb-true 8 k e) in rw q refl)
-      (λ e. rw (is-kind 8 k (omega arith) (λ z. omega arith), e) refl)
+      (λ e.
+      decide (leb k 9)
+      (λ l. let w : isOf 8 (stateIn k t m a) ≡ eqb 8 k = ap (eqb 8) (kind-some k t m a (leb-true k 9 l)) in rw (w, e) refl)
+      (λ l. rw (no-kind k t m a (leb-false k 9 l), e) refl))
 
-  takes-from : (c k : ℕ) → takes c (stateOf k t m a) ≡ (eqb 9 k && takesFrom a c)
-  unfolding stateOf
+  takes-from : (c k : ℕ) → takes c (stateIn k t m a) ≡ (eqb 9 k && takesFrom a c)
+  unfolding stateIn stateOf
   takes-from c k =
       decide (eqb 9 k)
       (λ e. let q : k ≡ 9 = sym (eqb-true 9 k e) in rw q refl)
@@ -78,7 +81,7 @@ module _ (s : List ℕ) where
 
   -- ---- by place: the kind of the state of the task after number i; whether it waits for a subprogram
   module _ (i : ℕ) (h : i < 16) where
-    pub kind-there : (n : ℕ) → n ≤ 9 → (n ≡ 4 → ⊥) → eqb n (getD s (i * 26 + 1) 0) ≡ isOf n (taskAt (tasksIn s) (i + 1) .state)
+    pub kind-there : (n : ℕ) → n ≤ 9 → (n ≡ 8 → ⊥) → eqb n (getD s (i * 26 + 1) 0) ≡ isOf n (taskAt (tasksIn s) (i + 1) .state)
     kind-there n l d = sym (is-kind _ _ _ n (getD s (i * 26 + 1) 0) l d) ∙ ap (λ (x : Task). isOf n (x .state)) (next-there i h)
 
     any-wait-there : (eqb 8 (getD s (i * 26 + 1) 0) and leb (getD s (898 + i) 0) 7) ≡ awaitsAny (taskAt (tasksIn s) (i + 1) .state)

@@ -5,15 +5,13 @@ use mathlib.Core.Path.{_≡_, refl, sym, ap, _∙_}
 use mathlib.Core.Bool.{Bool, true, false, _&&_}
 use mathlib.Core.List.{List}
 use native.Mathlib.Omega.{arith}
-use borrow.Author.Tests.{eqb-true, eqb-false, eq-eqb, ne-eqb}
+use borrow.Author.Tests.{eqb-true, eqb-false, eq-eqb, ne-eqb, lt-ltb}
 use lib.Dec.{eqb}
 use lib.ListN.{length, take, drop, getD}
 use Rattle.records.specs.declared.TaskNo.{TaskNo}
 use Rattle.records.specs.Numbers.{numberOf, part}
 use Rattle.executive.specs.declared.Millis.{Millis}
-use Rattle.executive.specs.declared.Mode.the-variants.{Any}
 use Rattle.executive.specs.declared.State.{State}
-use Rattle.executive.specs.declared.State.the-variants.{Flags}
 use Rattle.executive.specs.declared.Task.{Task}
 use Rattle.executive.specs.declared.Sub.{Sub}
 use Rattle.executive.specs.Lists.{allOf}
@@ -22,7 +20,7 @@ use Rattle.executive.specs.States.{stateKind, awaitedOf, stateOf, isAs}
 use Rattle.executive.specs.Subprograms.{noSub}
 use Rattle.executive.specs.Messages.{noMessage, noMail}
 use Rattle.executive.proofs.Assured.{every-turn, every-not, every-end, first-turn, first-not, first-end, at-place}
-use Rattle.board.specs.Image.{taskFrom, placeFrom, lineFrom, alarmFrom, requestFrom, subFrom, messageFrom, mailFrom, loadOf}
+use Rattle.board.specs.Image.{taskFrom, placeFrom, lineFrom, alarmFrom, requestFrom, subFrom, messageFrom, mailFrom, loadOf, noKind, stateIn}
 use Rattle.board.proofs.Alike.{decide}
 use Rattle.board.proofs.Spans.{length-blocks, block-at}
 
@@ -143,8 +141,8 @@ module _ (s : List ℕ) where
 
 -- ---- the state of a task, by its kind's byte
 -- a byte that is a kind, and one that is none
-pub kind-some : (k : ℕ) (t : Millis) (m a : ℕ) → k ≤ 9 → stateKind (stateOf k t m a) ≡ k
-unfolding stateOf
+pub kind-some : (k : ℕ) (t : Millis) (m a : ℕ) → k ≤ 9 → stateKind (stateIn k t m a) ≡ k
+unfolding stateIn stateOf
 kind-some zero t m a h = refl
 kind-some (suc zero) t m a h = refl
 kind-some (suc (suc zero)) t m a h = refl
@@ -157,24 +155,12 @@ kind-some (suc (suc (suc (suc (suc (suc (suc (suc zero)))))))) t m a h = refl
 kind-some (suc (suc (suc (suc (suc (suc (suc (suc (suc zero))))))))) t m a h = refl
 kind-some (suc (suc (suc (suc (suc (suc (suc (suc (suc (suc k)))))))))) t m a h = absurd (omega arith)
 
-pub no-kind : (k : ℕ) (t : Millis) (m a : ℕ) → 9 < k → stateOf k t m a ≡ Flags Any 0
-unfolding stateOf
-no-kind k t m a h =
-    simp (
-      ne-eqb k 0 (λ z. omega arith),
-      ne-eqb k 1 (λ z. omega arith),
-      ne-eqb k 2 (λ z. omega arith),
-      ne-eqb k 3 (λ z. omega arith),
-      ne-eqb k 4 (λ z. omega arith),
-      ne-eqb k 5 (λ z. omega arith),
-      ne-eqb k 6 (λ z. omega arith),
-      ne-eqb k 7 (λ z. omega arith),
-      ne-eqb k 8 (λ z. omega arith),
-      ne-eqb k 9 (λ z. omega arith),
-    )
+pub no-kind : (k : ℕ) (t : Millis) (m a : ℕ) → 9 < k → stateIn k t m a ≡ noKind
+unfolding stateIn
+no-kind k t m a h = rw (lt-ltb 9 k h) refl
 
-awaits-none : (k : ℕ) (t : Millis) (m a : ℕ) → k < 8 → awaitedOf (stateOf k t m a) ≡ 0
-unfolding stateOf
+awaits-none : (k : ℕ) (t : Millis) (m a : ℕ) → k < 8 → awaitedOf (stateIn k t m a) ≡ 0
+unfolding stateIn stateOf
 awaits-none zero t m a h = refl
 awaits-none (suc zero) t m a h = refl
 awaits-none (suc (suc zero)) t m a h = refl
@@ -185,8 +171,8 @@ awaits-none (suc (suc (suc (suc (suc (suc zero)))))) t m a h = refl
 awaits-none (suc (suc (suc (suc (suc (suc (suc zero))))))) t m a h = refl
 awaits-none (suc (suc (suc (suc (suc (suc (suc (suc k)))))))) t m a h = absurd (omega arith)
 
-awaits-some : (k : ℕ) (t : Millis) (m a : ℕ) → 8 ≤ k → k ≤ 9 → awaitedOf (stateOf k t m a) ≡ a
-unfolding stateOf
+awaits-some : (k : ℕ) (t : Millis) (m a : ℕ) → 8 ≤ k → k ≤ 9 → awaitedOf (stateIn k t m a) ≡ a
+unfolding stateIn stateOf
 awaits-some k t m a h l =
     decide (eqb k 8)
     (λ q. let z = eqb-true k 8 q in rw z refl)
@@ -211,13 +197,13 @@ module _ (s : List ℕ) (i : ℕ) (h : i < 16) where
     pub kind-there : k ≤ 9 → k ≡ stateKind told
     kind-there l = sym (ap stateKind same-state ∙ rw (← e) (kind-some k _ _ _ l))
 
-    pub kind-none : 9 < k → 4 ≡ stateKind told
+    pub kind-none : 9 < k → 8 ≡ stateKind told
     kind-none l = sym (ap stateKind same-state ∙ rw (← e, no-kind k _ _ _ l) refl)
 
     pub awaited-low : k < 8 → 0 ≡ awaitedOf told
     awaited-low l = sym (ap awaitedOf same-state ∙ rw (← e) (awaits-none k _ _ _ l))
 
-    pub awaited-high : 9 < k → 0 ≡ awaitedOf told
+    pub awaited-high : 9 < k → 255 ≡ awaitedOf told
     awaited-high l = sym (ap awaitedOf same-state ∙ rw (← e, no-kind k _ _ _ l) refl)
 
     pub awaited-there : 8 ≤ k → k ≤ 9 → getD s (898 + i) 0 ≡ awaitedOf told

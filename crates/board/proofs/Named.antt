@@ -20,11 +20,7 @@ use Rattle.executive.specs.States.{awaitStart, awaitEnd}
 use Rattle.executive.specs.Flags.{isSet}
 use Rattle.executive.specs.WellFormed.{startsOf, endsOf, runsOf}
 use Rattle.executive.specs.Check.{waitersAt}
-use Rattle.executive.proofs.Lists.Loops.{one-le, all-not, all-get, all-make}
-use Rattle.executive.proofs.Lists.Sums.{sum-append}
-use Rattle.executive.proofs.Lists.Tests.{false-not-true, eqb-self, and-true, and-false-left, and-false-right, and-true-left, of-not}
-use Rattle.board.proofs.Lent.Bits.{set-none, set-or, set-same, same-bits}
-use Rattle.executive.proofs.check.Passes.{same}
+use Rattle.executive.proofs.Assured.{one-le, all-not, all-get, all-make, sum-append, false-not-true, eqb-self, and-true, and-false-left, and-false-right, and-true-left, of-not, set-none, set-or, set-same, same-bits, same}
 use Rattle.board.specs.Sound.{naming, namings, namesIn, setOf, waitsAs, namesOther}
 use Rattle.board.proofs.Alike.{decide}
 use Rattle.board.proofs.Spans.{length-blocks, block-at}

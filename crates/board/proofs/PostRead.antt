@@ -15,9 +15,7 @@ use Rattle.executive.specs.Places.{noTask}
 use Rattle.executive.specs.Messages.{noMessage, noMail}
 use Rattle.executive.specs.States.{isDormant}
 use Rattle.executive.specs.Check.{messageInRange, isUntaken, lettersRight, isNoMail, mailRightAt, mailRight}
-use Rattle.executive.proofs.Lists.Loops.{every-get, all-make}
-use Rattle.executive.proofs.check.Passes.{at-next}
-use Rattle.executive.proofs.check.Messages.{right-out, right-high, right-taken, right-on, mail-next, no-mail-is}
+use Rattle.executive.proofs.Assured.{every-get, all-make, at-next, right-out, right-high, right-taken, right-on, mail-next, no-mail-is}
 use Rattle.board.specs.Sound.{noughts, tasksIn, mailIn}
 use Rattle.board.proofs.Noughts.{mail-nought}
 use Rattle.board.proofs.KindsRead.{kind-there}

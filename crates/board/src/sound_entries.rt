@@ -16,8 +16,10 @@ ghost use Rattle.executive.specs.States.{stateKind, awaitedOf, isAs};
 ghost use Rattle.executive.specs.Check.{isBlank, alarmRight, entryRight};
 ghost use Rattle.board.specs.Image.{imageLength, loadOf};
 
-// As what a byte is read that is no kind: a wait for any flag.
-const NO_KIND: u8 = 4;
+// As what a byte is read that is no kind: a wait for a subprogram that there is not.
+const NO_KIND: u8 = states::AWAIT_SUB;
+
+const NO_SUBPROGRAM: u8 = 255;
 
 // The kind of the state of the task whose entry is the i-th.
 pub(crate) fn kind_at(b: &[u8], i: usize) -> u8
@@ -41,7 +43,7 @@ pub(crate) fn awaited_at(b: &[u8], i: usize) -> u8
         return 0;
     }
     if states::AWAIT_MESSAGE < kind {
-        return 0;
+        return NO_SUBPROGRAM;
     }
     b[AWAITED + i]
 }
