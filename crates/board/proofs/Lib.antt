@@ -17,6 +17,8 @@ pub mod QueueLaid
 pub mod RestLaid
 pub mod DoneLaid
 pub mod LoadLaid
+pub mod Finds
+pub mod Sheets
 pub mod Stepwise
 pub mod Listing
 pub mod WakeLaid

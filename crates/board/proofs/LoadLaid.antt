@@ -50,7 +50,7 @@ module _ {s : List ℕ} (t : Table) (l : Laid s t) where
   sent-cut : cut sentWidths 1410 s ≡ sentNumbers (t .rest)
   sent-cut = ap (λ (n : ℕ). n ∷ []) (read-laid 9 t l 0 (omega arith) (omega arith))
 
-  request-read : (i : ℕ) → i < 32 → requestFrom s (704 + i * 6) ≡ getD (t .rest .pool) i noRequest
+  pub request-read : (i : ℕ) → i < 32 → requestFrom s (704 + i * 6) ≡ getD (t .rest .pool) i noRequest
   request-read i h =
       let n = l .sizes .pool in
       let e = getD (t .rest .pool) i noRequest in
@@ -65,7 +65,7 @@ module _ {s : List ℕ} (t : Table) (l : Laid s t) where
       ∙ ap (λ k. getD (requestBytes e) k 0) (sym y))
       ∙ (λ j. e .target .0 ∷ e .priority ∷ number-back 1 (e .argument) j ∷ e .«start_waiter» .0 ∷ e .«end_waiter» .0 ∷ []))
 
-  message-read : (i : ℕ) → i < 32 → messageFrom s (1058 + i * 11) ≡ getD (t .rest .messages) i noMessage
+  pub message-read : (i : ℕ) → i < 32 → messageFrom s (1058 + i * 11) ≡ getD (t .rest .messages) i noMessage
   message-read i h =
       let n = l .sizes .messages in
       let e = getD (t .rest .messages) i noMessage in
@@ -95,7 +95,7 @@ module _ {s : List ℕ} (t : Table) (l : Laid s t) where
       ∙ ap (λ k. getD (mailBytes e) k 0) (sym y))
       ∙ (λ j. e .sender .0 ∷ number-back 7 (e .text .0) j ∷ []))
 
-  sub-line : (m i : ℕ) → m < 8 → i < 16 → getD s (914 + m * 18 + 2 + i) 0 ≡ getD (getD (t .rest .subs) m noSub .line) i nobody .0
+  pub sub-line : (m i : ℕ) → m < 8 → i < 16 → getD s (914 + m * 18 + 2 + i) 0 ≡ getD (getD (t .rest .subs) m noSub .line) i nobody .0
   sub-line m i h g =
       let x = getD (t .rest .subs) m noSub in
       let k = l .sizes .lines m in

@@ -16,19 +16,19 @@ use Rattle.executive.specs.declared.Marks.{Marks}
 use Rattle.executive.specs.declared.Task.{Task}
 use Rattle.executive.specs.declared.Outcome.{Outcome}
 use Rattle.executive.specs.declared.decisions.Decision.{Decision}
-use Rattle.executive.specs.Lists.{pad}
 use Rattle.executive.specs.Places.{nobody, taskAt}
 use Rattle.executive.specs.Subprograms.{noSub}
 use Rattle.executive.specs.Plans.{caller}
-use Rattle.executive.specs.Check.{queueRight, Checked}
+use Rattle.executive.specs.Lists.{_and_, pad}
+use Rattle.executive.specs.Check.{queueRight, allButQueue, isWellFormed, Checked}
 use Rattle.executive.specs.WellFormed.{WellFormed, Sizes}
 use Rattle.executive.specs.Table.{Join, headOf, begin, joins, join, enterAllInFlight, enterInFlight, apply, applyInFlight, depart, relit, withRest}
-use Rattle.executive.specs.Decisions.{meant, Doable}
-use Rattle.executive.specs.Deciding.{decisionFor}
+use Rattle.executive.specs.Decisions.{meant, Doable, refusing}
+use Rattle.executive.specs.Deciding.{callerRight, decisionIn, decisionFor}
 use Rattle.executive.specs.Step.{noTable, answerOf, hasV, refused, stepOf}
 use Rattle.executive.specs.Sheet.{marks}
 use Rattle.executive.specs.Promises.ByDecision.{done, enacted}
-use Rattle.executive.proofs.Assured.{demands, by-decision, queue-right, can-be-done, head-taken}
+use Rattle.executive.proofs.Assured.{false-not-true, demands, decided, by-decision, queue-right, can-be-done, head-taken}
 use Rattle.board.specs.Blocks.{blocks}
 use Rattle.board.specs.Image.{imageLength, imageOf, loadOf, isImage, taskFrom, placeFrom, alarmFrom, requestFrom, subFrom, messageFrom, mailFrom}
 use Rattle.board.specs.EntryPoints.{answerTo, imageAfter, Holds}
@@ -120,6 +120,20 @@ module _ (t : Table) (s : List ℕ) where
           let z : said .number ≡ 1 = sym (refused-number t (said .number)) ∙ sym (ap (λ (o : Outcome). o .answer .number) f) ∙ one in
           f ∙ ap (refused t) z
 
+  -- what is decided of the record alone, where there is no number 1
+  pub in-is-for : WellFormed t → decisionIn (t .tasks) (t .rest) (caller t) s ≡ said
+  unfolding decisionFor
+  in-is-for w = go (allButQueue (t .tasks) (t .rest) and callerRight (t .tasks) (caller t)) refl
+    where
+      go : (b : Bool) → (allButQueue (t .tasks) (t .rest) and callerRight (t .tasks) (caller t)) ≡ b → decisionIn (t .tasks) (t .rest) (caller t) s ≡ said
+      go true e = rw e refl
+      go false e =
+          let f : said ≡ refusing 1 = rw e refl in
+          let n : said .number ≡ 1 = ap (λ (d : Decision). d .number) f in
+          let g = refused-step w (λ z. absurd (omega (arith, n, z))) in
+          let q : stepOf t s .answer .number ≡ 1 = ap (λ (o : Outcome). o .answer .number) g ∙ refused-number t (said .number) ∙ n in
+          absurd (demands .unformed t s .0 q w)
+
   pub can-do : WellFormed t → said .number ≡ 0 → Doable (said .deed) t
   can-do w h = can-be-done t s w h
 
@@ -173,18 +187,26 @@ module _ (s k : List ℕ) (i : isImage s ≡ true) where
       let q : Laid r (stepOf t k .table) = subst (λ (u : Table). Laid r u) g l in
       (c ∙ sym (ap (λ (o : Outcome). o .answer) f), (new-image (ap (λ (o : Outcome). o .answer .number) f) (q .image), λ y. laid-holds (stepOf t k .table) q))
 
-  -- the same of what the code holds: the table that was loaded, its check, its caller and its decision
-  pub formed : (t : Table) (r : ℕ) → t ≡ loadOf s → Checked t r → r ≡ 0 → WellFormed (loadOf s)
-  formed t r et c z = subst WellFormed et (c .right .0 z)
+  -- the same of what the code holds: its check, its caller and its decision
+  pub formed : (b : Bool) → b ≡ isWellFormed (loadOf s) → b ≡ true → WellFormed (loadOf s)
+  formed b eb h = decided .iff (loadOf s) .0 (sym eb ∙ h)
 
-  pub unformed : (t : Table) (r : ℕ) (a : Answer) → t ≡ loadOf s → Checked t r → r ≢ 0 → a ≡ noTable → Says a s
-  unformed t r a et c z ea = said-none a (λ w. z (c .right .1 (subst WellFormed (sym et) w))) ea
+  pub unformed : (b : Bool) (a : Answer) → b ≡ isWellFormed (loadOf s) → b ≡ false → a ≡ noTable → Says a s
+  unformed b a eb h ea = said-none a (λ w. false-not-true (sym h ∙ eb ∙ decided .iff (loadOf s) .1 w)) ea
 
-  pub decided-is : (t : Table) (c : TaskNo) (d : Decision) → t ≡ loadOf s → c ≡ caller (loadOf s) → d ≡ decisionFor (t .tasks) (t .rest) c k → d ≡ said (loadOf s) k
-  decided-is t c d et ec ed = ed ∙ (λ j. decisionFor (et j .tasks) (et j .rest) (ec j) k)
+  pub decided-is : (c : TaskNo) (d : Decision) → WellFormed (loadOf s) → c ≡ caller (loadOf s) → d ≡ decisionIn (loadOf s .tasks) (loadOf s .rest) c k → d ≡ said (loadOf s) k
+  decided-is c d w ec ed = ed ∙ (λ j. decisionIn (loadOf s .tasks) (loadOf s .rest) (ec j) k) ∙ in-is-for (loadOf s) k w
 
   pub doable-is : (d : Decision) → WellFormed (loadOf s) → d ≡ said (loadOf s) k → d .number ≡ 0 → Doable (d .deed) (loadOf s)
   doable-is d w ed h = subst (λ (x : Decision). Doable (x .deed) (loadOf s)) (sym ed) (can-do (loadOf s) k w (ap (λ (x : Decision). x .number) (sym ed) ∙ h))
+
+-- ---- the check's number says whether the table is well formed
+pub sound-is : (s : List ℕ) (t : Table) (n : ℕ) → t ≡ loadOf s → Checked t n → eqb n 0 ≡ isWellFormed (loadOf s)
+sound-is s t n et c = go (isWellFormed (loadOf s)) refl
+  where
+    go : (b : Bool) → isWellFormed (loadOf s) ≡ b → eqb n 0 ≡ b
+    go true e = eq-eqb n 0 (c .right .1 (subst WellFormed (sym et) (decided .iff (loadOf s) .0 e)))
+    go false e = ne-eqb n 0 (λ z. false-not-true (sym e ∙ decided .iff (loadOf s) .1 (subst WellFormed et (c .right .0 z))))
 
 -- ---- an answer from a table's numbers
 pub answer-is : (t : Table) (n : ℕ) (m : Marks) (w : ℕ) (k : TaskNo) (e : Task) → k ≡ caller t → e ≡ taskAt (t .tasks) (k .0)

@@ -40,6 +40,8 @@ const NO_TASK: Task = Task {
 // Where the numbers that stand alone have their places.
 pub(crate) const READY: usize = 432;
 
+pub(crate) const COUNT: usize = 433;
+
 pub(crate) const GRANULE: usize = 434;
 
 pub(crate) const QUEUED: usize = 435;
@@ -121,6 +123,17 @@ pub(crate) fn place(k: u8) -> usize
         return 16;
     }
     (k - 1) as usize
+}
+
+// A number of places that are taken, of so many that there are.
+pub(crate) fn at_most(n: u8, most: u8) -> usize
+    ensures { λ r. ⌜ r ≤ most ⌝ }
+    ensures { λ r. ⌜ (n ≤ most → r ≡ n) ⌝ }
+{
+    if most < n {
+        return most as usize;
+    }
+    n as usize
 }
 
 // The mail of a task; a number that names no task has none.
