@@ -10,7 +10,7 @@ use borrow.Author.Tests.{eq-eqb, ne-eqb, lt-ltb, le-ltb}
 use Rattle.executive.specs.declared.Table.{Table}
 use Rattle.executive.specs.declared.Fresh.{Fresh}
 use Rattle.executive.specs.declared.Answer.{Answer}
-use Rattle.executive.specs.Check.{isWellFormed, Checked}
+use Rattle.executive.specs.Check.{isWellFormed}
 use Rattle.executive.proofs.Assured.{decided}
 use Rattle.executive.specs.Step.{noTable, stepOf}
 use Rattle.executive.specs.Configuration.{freshOf}
@@ -48,16 +48,13 @@ module _ (s : List ℕ) where
   unfolding checkNumber
   check-none h = record { number = rw h; right = (λ e. absurd (omega arith), λ w. absurd (never (sym h ∙ w .image))) }
 
-  -- the table's own number, by the computed test
-  table-number : (n : ℕ) → Checked (loadOf s) n → n ≡ cond (isWellFormed (loadOf s)) 0 1
-  table-number n k =
-      decide (isWellFormed (loadOf s))
-      (λ e. rw e (k .right .1 (decided .iff (loadOf s) .0 e)))
-      (λ e. rw e (k .wrong .1 (λ w. never (sym e ∙ decided .iff (loadOf s) .1 w))))
-
-  pub check-image : (n : ℕ) → isImage s ≡ true → Checked (loadOf s) n → CheckedImage s n
+  pub check-right : isImage s ≡ true → isWellFormed (loadOf s) ≡ true → CheckedImage s 0
   unfolding checkNumber
-  check-image n h k = record { number = rw h (table-number n k); right = (λ e. record { image = h; table = k .right .0 e }, λ w. k .right .1 (w .table)) }
+  check-right h e = record { number = rw (h, e); right = (λ z. record { image = h; table = decided .iff (loadOf s) .0 e }, λ w. refl) }
+
+  pub check-wrong : isImage s ≡ true → isWellFormed (loadOf s) ≡ false → CheckedImage s 1
+  unfolding checkNumber
+  check-wrong h e = record { number = rw (h, e); right = (λ z. absurd (omega arith), λ w. absurd (never (sym e ∙ decided .iff (loadOf s) .1 (w .table)))) }
 
 -- ---- a step
 module _ (s k o : List ℕ) where

@@ -21,9 +21,8 @@ use Rattle.executive.specs.States.{takesFrom}
 use Rattle.executive.specs.Table.{headOf}
 use Rattle.executive.specs.Subprograms.{noSub, subAt, lineOf, holds?, holdsAnyOf}
 use Rattle.executive.specs.Messages.{noMessage, fits}
-use Rattle.executive.proofs.Assured.{next-hit, next-pass, next-end, every-turn, every-not, every-end}
+use Rattle.executive.proofs.Assured.{next-hit, next-pass, next-end, every-turn, every-not, every-end, head-taken}
 use Rattle.board.specs.Laid.{Laid, LineAt}
-use Rattle.board.proofs.Lent.ArraysAreLists.{head-taken}
 use Rattle.board.proofs.Parts.{read-laid}
 use Rattle.board.proofs.ReadOff.{place-read}
 use Rattle.board.proofs.RestLaid.{sub-read}

@@ -200,14 +200,6 @@ module _ (s k : List ℕ) (i : isImage s ≡ true) where
   pub doable-is : (d : Decision) → WellFormed (loadOf s) → d ≡ said (loadOf s) k → d .number ≡ 0 → Doable (d .deed) (loadOf s)
   doable-is d w ed h = subst (λ (x : Decision). Doable (x .deed) (loadOf s)) (sym ed) (can-do (loadOf s) k w (ap (λ (x : Decision). x .number) (sym ed) ∙ h))
 
--- ---- the check's number says whether the table is well formed
-pub sound-is : (s : List ℕ) (t : Table) (n : ℕ) → t ≡ loadOf s → Checked t n → eqb n 0 ≡ isWellFormed (loadOf s)
-sound-is s t n et c = go (isWellFormed (loadOf s)) refl
-  where
-    go : (b : Bool) → isWellFormed (loadOf s) ≡ b → eqb n 0 ≡ b
-    go true e = eq-eqb n 0 (c .right .1 (subst WellFormed (sym et) (decided .iff (loadOf s) .0 e)))
-    go false e = ne-eqb n 0 (λ z. false-not-true (sym e ∙ decided .iff (loadOf s) .1 (subst WellFormed et (c .right .0 z))))
-
 -- ---- an answer from a table's numbers
 pub answer-is : (t : Table) (n : ℕ) (m : Marks) (w : ℕ) (k : TaskNo) (e : Task) → k ≡ caller t → e ≡ taskAt (t .tasks) (k .0)
     → record { number = n; z = m .z; v = m .v; c = m .c; active = k; argument = e .argument; skipped = m .skipped; walked = w; sender = m .sender; text = m .text } ≡ answerOf n m w t

@@ -28,13 +28,13 @@ pub mod numbers;
 pub mod promises;
 mod reasons;
 mod ringing;
+mod runs;
 mod sound;
 mod sound_entries;
 mod sound_pool;
 mod sound_post;
 mod sound_queue;
 mod sound_subs;
-mod runs;
 mod stepping;
 pub mod storing;
 mod timing;
@@ -100,8 +100,10 @@ pub extern "C" fn quermanic_check(image: &[u8]) -> u8
     if !checking::is_image(image) {
         return 1;
     }
-    let table = loading::load_whole(image);
-    table.check()
+    if sound::is_sound(image) {
+        return 0;
+    }
+    1
 }
 
 // Takes a step: the answer's number, and the answer at the start of its buffer. Accepted (0), the image is

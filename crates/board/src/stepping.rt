@@ -1,9 +1,9 @@
-// A step on the lent bytes of an image: checked on the table that it loads to, decided and done in place.
+// A step on the lent bytes of an image: checked, decided and done in place. No table is loaded.
 use crate::QUEUE;
 use crate::deciding;
 use crate::doing;
 use crate::fields;
-use crate::loading;
+use crate::sound;
 use executive::Answer;
 use executive::Marks;
 use executive::answers;
@@ -12,7 +12,6 @@ ghost use mathlib.Core.Path.{_≡_};
 ghost use mathlib.Core.Bool.{true};
 ghost use lib.ListN.{length};
 ghost use Rattle.executive.specs.declared.Table.{Table};
-ghost use Rattle.executive.specs.Check.{isWellFormed};
 ghost use Rattle.executive.specs.Plans.{caller};
 ghost use Rattle.executive.specs.Step.{answerOf, refused, stepOf};
 ghost use Rattle.board.specs.Image.{imageLength, loadOf, isImage};
@@ -66,15 +65,6 @@ fn refusal(b: &[u8], number: u8) -> Answer
     answer(b, number, m, 0)
 }
 
-// Whether the table is well formed.
-fn is_sound(b: &[u8]) -> bool
-    requires { ⌜ length (now b) ≡ imageLength ⌝ }
-    ensures { λ r. ⌜ r ≡ isWellFormed (loadOf (now (b .entry))) ⌝ }
-{
-    let table = loading::load_whole(b);
-    table.check() == 0
-}
-
 // A step at an image: refused, no byte is written; accepted, the deed is done in place.
 pub(crate) fn step(b: &mut [u8], call: &[u8]) -> Answer
     requires { ⌜ isImage (now b) ≡ true ⌝ }
@@ -82,7 +72,7 @@ pub(crate) fn step(b: &mut [u8], call: &[u8]) -> Answer
         × ((now (b .exit) ≡ imageAfter (now (b .entry)) (now (call .entry)))
         × (r .number ≡ 0 → Holds (now (b .exit)) (stepOf (loadOf (now (b .entry))) (now (call .entry)) .table))) ⌝ }
 {
-    if !is_sound(b) {
+    if !sound::is_sound(b) {
         return answers::no_table();
     }
     let c = active(b);

@@ -1,34 +1,40 @@
--- `quermanic_check` meets its contract: bytes that are no image get 1, an image gets its table's number.
-use mathlib.Core.Path.{sym, _∙_}
+-- `quermanic_check` meets its contract: bytes that are no image get 1, an image gets 0 exactly where it keeps every rule.
+use mathlib.Core.Path.{_≡_, sym, _∙_}
+use mathlib.Core.Bool.{true}
+use mathlib.Core.List.{List}
+use Prim.Native.Nat.{ℕ}
 use denote.Ref.{now}
 use borrow.Author.Tests.{not-true, not-false}
-use native.Mathlib.Omega.{arith}
-use Rattle.executive.specs.Check.{Checked}
-use Rattle.board.specs.Image.{loadOf}
+use Rattle.board.specs.Image.{isImage}
 use Rattle.board.proofs.Trips.{image-parts}
-use Rattle.board.proofs.Answered.{check-none, check-image}
+use Rattle.board.proofs.Answered.{check-none, check-right, check-wrong}
 use borrow.Author.Needs.{needs}
 use Rattle.board.proofs.quermanic_check.Statement.{statement}
 use Rattle.board.proofs.quermanic_check.Tie as tie
 
-returns : tie.Need-returns
-returns c = check-none (now (c .before .before .before .args .image)) (sym (c .before .is-image .ensures) ∙ not-true (c .before .is-image .result) (c .if1 .taken))
+-- the bytes as they came
+abbrev bytes : tie.After-is-image → List ℕ
+bytes i = now (i .before .before .args .image)
 
-load-whole-requires : tie.Need-load-whole-requires
-load-whole-requires c κs = omega (arith, image-parts (now (c .before .before .before .args .image)) (sym (c .before .is-image .ensures) ∙ not-false (c .before .is-image .result) (c .if1 .left)) .0)
+returns : tie.Need-returns
+returns c = check-none (bytes (c .before)) (sym (c .before .is-image .ensures) ∙ not-true (c .before .is-image .result) (c .if1 .taken))
+
+is-sound-requires : tie.Need-is-sound-requires
+is-sound-requires c κs = image-parts (bytes (c .before)) (sym (c .before .is-image .ensures) ∙ not-false (c .before .is-image .result) (c .if1 .left)) .0
+
+-- it is an image, seen from the check of its rules
+held : (x : tie.After-is-sound) → isImage (bytes (x .before .before)) ≡ true
+held x = sym (x .before .before .is-image .ensures) ∙ not-false (x .before .before .is-image .result) (x .before .if1 .left)
 
 returns-2 : tie.Need-returns-2
 returns-2 c =
-    let s = now (c .before .before .before .before .before .args .image) in
-    let k : Checked (loadOf s) (c .check .result) = rw (c .before .load-whole .ensures) at (c .check .ensures) in
-    check-image s (c .check .result) (sym (c .before .before .before .is-image .ensures) ∙ not-false (c .before .before .before .is-image .result) (c .before .before .if1 .left)) k
+    let x = c .before in
+    check-right (bytes (x .before .before)) (held x) (sym (x .is-sound .ensures) ∙ c .if2 .taken)
+
+returns-3 : tie.Need-returns-3
+returns-3 c =
+    let x = c .before in
+    check-wrong (bytes (x .before .before)) (held x) (sym (x .is-sound .ensures) ∙ c .if2 .left)
 
 pub quermanic-check-spec : {M : Type 1} → statement M
-quermanic-check-spec =
-    tie.close
-    (tie.spec
-    (λ c κs. search needs)
-    returns
-    load-whole-requires
-    (λ c κs. search needs)
-    returns-2)
+quermanic-check-spec = tie.close (tie.spec (λ c κs. search needs) returns is-sound-requires returns-2 returns-3)
