@@ -24,11 +24,11 @@ fn tell(number: u8, same: bool, list: [u8; LIST]) {
 fn answer(given: [u8; IMAGE]) {
     let mut image = given;
     let mut list = [0u8; LIST];
-    let number = board::quermanic_mend(&mut image, &mut list);
+    let number = image::mend(&mut image, &mut list);
     if number == 0 {
         io::write_all(STDOUT_FILENO, &image);
     }
-    let same = board::quermanic_check(&given) == 0;
+    let same = image::check(&given) == 0;
     tell(number, same, list);
 }
 

@@ -16,10 +16,10 @@ use Rattle.scan.specs.Sound.{isSound, Checked}
 use Rattle.scan.specs.Step.{scanOf}
 use Rattle.scan.specs.Making.{madeOf}
 use Rattle.scan.proofs.Assured.{sound-get, sound-make}
-use Rattle.board.specs.Blocks.{written}
-use Rattle.board.specs.Image.{noRoom}
-use Rattle.board.specs.EntryPoints.{answerLength, answerBytes}
-use Rattle.board.proofs.Assured.{decide, never}
+use Rattle.image.specs.Blocks.{written}
+use Rattle.image.specs.Image.{noRoom}
+use Rattle.image.specs.EntryPoints.{answerLength, answerBytes}
+use Rattle.image.proofs.Assured.{decide, never}
 use Rattle.scan_board.specs.Image.{scanLength, scanImage, scanLoad, isScan, FitsScan}
 use Rattle.scan_board.specs.EntryPoints.{checkNumber, CheckedScan, HoldsScan, freshNumber, freshImage, answerTo, imageAfter, stepNumber, stepImage, stepAnswer}
 use Rattle.scan_board.proofs.Trips.{load-store, stored}

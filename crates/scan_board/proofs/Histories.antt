@@ -21,11 +21,11 @@ use Rattle.scan.specs.Making.{madeOf}
 use Rattle.scan.specs.Queued.{queued}
 use Rattle.scan.specs.Promises.{afterScan, answersScan, answersOf}
 use Rattle.scan.proofs.Assured as scan
-use Rattle.board.specs.Blocks.{written}
-use Rattle.board.specs.Image.{imageLength, loadOf}
-use Rattle.board.specs.EntryPoints.{Holds, MakesImage, answerLength, answerBytes, StepsImage}
-use Rattle.board.specs.EntryPoints as board
-use Rattle.board.proofs.Assured.{promises, decide}
+use Rattle.image.specs.Blocks.{written}
+use Rattle.image.specs.Image.{imageLength, loadOf}
+use Rattle.image.specs.EntryPoints.{Holds, MakesImage, answerLength, answerBytes, StepsImage}
+use Rattle.image.specs.EntryPoints as board
+use Rattle.image.proofs.Assured.{promises, decide}
 use Rattle.scan_board.specs.Image.{scanLength, scanLoad}
 use Rattle.scan_board.specs.EntryPoints.{SoundImage, HoldsScan, freshNumber, MakesScan, answerTo, stepNumber, stepAnswer, StepsScan}
 use Rattle.scan_board.proofs.Answered.{refused}

@@ -12,8 +12,8 @@ use Rattle.scan.proofs.Scanned.{the-type as scanned-type}
 use Rattle.scan.proofs.Scanned.Laws.{the-laws as scanned-laws}
 use Rattle.scan.specs.declared.Entry.{Entry}
 use Rattle.scan.specs.declared.Scanned.{Scanned}
-use Rattle.board.specs.Blocks.{Each}
-use Rattle.board.proofs.Assured.{array-owned}
+use Rattle.image.specs.Blocks.{Each}
+use Rattle.image.proofs.Assured.{array-owned}
 use Rattle.scan_board.specs.Image.{FitsWord}
 
 entry-owned : (x : Entry) (vs : List Val) → Is (row entry-type) x vs → FitsWord (x .arrival)

@@ -11,9 +11,9 @@ use Rattle.executive.specs.declared.Table.{Table}
 use Rattle.scan.specs.declared.Entry.{Entry}
 use Rattle.scan.specs.declared.Scanned.{Scanned}
 use Rattle.scan.specs.Step.{bare}
-use Rattle.board.specs.Blocks.{row, blocks, written}
-use Rattle.board.specs.Image.{imageLength, imageOf, storeBytes, Stores, loadOf}
-use Rattle.board.proofs.Assured.{and-then, written-whole, length-row}
+use Rattle.image.specs.Blocks.{row, blocks, written}
+use Rattle.image.specs.Image.{imageLength, imageOf, storeBytes, Stores, loadOf}
+use Rattle.image.proofs.Assured.{and-then, written-whole, length-row}
 use Rattle.scan_board.specs.Image.{wordBytes, arrivalBytes, lastAt, numbersLength, scanLength, numbersBytes, scanImage, wordFrom, entryFrom, scannedOf, scanLoad}
 
 pub arrivals-length : (es : List Entry) → length es ≡ 16 → length (row arrivalBytes es) ≡ lastAt

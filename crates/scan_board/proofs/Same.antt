@@ -7,7 +7,7 @@ use native.Mathlib.Numerals.{add-one}
 use lib.ListN.{length, getD, drop, drop-of-length-le}
 use lib.Seq.{drop-cons}
 use borrow.Author.Tests.{eq-eqb, ne-eqb}
-use Rattle.board.specs.Blocks.{same}
+use Rattle.image.specs.Blocks.{same}
 
 module _ (a b : List ℕ) where
   module _ (i : ℕ) (ha : i < length a) (hb : i < length b) where

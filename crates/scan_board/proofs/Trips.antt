@@ -13,9 +13,9 @@ use Rattle.scan.specs.declared.Entry.{Entry}
 use Rattle.scan.specs.declared.Scanned.{Scanned}
 use Rattle.scan.specs.Entries.{entry, noEntry, taskOf, tasksIn}
 use Rattle.scan.specs.Step.{bare}
-use Rattle.board.specs.Blocks.{row, blocks, Each, same}
-use Rattle.board.specs.Image.{imageLength, imageOf, loadOf}
-use Rattle.board.proofs.Assured.{promises, length-blocks, block-at, blocks-back, decide, never, same-self, same-true}
+use Rattle.image.specs.Blocks.{row, blocks, Each, same}
+use Rattle.image.specs.Image.{imageLength, imageOf, loadOf}
+use Rattle.image.proofs.Assured.{promises, length-blocks, block-at, blocks-back, decide, never, same-self, same-true}
 use Rattle.scan_board.specs.Image.{wordWidths, wordNumbers, wordOf, wordBytes, arrivalBytes, lastAt, scanLength, numbersBytes, scanImage, wordFrom, entryFrom, scannedOf, scanLoad, isScan, FitsWord, FitsScan}
 use Rattle.scan_board.proofs.Pieces.{numbers-length}
 

@@ -12,9 +12,9 @@ use Rattle.scan.specs.declared.Scanned.{Scanned}
 use Rattle.scan.specs.Sound.{SoundScan, isSound}
 use Rattle.scan.specs.Step.{scanOf}
 use Rattle.scan.specs.Making.{madeOf}
-use Rattle.board.specs.Blocks.{written}
-use Rattle.board.specs.Image.{noRoom}
-use Rattle.board.specs.EntryPoints.{answerLength, answerBytes}
+use Rattle.image.specs.Blocks.{written}
+use Rattle.image.specs.Image.{noRoom}
+use Rattle.image.specs.EntryPoints.{answerLength, answerBytes}
 use Rattle.scan_board.specs.Image.{scanLength, scanImage, scanLoad, isScan}
 
 -- ---- the check: 0 exactly where the bytes are the image of a well-formed table, else 1

@@ -14,8 +14,8 @@ use Rattle.scan.specs.declared.Entry.{Entry}
 use Rattle.scan.specs.declared.Scanned.{Scanned}
 use Rattle.scan.specs.Entries.{entry}
 use Rattle.scan.specs.Step.{bare}
-use Rattle.board.specs.Blocks.{row, blocks, Each, same}
-use Rattle.board.specs.Image.{imageLength, imageOf, loadOf, FitsTable}
+use Rattle.image.specs.Blocks.{row, blocks, Each, same}
+use Rattle.image.specs.Image.{imageLength, imageOf, loadOf, FitsTable}
 
 -- ---- a number of four bytes: an arrival number, or the last one given
 abbrev pub wordWidths : List ℕ

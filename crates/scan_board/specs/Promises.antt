@@ -7,8 +7,8 @@ use lib.ListN.{length}
 use Rattle.records.specs.Numbers.{Bytes}
 use Rattle.scan.specs.declared.Scanned.{Scanned}
 use Rattle.scan.specs.Queued.{queued}
-use Rattle.board.specs.Image.{imageLength}
-use Rattle.board.specs.EntryPoints.{Holds, MakesImage, answerLength, StepsImage}
+use Rattle.image.specs.Image.{imageLength}
+use Rattle.image.specs.EntryPoints.{Holds, MakesImage, answerLength, StepsImage}
 use Rattle.scan_board.specs.Image.{scanLength, scanImage, scanLoad, isScan, FitsScan}
 use Rattle.scan_board.specs.EntryPoints.{SoundImage, CheckedScan, freshNumber, freshImage, MakesScan, stepNumber, stepImage, stepAnswer, StepsScan}
 

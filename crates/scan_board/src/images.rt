@@ -1,10 +1,10 @@
 // The image of the second engine's table: read, written, and held against some bytes.
 use crate::IMAGE;
-use board::loading;
-use board::numbers;
-use board::storing;
 use executive::Table;
 use executive::Task;
+use image::loading;
+use image::numbers;
+use image::storing;
 use records::TaskNo;
 use scan::Entry;
 use scan::Scanned;
@@ -13,7 +13,7 @@ ghost use mathlib.Core.Path.{_≡_};
 ghost use Prim.Native.Nat.{_+_, _*_, _≤_};
 ghost use lib.ListN.{length};
 ghost use Rattle.scan.specs.Step.{bare};
-ghost use Rattle.board.specs.Blocks.{blocks, written, same};
+ghost use Rattle.image.specs.Blocks.{blocks, written, same};
 ghost use Rattle.scan_board.specs.Image.{wordBytes, numbersLength, scanLength, numbersBytes, scanImage, wordFrom, entryFrom, scanLoad, isScan, FitsScan};
 
 // The first engine's table with the same entries and rest, and nobody in its queue.
@@ -66,8 +66,8 @@ pub(crate) fn load(bytes: &[u8]) -> Scanned
     requires { ⌜ length (now bytes) ≡ scanLength ⌝ }
     ensures { λ r. ⌜ r ≡ scanLoad (now (bytes .entry)) ⌝ }
 {
-    let t = loading::load(&bytes[..board::IMAGE]);
-    let tail = &bytes[board::IMAGE..];
+    let t = loading::load(&bytes[..image::IMAGE]);
+    let tail = &bytes[image::IMAGE..];
     let tasks = t.tasks;
     let entries = entries_in(tasks, tail);
     let last = number_in(tail, 16);
@@ -107,9 +107,9 @@ pub(crate) fn put_scan(out: &mut [u8], table: Scanned)
     ensures { λ _. ⌜ (FitsScan table) × (now (out .exit) ≡ scanImage table) ⌝ }
 {
     let front = bare_of(table);
-    storing::store(front, &mut out[..board::IMAGE]);
+    storing::store(front, &mut out[..image::IMAGE]);
     let entries = table.entries;
-    put_numbers(&mut out[board::IMAGE..], entries, table.last);
+    put_numbers(&mut out[image::IMAGE..], entries, table.last);
 }
 
 // Whether two runs of bytes are the same.

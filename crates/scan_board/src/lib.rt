@@ -1,6 +1,6 @@
 // The second engine's table as bytes, and its entry points for C, on byte slices and numbers only.
-use board::NO_ROOM;
-use board::answers;
+use image::NO_ROOM;
+use image::answers;
 use scan::making;
 ghost use Rattle.scan_board.specs.EntryPoints.{MakesScan, CheckedScan, StepsScan};
 
@@ -8,7 +8,7 @@ mod images;
 mod promises;
 
 // The length of an image in bytes: the board's, then sixteen arrival numbers and the last one given, four each.
-pub const IMAGE: usize = board::IMAGE + 68;
+pub const IMAGE: usize = image::IMAGE + 68;
 
 // Makes a fresh table from configuration bytes: 0 and its image written; 30 where the buffer has not the image's
 // length, 2 where they are no configuration, and then no byte is changed.

@@ -1,7 +1,7 @@
 // The why program: reads a question from standard input, a task's number as one byte and then an image, and writes to
 // standard output why that task is not running.
-use board::loading;
 use executive::Millis;
+use image::loading;
 use libc::STDIN_FILENO;
 use libc::STDOUT_FILENO;
 use records::TaskNo;
@@ -32,7 +32,7 @@ fn answer(question: &[u8]) {
         return;
     }
     let image = &question[1..];
-    if board::quermanic_check(image) != 0 {
+    if image::check(image) != 0 {
         tell(following::no_table(), Millis(0));
         return;
     }

@@ -9,8 +9,8 @@ use denote.Ref.{now}
 use borrow.Author.Tests.{not-true, not-false}
 use Rattle.scan.specs.declared.Scan.{Scan}
 use Rattle.scan.specs.Step.{scanOf}
-use Rattle.board.specs.Blocks.{written}
-use Rattle.board.specs.EntryPoints.{answerLength, answerBytes}
+use Rattle.image.specs.Blocks.{written}
+use Rattle.image.specs.EntryPoints.{answerLength, answerBytes}
 use Rattle.scan_board.specs.Image.{scanLoad, isScan}
 use Rattle.scan_board.proofs.Trips.{image-parts}
 use Rattle.scan_board.proofs.Answered.{holds, given, step-short, step-none, step-refused, step-done}

@@ -7,8 +7,8 @@ use denote.Ref.{now}
 use borrow.Author.Needs.{needs}
 use Rattle.executive.specs.Places.{noTask}
 use Rattle.scan.specs.Entries.{entry}
-use Rattle.board.specs.Blocks.{blocks}
-use Rattle.board.proofs.Assured.{block-turn, block-end}
+use Rattle.image.specs.Blocks.{blocks}
+use Rattle.image.proofs.Assured.{block-turn, block-end}
 use Rattle.scan_board.specs.Image.{entryFrom}
 use Rattle.scan_board.proofs.images.entries_in.Statement.{statement}
 use Rattle.scan_board.proofs.images.entries_in.Tie as tie

@@ -6,7 +6,7 @@ use lib.ListN.{length, take, drop, length-drop}
 use lib.Seq.{length-take-le, take-all}
 use denote.Ref.{now}
 use borrow.Author.Needs.{needs}
-use Rattle.board.specs.Image.{imageLength}
+use Rattle.image.specs.Image.{imageLength}
 use Rattle.scan_board.proofs.Pieces.{loaded}
 use Rattle.scan_board.proofs.images.load.Statement.{statement}
 use Rattle.scan_board.proofs.images.load.Tie as tie

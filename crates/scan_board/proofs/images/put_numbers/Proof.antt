@@ -6,8 +6,8 @@ use lib.ListN.{length, take}
 use denote.Ref.{now}
 use borrow.Author.Needs.{needs}
 use Rattle.scan.specs.Entries.{noEntry}
-use Rattle.board.specs.Blocks.{row, written}
-use Rattle.board.proofs.Assured.{row-start, row-turn, row-end}
+use Rattle.image.specs.Blocks.{row, written}
+use Rattle.image.proofs.Assured.{row-start, row-turn, row-end}
 use Rattle.scan_board.specs.Image.{arrivalBytes}
 use Rattle.scan_board.proofs.Pieces.{wrote-numbers}
 use Rattle.scan_board.proofs.images.put_numbers.Statement.{statement}

@@ -5,8 +5,8 @@ use lib.Seq.{length-take-le}
 use denote.Ref.{now}
 use borrow.Author.Needs.{needs}
 use Rattle.scan.specs.Step.{bare}
-use Rattle.board.specs.Image.{imageLength, imageOf, FitsTable}
-use Rattle.board.proofs.Assured.{promises, table-owned}
+use Rattle.image.specs.Image.{imageLength, imageOf, FitsTable}
+use Rattle.image.proofs.Assured.{promises, table-owned}
 use Rattle.scan_board.proofs.Owned.{numbers-owned}
 use Rattle.scan_board.proofs.Pieces.{stored-in, wrote-scan}
 use Rattle.scan_board.proofs.images.put_scan.Statement.{statement}

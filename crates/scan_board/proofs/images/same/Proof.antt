@@ -8,7 +8,7 @@ use native.Mathlib.Omega.{arith}
 use lib.ListN.{length, drop}
 use denote.Ref.{now}
 use borrow.Author.Needs.{needs}
-use Rattle.board.specs.Blocks.{same}
+use Rattle.image.specs.Blocks.{same}
 use Rattle.scan_board.proofs.Same.{same-turn, same-differ, same-end}
 use Rattle.scan_board.proofs.images.same.Statement.{statement}
 use Rattle.scan_board.proofs.images.same.Tie as tie

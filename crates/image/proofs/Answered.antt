@@ -1,0 +1,105 @@
+-- The entry points' answers and buffers, a law for each of their outcomes.
+use Prim.Native.Nat.{ℕ, _≤_, _<_}
+use mathlib.Core.Path.{_≡_, refl, sym, ap, _∙_}
+use mathlib.Core.Bool.{true, false, cond}
+use mathlib.Core.List.{List}
+use native.Mathlib.Omega.{arith}
+use lib.Dec.{ltb}
+use lib.ListN.{length}
+use borrow.Author.Tests.{eq-eqb, ne-eqb, lt-ltb, le-ltb}
+use Rattle.executive.specs.declared.Table.{Table}
+use Rattle.executive.specs.declared.Fresh.{Fresh}
+use Rattle.executive.specs.declared.Answer.{Answer}
+use Rattle.executive.specs.Check.{isWellFormed}
+use Rattle.executive.proofs.Assured.{decided}
+use Rattle.executive.specs.Step.{noTable, stepOf}
+use Rattle.executive.specs.Configuration.{freshOf}
+use Rattle.records.specs.declared.TaskNo.{TaskNo}
+use Rattle.why.specs.declared.Reasons.{Reasons}
+use Rattle.image.specs.Blocks.{written}
+use Rattle.image.specs.Image.{noRoom, imageLength, imageOf, loadOf, isImage, FitsTable}
+use Rattle.image.specs.EntryPoints.{checkNumber, CheckedImage, Holds, freshNumber, freshImage, answerLength, answerBytes, answerTo, imageAfter, stepNumber, stepImage, stepAnswer}
+use Rattle.image.specs.Reasons.{reasonsLength, reasonsBytes, reasonsTo, whyNumber, whyAnswer}
+use Rattle.image.proofs.Alike.{decide, never}
+use Rattle.image.proofs.Trips.{load-store, stored}
+
+-- ---- a stored table
+pub holds : (t : Table) (u : Table) {s : List ℕ} → FitsTable t → t ≡ u → s ≡ imageOf t → Holds s u
+holds t u f e i = record { image = rw i (stored t f); loads = ap loadOf i ∙ load-store t f ∙ e }
+
+-- ---- a fresh table
+module _ (g o : List ℕ) where
+  pub fresh-length : (length o ≡ imageLength → ⊥) → (noRoom ≡ freshNumber g o) × (o ≡ freshImage g o)
+  unfolding freshNumber freshImage
+  fresh-length h = let e = ne-eqb (length o) imageLength h in (rw e, rw e)
+
+  module _ (f : Fresh) (ef : f ≡ freshOf g) (n : length o ≡ imageLength) where
+    pub fresh-refused : (f .answer .number ≡ 0 → ⊥) → (f .answer .number ≡ freshNumber g o) × (o ≡ freshImage g o)
+    unfolding freshNumber freshImage
+    fresh-refused h = let e = eq-eqb (length o) imageLength n in let k = ne-eqb (f .answer .number) 0 h in rw (e, ← ef) (refl, rw k)
+
+    pub fresh-made : {u : List ℕ} → f .answer .number ≡ 0 → u ≡ imageOf (f .table) → (0 ≡ freshNumber g o) × (u ≡ freshImage g o)
+    unfolding freshNumber freshImage
+    fresh-made h eu = let e = eq-eqb (length o) imageLength n in let k = eq-eqb (f .answer .number) 0 h in rw (e, ← ef) (sym h, rw k eu)
+
+-- ---- the check of some bytes
+module _ (s : List ℕ) where
+  pub check-none : isImage s ≡ false → CheckedImage s 1
+  unfolding checkNumber
+  check-none h = record { number = rw h; right = (λ e. absurd (omega arith), λ w. absurd (never (sym h ∙ w .image))) }
+
+  pub check-right : isImage s ≡ true → isWellFormed (loadOf s) ≡ true → CheckedImage s 0
+  unfolding checkNumber
+  check-right h e = record { number = rw (h, e); right = (λ z. record { image = h; table = decided .iff (loadOf s) .0 e }, λ w. refl) }
+
+  pub check-wrong : isImage s ≡ true → isWellFormed (loadOf s) ≡ false → CheckedImage s 1
+  unfolding checkNumber
+  check-wrong h e = record { number = rw (h, e); right = (λ z. absurd (omega arith), λ w. absurd (never (sym e ∙ decided .iff (loadOf s) .1 (w .table)))) }
+
+-- ---- a step
+module _ (s k o : List ℕ) where
+  pub step-short : length o < answerLength → (noRoom ≡ stepNumber s k o) × ((s ≡ stepImage s k o) × (o ≡ stepAnswer s k o))
+  unfolding stepNumber stepImage stepAnswer
+  step-short h = let e = lt-ltb (length o) answerLength h in (rw e, (rw e, rw e))
+
+  module _ (h : answerLength ≤ length o) where
+    pub step-none : {u : List ℕ} → isImage s ≡ false → u ≡ written o 0 (answerBytes noTable)
+        → (1 ≡ stepNumber s k o) × ((s ≡ stepImage s k o) × (u ≡ stepAnswer s k o))
+    unfolding stepNumber stepImage stepAnswer imageAfter answerTo
+    step-none i eu = let e = le-ltb (length o) answerLength h in (rw (e, i), (rw (e, i), rw (e, i) eu))
+
+    pub step-said : {u v : List ℕ} (a : Answer) → isImage s ≡ true → a ≡ stepOf (loadOf s) k .answer → u ≡ written o 0 (answerBytes a) → v ≡ imageAfter s k
+        → (a .number ≡ stepNumber s k o) × ((v ≡ stepImage s k o) × (u ≡ stepAnswer s k o))
+    unfolding stepNumber stepImage stepAnswer answerTo
+    step-said a i ea eu ev = let e = le-ltb (length o) answerLength h in (rw (e, i, ← ea), (rw e ev, rw (e, i, ← ea) eu))
+
+-- ---- a question why a task is not running
+module _ (s : List ℕ) (k : TaskNo) (o : List ℕ) where
+  pub why-short : length o < reasonsLength → (noRoom ≡ whyNumber s k o) × (o ≡ whyAnswer s k o)
+  unfolding whyNumber whyAnswer
+  why-short h = let e = lt-ltb (length o) reasonsLength h in (rw e, rw e)
+
+  pub why-told : {u : List ℕ} (r : Reasons) → reasonsLength ≤ length o → r ≡ reasonsTo s k → u ≡ written o 0 (reasonsBytes r)
+      → (r .number ≡ whyNumber s k o) × (u ≡ whyAnswer s k o)
+  unfolding whyNumber whyAnswer
+  why-told r h er eu = let e = le-ltb (length o) reasonsLength h in (rw (e, ← er), rw (e, ← er) eu)
+
+-- ---- what is promised of refusals
+pub not-made : (g o : List ℕ) → (freshNumber g o ≡ 0 → ⊥) → freshImage g o ≡ o
+unfolding freshImage
+not-made g o h = rw (ne-eqb (freshNumber g o) 0 h)
+
+kept : (s k : List ℕ) → (answerTo s k .number ≡ 0 → ⊥) → imageAfter s k ≡ s
+unfolding imageAfter
+kept s k h = rw (ne-eqb (answerTo s k .number) 0 h)
+
+module _ (s k o : List ℕ) where
+  pub short : length o < answerLength → (stepImage s k o ≡ s) × (stepAnswer s k o ≡ o)
+  short h = let e = step-short s k o h in (sym (e .1 .0), sym (e .1 .1))
+
+  pub refused : (stepNumber s k o ≡ 0 → ⊥) → stepImage s k o ≡ s
+  unfolding stepNumber stepImage
+  refused h =
+      decide (ltb (length o) answerLength)
+      (λ e. rw e)
+      (λ e. rw e (kept s k (λ z. h (rw e z))))

@@ -1,0 +1,183 @@
+-- Bytes that are all zero: numbers, blocks and rows of blocks that are, as one test of their bytes.
+use Prim.Native.Nat.{ℕ, zero, suc, _+_, _-_, _*_, _≤_}
+use mathlib.Core.Path.{_≡_, refl, sym, ap, _∙_}
+use mathlib.Core.Bool.{Bool, true, false, cond}
+use mathlib.Core.List.{List, [], _∷_}
+use native.Mathlib.Omega.{arith}
+use native.Mathlib.Nat.{add-zero, suc-mul, zero-mul}
+use borrow.Author.Tests.{eqb-true, eqb-false, eq-eqb, ne-eqb}
+use lib.Dec.{eqb}
+use lib.Bits.{bitOr, or-zero-l, or-add-and, and-le-l, and-le-r}
+use lib.ListN.{length, getD, drop}
+use Rattle.records.specs.Numbers.{numberFrom, numberOf, part}
+use Rattle.executive.specs.Lists.{_and_, allOf}
+use Rattle.executive.specs.Check.{isNobody, isFree, isFreeSub, isNoMessage, isNoMail}
+use Rattle.image.specs.Blocks.{blocks}
+use Rattle.image.specs.Image.{placeFrom, lineFrom, requestFrom, subFrom, messageFrom, mailFrom, loadOf}
+use Rattle.image.specs.Sound.{noughts, poolIn, messagesIn, subsIn, mailIn}
+use Rattle.image.proofs.Spans.{length-blocks}
+use Rattle.image.proofs.Rows.{blocks-from}
+
+-- ---- tests put together
+pub cond-and : (a b : Bool) → cond a b false ≡ (a and b)
+cond-and true b = refl
+cond-and false b = refl
+
+cond-true : (a : Bool) → cond a true false ≡ a
+cond-true true = refl
+cond-true false = refl
+
+cond-cond : (a b x : Bool) → cond a (cond b x false) false ≡ cond (cond a b false) x false
+cond-cond true b x = refl
+cond-cond false b x = refl
+
+-- ---- a word put together of two, and of digits, is zero where both are
+pub or-nought : (a b : ℕ) → eqb (bitOr a b) 0 ≡ cond (eqb a 0) (eqb b 0) false
+or-nought a b = go (eqb a 0) (eqb b 0) refl refl
+  where
+    above : bitOr a b ≡ 0 → (a ≡ 0) × (b ≡ 0)
+    above e = (omega (arith, or-add-and a b, and-le-l a b, and-le-r a b), omega (arith, or-add-and a b, and-le-l a b, and-le-r a b))
+
+    go : (x y : Bool) → eqb a 0 ≡ x → eqb b 0 ≡ y → eqb (bitOr a b) 0 ≡ cond x y false
+    go true true e f = eq-eqb _ _ (ap (λ (n : ℕ). bitOr n b) (eqb-true a 0 e) ∙ or-zero-l b ∙ eqb-true b 0 f)
+    go true false e f = ne-eqb (bitOr a b) 0 (λ z. eqb-false b 0 f (above z .1))
+    go false y e f = ne-eqb (bitOr a b) 0 (λ z. eqb-false a 0 e (above z .0))
+
+digit-nought : (n b : ℕ) → eqb (n * 256 + b) 0 ≡ cond (eqb n 0) (eqb b 0) false
+digit-nought n b = go (eqb n 0) (eqb b 0) refl refl
+  where
+    go : (x y : Bool) → eqb n 0 ≡ x → eqb b 0 ≡ y → eqb (n * 256 + b) 0 ≡ cond x y false
+    go true true e f = eq-eqb (n * 256 + b) 0 (omega (arith, eqb-true n 0 e, eqb-true b 0 f))
+    go true false e f = ne-eqb (n * 256 + b) 0 (λ z. eqb-false b 0 f (omega (arith, z)))
+    go false y e f = ne-eqb (n * 256 + b) 0 (λ z. eqb-false n 0 e (omega (arith, z)))
+
+-- four bytes, the first the lowest
+pub four-nought : (a b c d : ℕ) → eqb (((d * 256 + c) * 256 + b) * 256 + a) 0 ≡ cond (eqb a 0) (cond (eqb b 0) (cond (eqb c 0) (cond (eqb d 0) true false) false) false) false
+four-nought a b c d =
+    digit-nought ((d * 256 + c) * 256 + b) a
+    ∙ ap (λ (x : Bool). cond x (eqb a 0) false) (digit-nought (d * 256 + c) b ∙ ap (λ (x : Bool). cond x (eqb b 0) false) (digit-nought d c))
+    ∙ turned (eqb a 0) (eqb b 0) (eqb c 0) (eqb d 0)
+  where
+    turned : (a b c d : Bool) → cond (cond (cond d c false) b false) a false ≡ cond a (cond b (cond c (cond d true false) false) false) false
+    turned true true true true = refl
+    turned true true true false = refl
+    turned true true false true = refl
+    turned true true false false = refl
+    turned true false true true = refl
+    turned true false true false = refl
+    turned true false false true = refl
+    turned true false false false = refl
+    turned false true true true = refl
+    turned false true true false = refl
+    turned false true false true = refl
+    turned false true false false = refl
+    turned false false true true = refl
+    turned false false true false = refl
+    turned false false false true = refl
+    turned false false false false = refl
+
+module _ (s : List ℕ) where
+  -- ---- so many bytes, and so many right behind them
+  pub noughts-join : (m n at : ℕ) → noughts s (m + n) at ≡ cond (noughts s m at) (noughts s n (at + m)) false
+  unfolding noughts
+  noughts-join zero n at = let z : 0 + n ≡ n = omega arith in rw (z, add-zero at) refl
+  noughts-join (suc m) n at =
+      let z : suc m + n ≡ suc (m + n) = omega arith in
+      let y : at + suc m ≡ suc at + m = omega arith in
+      rw (z, y) (ap (λ (x : Bool). cond (eqb (getD s at 0) 0) x false) (noughts-join m n (suc at)) ∙ cond-cond (eqb (getD s at 0) 0) (noughts s m (suc at)) (noughts s n (suc at + m)))
+
+  pub noughts-four : (at : ℕ) → eqb (numberOf (getD s (at + 3) 0 ∷ getD s (at + 2) 0 ∷ getD s (at + 1) 0 ∷ getD s at 0 ∷ [])) 0 ≡ noughts s 4 at
+  unfolding noughts
+  noughts-four at =
+      let e1 : at + 1 ≡ suc at = omega arith in
+      let e2 : at + 2 ≡ suc (suc at) = omega arith in
+      let e3 : at + 3 ≡ suc (suc (suc at)) = omega arith in
+      rw (e1, e2, e3) (four-nought (getD s at 0) (getD s (suc at) 0) (getD s (suc (suc at)) 0) (getD s (suc (suc (suc at))) 0))
+
+  pub noughts-one : (at : ℕ) → eqb (numberOf (0 ∷ 0 ∷ 0 ∷ getD s at 0 ∷ [])) 0 ≡ noughts s 1 at
+  unfolding noughts
+  noughts-one at =
+      let z : ((0 * 256 + 0) * 256 + 0) * 256 + getD s at 0 ≡ getD s at 0 = omega arith in
+      ap (λ (n : ℕ). eqb n 0) z ∙ sym (cond-true (eqb (getD s at 0) 0))
+
+  pub twice-noughts : (w at x y : ℕ) → eqb x 0 ≡ noughts s w at → eqb y 0 ≡ noughts s w (at + w) → eqb (bitOr x y) 0 ≡ noughts s (w + w) at
+  twice-noughts w at x y e f = or-nought x y ∙ rw (e, f) (sym (noughts-join w w at))
+
+  -- the loop over them: none yet, and w more
+  pub none-nought : (from : ℕ) → eqb 0 0 ≡ noughts s (from - from) from
+  unfolding noughts
+  none-nought from = let z : from - from ≡ 0 = omega arith in rw z refl
+
+  pub more-noughts : (from at w x y : ℕ) → from ≤ at → eqb x 0 ≡ noughts s (at - from) from → eqb y 0 ≡ noughts s w at → eqb (bitOr x y) 0 ≡ noughts s (at + w - from) from
+  more-noughts from at w x y h e f =
+      let z : at + w - from ≡ at - from + w = omega arith in
+      let v : from + (at - from) ≡ at = omega arith in
+      or-nought x y ∙ rw (e, f, z) (sym (noughts-join (at - from) w from ∙ rw v refl))
+
+  -- ---- a number of some bytes; some numbers one after the other
+  from-nought : (w n at : ℕ) → eqb (numberFrom n (part w at s)) 0 ≡ cond (eqb n 0) (noughts s w at) false
+  unfolding noughts
+  from-nought zero n at = sym (cond-true (eqb n 0))
+  from-nought (suc w) n at = from-nought w (n * 256 + getD s at 0) (suc at) ∙ ap (λ (x : Bool). cond x (noughts s w (suc at)) false) (digit-nought n (getD s at 0)) ∙ sym (cond-cond (eqb n 0) (eqb (getD s at 0) 0) (noughts s w (suc at)))
+
+  number-nought : (w at : ℕ) → eqb (numberOf (part w at s)) 0 ≡ noughts s w at
+  unfolding noughts
+  number-nought zero at = refl
+  number-nought (suc w) at = from-nought w (getD s at 0) (suc at)
+
+  -- the numbers of two, four and five widths
+  pub two-nought : (v w at : ℕ) → (eqb (numberOf (part v at s)) 0 and eqb (numberOf (part w (at + v) s)) 0) ≡ noughts s (v + w) at
+  two-nought v w at = sym (cond-and (eqb (numberOf (part v at s)) 0) (eqb (numberOf (part w (at + v) s)) 0)) ∙ rw (number-nought v at, number-nought w (at + v)) (sym (noughts-join v w at))
+
+  more-nought : (v n at : ℕ) {x : Bool} → x ≡ noughts s n (at + v) → (eqb (numberOf (part v at s)) 0 and x) ≡ noughts s (v + n) at
+  more-nought v n at {x} e = sym (cond-and (eqb (numberOf (part v at s)) 0) x) ∙ rw (number-nought v at, e) (sym (noughts-join v n at))
+
+  -- ---- a free place of the pool, a free place of the messages, no mail, nobody at a place of a line, a free subprogram
+  free-nought : (at : ℕ) → isFree (requestFrom s at) ≡ noughts s 6 at
+  free-nought at = more-nought 1 5 at (more-nought 1 4 (at + 1) (more-nought 2 2 (at + 1 + 1) (two-nought 1 1 (at + 1 + 1 + 2))))
+
+  no-message-nought : (at : ℕ) → isNoMessage (messageFrom s at) ≡ noughts s 11 at
+  no-message-nought at = more-nought 1 10 at (more-nought 1 9 (at + 1) (two-nought 1 8 (at + 1 + 1)))
+
+  no-mail-nought : (at : ℕ) → isNoMail (mailFrom s at) ≡ noughts s 9 at
+  no-mail-nought at = two-nought 1 8 at
+
+  nobody-nought : (at : ℕ) → isNobody (placeFrom s at) ≡ noughts s 1 at
+  nobody-nought at = number-nought 1 at
+
+  -- ---- a row of blocks
+  pub row-nought : {A : Type 0} (t : A → Bool) (f : ℕ → A) (w : ℕ) → ((at : ℕ) → t (f at) ≡ noughts s w at) → (n at : ℕ) → allOf t (blocks f w n at) ≡ noughts s (n * w) at
+  unfolding blocks allOf noughts
+  row-nought t f w h zero at = let z : 0 * w ≡ 0 = zero-mul w in rw z refl
+  row-nought t f w h (suc n) at =
+      let z : suc n * w ≡ w + n * w = suc-mul n w ∙ omega arith in
+      rw (h at, row-nought t f w h n (at + w), z) (sym (noughts-join w (n * w) at))
+
+  pub sub-nought : (at : ℕ) → isFreeSub (subFrom s at) ≡ noughts s 18 at
+  sub-nought at =
+      let l : eqb (length (lineFrom s (at + 2))) 16 ≡ true = eq-eqb _ _ (length-blocks (placeFrom s) 1 16 (at + 2)) in
+      let y : at + 1 + 1 ≡ at + 2 = omega arith in
+      let line : allOf isNobody (lineFrom s (at + 2)) ≡ noughts s 16 (at + 1 + 1) = rw y (row-nought isNobody (placeFrom s) 1 nobody-nought 16 (at + 2)) in
+      rw l (more-nought 1 17 at (more-nought 1 16 (at + 1) line))
+
+  -- ---- behind the first k of the pool's places, and of the messages
+  pub pool-nought : (k : ℕ) → k ≤ 32 → allOf isFree (drop k (poolIn s)) ≡ noughts s (896 - (704 + k * 6)) (704 + k * 6)
+  unfolding loadOf
+  pool-nought k h =
+      let z : (32 - k) * 6 ≡ 896 - (704 + k * 6) = omega arith in
+      ap (allOf isFree) (blocks-from (requestFrom s) 6 32 704 k h) ∙ row-nought isFree (requestFrom s) 6 free-nought (32 - k) (704 + k * 6) ∙ ap (λ (n : ℕ). noughts s n (704 + k * 6)) z
+
+  pub messages-nought : (k : ℕ) → k ≤ 32 → allOf isNoMessage (drop k (messagesIn s)) ≡ noughts s (1410 - (1058 + k * 11)) (1058 + k * 11)
+  unfolding loadOf
+  messages-nought k h =
+      let z : (32 - k) * 11 ≡ 1410 - (1058 + k * 11) = omega arith in
+      ap (allOf isNoMessage) (blocks-from (messageFrom s) 11 32 1058 k h) ∙ row-nought isNoMessage (messageFrom s) 11 no-message-nought (32 - k) (1058 + k * 11) ∙ ap (λ (n : ℕ). noughts s n (1058 + k * 11)) z
+
+  -- the subprograms, the mail
+  pub subs-nought : allOf isFreeSub (subsIn s) ≡ noughts s 144 914
+  unfolding loadOf
+  subs-nought = row-nought isFreeSub (subFrom s) 18 sub-nought 8 914
+
+  pub mail-nought : allOf isNoMail (mailIn s) ≡ noughts s 144 1411
+  unfolding loadOf
+  mail-nought = row-nought isNoMail (mailFrom s) 9 no-mail-nought 16 1411

@@ -1,0 +1,24 @@
+use native.Mathlib.Omega.{arith}
+use mathlib.Core.Path.{_≡_, refl, sym, ap, _∙_}
+use Rattle.executive.specs.Sheet.{decisionOf}
+use borrow.Author.Needs.{needs}
+use Rattle.image.proofs.deciding.decide_call.Statement.{statement}
+use Rattle.image.proofs.deciding.decide_call.Tie as tie
+
+returns : tie.Need-returns
+unfolding decisionOf
+returns c = λ t l w. rw (c .refused .ensures, ← c .before .before .nobody-active .ensures (t .tasks) (t .rest), c .before .if1 .taken) refl
+
+returns-2 : tie.Need-returns-2
+unfolding decisionOf
+returns-2 c = λ t l w. rw (← c .before .before .nobody-active .ensures (t .tasks) (t .rest), c .before .if1 .left) (c .by-kind .ensures t l w)
+
+pub decide-call-spec : {M : Type 1} → statement M
+decide-call-spec =
+    tie.close
+    (tie.spec
+    (λ c κs. search needs)
+    (λ c κs. search needs)
+    returns
+    (λ c κs. search needs)
+    returns-2)

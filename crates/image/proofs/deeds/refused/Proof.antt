@@ -1,0 +1,10 @@
+use mathlib.Core.Path.{refl}
+use borrow.Author.Needs.{needs}
+use Rattle.image.proofs.deeds.refused.Statement.{statement}
+use Rattle.image.proofs.deeds.refused.Tie as tie
+
+returns : tie.Need-returns
+returns c = rw (c .nothing .ensures) refl
+
+pub refused-spec : {M : Type 1} → statement M
+refused-spec = tie.close (tie.spec (λ c κs. search needs) returns)

@@ -1,0 +1,78 @@
+use native.Mathlib.Omega.{arith}
+use mathlib.Core.Path.{_≡_, refl, sym, ap, subst, _∙_}
+use Prim.Native.Nat.{_≤_, _<_, _-_, _+_, _*_}
+use lib.ListN.{length, length-map}
+use Rattle.executive.specs.declared.Table.{Table}
+use Rattle.executive.specs.Table.{FindsRoom, InFlight, begin, enterAllInFlight, litInFlight}
+use Rattle.executive.specs.Decisions.{joinsFor}
+use lib.ListN.{take, drop}
+use Rattle.image.specs.Laid.{Laid, withPool}
+use Rattle.image.proofs.DoneLaid.{Entering, stage-start, stage-turn, stage-end}
+use borrow.Author.Needs.{needs}
+use Rattle.image.proofs.doing.enter_all.Statement.{statement}
+use Rattle.image.proofs.doing.enter_all.Tie as tie
+
+abbrev Inv-loop : tie.InvT-loop
+Inv-loop b₀ q time entrants n walked₀ i₀ b walked i =
+    (length b ≡ 1555) × (i ≤ n) × (n ≤ length entrants) × (n ≤ 16) × (walked ≤ 15 * i)
+    × ((t : Table) → Laid b₀ t → InFlight n (begin t) → FindsRoom (joinsFor q time (take n entrants)) t
+    → Entering b walked (joinsFor q time (drop i (take n entrants))) (n - i) (litInFlight (enterAllInFlight (joinsFor q time (take n entrants)) (begin t)) .table) (litInFlight (enterAllInFlight (joinsFor q time (take n entrants)) (begin t)) .walked))
+
+abbrev μ-loop : tie.MeasureT-loop
+μ-loop b₀ q time entrants n walked₀ i₀ b walked i = n - i
+
+returns : tie.Need-returns Inv-loop μ-loop
+returns c = λ t l f h. absurd (omega (arith, f .room, c .if1 .taken))
+
+loop-holds : tie.Need-loop-holds Inv-loop μ-loop
+loop-holds c =
+    let s = c .before .before .before .before .before in
+    let k : length (s .args .list .places) ≡ 16 = sym (length-map (s .args .list .places) _) ∙ s .good .1 .0 .1 .1 .0 .1 .0 .1 in
+    (s .pre, omega arith, omega (arith, c .before .before .if1 .left, k), omega arith, omega arith, λ t l f h. stage-start _ _ (s .args .list .places) _ t l f h)
+
+array-copy-out-x : tie.Need-array-copy-out-x Inv-loop μ-loop
+array-copy-out-x c = omega (arith, c .before .loop .inv .2)
+
+enter-requires : tie.Need-enter-requires Inv-loop μ-loop
+enter-requires c κs = c .before .before .before .before .loop .inv .0
+
+add-walked : tie.Need-add-walked Inv-loop μ-loop
+add-walked c = omega (arith, c .before .before .before .before .before .before .before .loop .inv .4, c .before .before .before .before .before .before .before .loop .inv .3, c .before .before .enter .ensures .0, c .before .before .before .before .before .before .loop-test .taken)
+
+loop-again : tie.Need-loop-again Inv-loop μ-loop
+loop-again c =
+    let v = c .before .before .before .before .before .before .before .loop in (
+      c .before .before .enter .kept .0 ∙ v .inv .0,
+      omega arith,
+      v .inv .2,
+      v .inv .3,
+      omega (arith, v .inv .4, c .before .before .enter .ensures .0),
+      λ t l f h. stage-turn _ _ _ _ (v .inv .2) _ _ (v .walked) _ (v .i) (c .before .before .before .before .before .before .loop-test .taken) (v .inv .5 t l f h) (c .before .before .enter .ensures .1),
+    )
+
+same-length : tie.Need-same-length Inv-loop μ-loop
+same-length c = c .before .loop .inv .0 ∙ sym (c .before .before .before .before .before .before .before .pre)
+
+returns-2 : tie.Need-returns-2 Inv-loop μ-loop
+returns-2 c =
+    let v = c .before .loop in
+    λ t l f h. stage-end _ _ _ _ (v .inv .2) _ _ (v .walked) (v .i) (c .loop-test .left) (v .inv .5 t l f h)
+
+pub enter-all-spec : {M : Type 1} → statement M
+enter-all-spec =
+    tie.close
+    (tie.spec
+    Inv-loop
+    μ-loop
+    returns
+    (λ c. omega arith)
+    loop-holds
+    (λ c. omega arith)
+    array-copy-out-x
+    enter-requires
+    add-walked
+    (λ c. omega arith)
+    (λ c. omega arith)
+    loop-again
+    same-length
+    returns-2)

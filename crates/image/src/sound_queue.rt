@@ -1,0 +1,137 @@
+// The check in place of a line, the ready queue's or a subprogram's: exactly the tasks in its state, once each, in descending
+// priority. Once each by sets of bits, a bit a task.
+use crate::LEVELS;
+use crate::QUEUE;
+use crate::changes;
+use crate::moves;
+use crate::numbers;
+use crate::sound_entries;
+use executive::places;
+use executive::states;
+use records::TaskNo;
+ghost use mathlib.Core.Path.{_≡_};
+ghost use mathlib.Core.Bool.{cond};
+ghost use Prim.Native.Nat.{_+_, _^_, _<_, _≤_};
+ghost use lib.Bits.{bitOr};
+ghost use lib.ListN.{length, drop, take};
+ghost use Rattle.executive.specs.Lists.{allOf};
+ghost use Rattle.executive.specs.States.{isAs};
+ghost use Rattle.executive.specs.Check.{isNobody, queueRight};
+ghost use Rattle.image.specs.Image.{imageLength, lineFrom, loadOf};
+ghost use Rattle.image.specs.Marks.{passed, Marked, Walks};
+
+// What a walk over a line finds: whether those who stand there are tasks, in descending priority, and nobody twice; who
+// they are, bit i for the task whose entry is the i-th; the word of their levels.
+pub(crate) struct Walked {
+    pub(crate) right: bool,
+    pub(crate) seen: u32,
+    pub(crate) word: u16,
+}
+
+// A line that is not right.
+const WRONG: Walked = Walked {
+    right: false,
+    seen: 0,
+    word: 0,
+};
+
+// Walks over the first places of a line.
+pub(crate) fn walk(b: &[u8], at: usize, taken: usize, count: u8) -> Walked
+    requires { ⌜ (length (now b) ≡ imageLength) × (at + 16 ≤ imageLength) × (taken ≤ 16) × (count ≤ 16) ⌝ }
+    ensures { λ r. ⌜ Walks (loadOf (now (b .entry)) .tasks) count (take taken (lineFrom (now (b .entry)) at)) (r .right) (r .seen) (r .word) ⌝ }
+{
+    let mut p: u8 = 15;
+    let mut seen: u32 = 0;
+    let mut word: u16 = 0;
+    let mut i: usize = 0;
+    while i < taken {
+        let k = places::entry_place(TaskNo(b[at + i]));
+        if count as usize <= k {
+            return WRONG;
+        }
+        let level = b[k * 26 + 14];
+        if p < level {
+            return WRONG;
+        }
+        let bit = changes::bit_of(k);
+        if seen & bit != 0 {
+            return WRONG;
+        }
+        seen = seen | bit;
+        p = level;
+        word = word | moves::level_bit(level);
+        i += 1;
+    }
+    Walked {
+        right: true,
+        seen,
+        word,
+    }
+}
+
+// A set, with one more where that is so.
+fn with_bit(set: u32, k: usize, more: bool) -> u32
+    requires { ⌜ k < 32 ⌝ }
+    ensures { λ r. ⌜ r ≡ cond more (bitOr set (2 ^ k)) set ⌝ }
+{
+    if more {
+        return set | changes::bit_of(k);
+    }
+    set
+}
+
+// Those whose state is of a kind and waits for a number, bit i for the task whose entry is the i-th.
+pub(crate) fn set_of(b: &[u8], count: u8, kind: u8, number: u8) -> u32
+    requires { ⌜ (length (now b) ≡ imageLength) × (count ≤ 16) ⌝ }
+    ensures { λ r. ⌜ Marked count r (passed (isAs kind number) (loadOf (now (b .entry)) .tasks)) ⌝ }
+{
+    let mut set: u32 = 0;
+    let mut k: usize = 0;
+    while k < count as usize {
+        let more = sound_entries::is_as(b, k, kind, number);
+        set = with_bit(set, k, more);
+        k += 1;
+    }
+    set
+}
+
+// The free places of a line are zero.
+pub(crate) fn blank_from(b: &[u8], at: usize, taken: usize) -> bool
+    requires { ⌜ (length (now b) ≡ imageLength) × (at + 16 ≤ imageLength) × (taken ≤ 16) ⌝ }
+    ensures { λ r. ⌜ r ≡ allOf isNobody (drop taken (lineFrom (now (b .entry)) at)) ⌝ }
+{
+    let mut i = taken;
+    while i < 16 {
+        if b[at + i] != 0 {
+            return false;
+        }
+        i += 1;
+    }
+    true
+}
+
+// The ready queue holds exactly the ready tasks, once each, in descending priority; its free places are zero; the word of
+// the ready levels is theirs.
+pub(crate) fn queue_right(b: &[u8], ready: u8, count: u8) -> bool
+    requires { ⌜ (length (now b) ≡ imageLength) × (ready ≡ loadOf (now b) .ready) × (count ≡ loadOf (now b) .rest .count) ⌝ }
+    ensures { λ r. ⌜ r ≡ queueRight (loadOf (now (b .entry))) ⌝ }
+{
+    if 16 < count {
+        return false;
+    }
+    if 16 < ready {
+        return false;
+    }
+    let n = ready as usize;
+    let line = walk(b, QUEUE, n, count);
+    if !line.right {
+        return false;
+    }
+    if line.word != numbers::pair_in(b, LEVELS) {
+        return false;
+    }
+    if line.seen != set_of(b, count, states::READY, 0) {
+        return false;
+    }
+    blank_from(b, QUEUE, n)
+}

@@ -1,0 +1,87 @@
+// A step on the lent bytes of an image: checked, decided and done in place. No table is loaded.
+use crate::QUEUE;
+use crate::deciding;
+use crate::doing;
+use crate::fields;
+use crate::sound;
+use executive::Answer;
+use executive::Marks;
+use executive::answers;
+use records::TaskNo;
+ghost use mathlib.Core.Path.{_≡_};
+ghost use mathlib.Core.Bool.{true};
+ghost use lib.ListN.{length};
+ghost use Rattle.executive.specs.declared.Table.{Table};
+ghost use Rattle.executive.specs.Plans.{caller};
+ghost use Rattle.executive.specs.Step.{answerOf, refused, stepOf};
+ghost use Rattle.image.specs.Image.{imageLength, loadOf, isImage};
+ghost use Rattle.image.specs.EntryPoints.{imageAfter, Holds};
+ghost use Rattle.image.specs.Laid.{Laid};
+
+// The active task; 0 when idle.
+fn active(b: &[u8]) -> TaskNo
+    requires { ⌜ length (now b) ≡ imageLength ⌝ }
+    ensures { λ r. ⌜ ((t : Table) → Laid (now (b .entry)) t → r ≡ caller t) ⌝ }
+{
+    if b[fields::READY] == 0 {
+        return TaskNo(0);
+    }
+    TaskNo(b[QUEUE])
+}
+
+// The answer with a number, marks and how far those that entered walked.
+fn answer(b: &[u8], number: u8, m: Marks, walked: u8) -> Answer
+    requires { ⌜ length (now b) ≡ imageLength ⌝ }
+    ensures { λ r. ⌜ ((t : Table) → Laid (now (b .entry)) t → r ≡ answerOf number m walked t) ⌝ }
+{
+    let active = active(b);
+    let e = fields::entry(b, active);
+    let sender = m.sender;
+    let text = m.text;
+    Answer {
+        number,
+        z: m.z,
+        v: m.v,
+        c: m.c,
+        active,
+        argument: e.argument,
+        skipped: m.skipped,
+        walked,
+        sender,
+        text,
+    }
+}
+
+// The answer of a refusal. After 1 active and argument are 0, after the others the kept table's.
+fn refusal(b: &[u8], number: u8) -> Answer
+    requires { ⌜ length (now b) ≡ imageLength ⌝ }
+    ensures { λ r. ⌜ ((t : Table) → Laid (now (b .entry)) t → r ≡ refused t number .answer) ⌝ }
+{
+    if number == 1 {
+        return answers::no_table();
+    }
+    let v = answers::has_v(number);
+    let m = answers::marked(false, v, false);
+    answer(b, number, m, 0)
+}
+
+// A step at an image: refused, no byte is written; accepted, the deed is done in place.
+pub(crate) fn step(b: &mut [u8], call: &[u8]) -> Answer
+    requires { ⌜ isImage (now b) ≡ true ⌝ }
+    ensures { λ r. ⌜ (r ≡ stepOf (loadOf (now (b .entry))) (now (call .entry)) .answer)
+        × ((now (b .exit) ≡ imageAfter (now (b .entry)) (now (call .entry)))
+        × (r .number ≡ 0 → Holds (now (b .exit)) (stepOf (loadOf (now (b .entry))) (now (call .entry)) .table))) ⌝ }
+{
+    if !sound::is_sound(b) {
+        return answers::no_table();
+    }
+    let c = active(b);
+    let d = deciding::decide(b, c, call);
+    if d.number != 0 {
+        return refusal(b, d.number);
+    }
+    let deed = d.deed;
+    let walked = doing::execute(b, deed);
+    let m = d.marks;
+    answer(b, 0, m, walked)
+}

@@ -1,0 +1,116 @@
+// Kinds 09, 0B and 80 decided on the lent bytes of an image: those that look at all tasks or all alarms.
+use crate::ALARMS;
+use crate::changes;
+use crate::deeds;
+use crate::entrants;
+use crate::fields;
+use crate::intervals;
+use crate::numbers;
+use crate::ringing;
+use crate::waking;
+use executive::Millis;
+use executive::answers;
+use executive::decisions::Change;
+use executive::decisions::Decision;
+use executive::decisions::Deed;
+use executive::decisions::Leave;
+use records::FlagNo;
+ghost use mathlib.Core.Path.{_≡_};
+ghost use Prim.Native.Nat.{_<_};
+ghost use lib.ListN.{length};
+ghost use Rattle.records.specs.declared.TaskNo.{TaskNo};
+ghost use Rattle.records.specs.declared.Call.the-variants as call;
+ghost use Rattle.executive.specs.declared.Table.{Table};
+ghost use Rattle.executive.specs.WellFormed.{WellFormed};
+ghost use Rattle.executive.specs.Decisions.{setDeed};
+ghost use Rattle.executive.specs.Sheet.{decided};
+ghost use Rattle.image.specs.Image.{imageLength};
+ghost use Rattle.image.specs.Laid.{Laid};
+
+// Kind 09, operation 1, and kind 0B with count 0: all tasks whose condition now holds enter.
+fn set(b: &[u8], flags: u32, f: FlagNo) -> Deed
+    requires { ⌜ (length (now b) ≡ imageLength) × (f .0 < 32) ⌝ }
+    ensures { λ r. ⌜ ((t : Table) → Laid (now (b .entry)) t → r ≡ setDeed (t .tasks) flags f) ⌝ }
+{
+    let more = flags | changes::bit_of(f.0 as usize);
+    let nobody = entrants::nobody();
+    let entrants = waking::held(b, nobody, more);
+    deeds::letting_in(entrants, Change::Flags(more))
+}
+
+// Kind 09: operation 0 resets, 1 sets, 2 tests.
+pub(crate) fn flag(b: &[u8], operation: u8, f: FlagNo) -> Decision
+    requires { ⌜ length (now b) ≡ imageLength ⌝ }
+    ensures { λ r. ⌜ ((t : Table) → Laid (now (b .entry)) t → WellFormed t → (c : TaskNo) → r ≡ decided (t .tasks) (t .rest) c (call.Flag operation f)) ⌝ }
+{
+    if 31 < f.0 {
+        return deeds::refused(6);
+    }
+    if 2 < operation {
+        return deeds::refused(6);
+    }
+    let flags = numbers::word_in(b, fields::FLAGS);
+    let bit = changes::bit_of(f.0 as usize);
+    let old = flags & bit != 0;
+    if operation == 0 {
+        let reset = deeds::alone(Leave::Stays, Change::Flags(flags & (4294967295 - bit)));
+        return deeds::accepted(answers::marked(!old, false, old), reset);
+    }
+    if operation == 1 {
+        let deed = set(b, flags, f);
+        return deeds::accepted(answers::marked(old, false, old), deed);
+    }
+    let still = deeds::nothing();
+    deeds::accepted(answers::marked(false, false, old), still)
+}
+
+// Kind 0B: count 0 is a set, with its marks; any other count a mere look at the flag. A clock past its end is none of a
+// well-formed table.
+pub(crate) fn alarm(b: &[u8], unit: u8, count: u8, f: FlagNo) -> Decision
+    requires { ⌜ length (now b) ≡ imageLength ⌝ }
+    ensures { λ r. ⌜ ((t : Table) → Laid (now (b .entry)) t → WellFormed t → (c : TaskNo) → r ≡ decided (t .tasks) (t .rest) c (call.Alarm unit count f)) ⌝ }
+{
+    if intervals::LAST_UNIT < unit {
+        return deeds::refused(6);
+    }
+    if 31 < f.0 {
+        return deeds::refused(6);
+    }
+    if numbers::long_in(b, ALARMS + (f.0 as usize) * 8) != 0 {
+        return deeds::refused(9);
+    }
+    let flags = numbers::word_in(b, fields::FLAGS);
+    let old = flags & changes::bit_of(f.0 as usize) != 0;
+    if count == 0 {
+        let deed = set(b, flags, f);
+        return deeds::accepted(answers::marked(old, false, old), deed);
+    }
+    let clock = numbers::long_in(b, fields::CLOCK);
+    if intervals::END_OF_TIME < clock {
+        return deeds::refused(1);
+    }
+    let at = Millis(clock + intervals::millis_of(unit, count));
+    let stored = deeds::alone(Leave::Stays, Change::Alarm(f, at));
+    deeds::accepted(answers::marked(false, false, old), stored)
+}
+
+// Kind 80: the first alarm that is due is looked for once, and told with the deed.
+pub(crate) fn tick(b: &[u8]) -> Decision
+    requires { ⌜ length (now b) ≡ imageLength ⌝ }
+    ensures { λ r. ⌜ ((t : Table) → Laid (now (b .entry)) t → WellFormed t → (c : TaskNo) → r ≡ decided (t .tasks) (t .rest) c call.Tick) ⌝ }
+{
+    let clock = numbers::long_in(b, fields::CLOCK);
+    if intervals::END_OF_TIME < clock {
+        return deeds::refused(10);
+    }
+    let time = clock + changes::wide(b[fields::GRANULE]);
+    if intervals::END_OF_TIME < time {
+        return deeds::refused(10);
+    }
+    let flags = numbers::word_in(b, fields::FLAGS);
+    let first = ringing::next_due(b, 0, time);
+    let more = ringing::rings(b, flags, first, time);
+    let entrants = waking::woken(b, time, flags, more);
+    let deed = deeds::letting_in(entrants, Change::Clock(first));
+    deeds::accepted(answers::marked(false, false, false), deed)
+}
