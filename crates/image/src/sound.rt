@@ -1,5 +1,5 @@
-// The check in place: whether bytes of an image's length load to a well-formed table, held to its rules where they lie. No
-// table is loaded.
+// The check in place: whether bytes of an image's length load to a well-formed table, held to its rules where they
+// lie. No table is loaded.
 use crate::SENT;
 use crate::fields;
 use crate::numbers;

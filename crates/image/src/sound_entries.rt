@@ -1,5 +1,5 @@
-// The check in place of the entries and the alarms, and what a task's state is, read where it lies. Any bytes are held to
-// the rules, as those of the table that they load to.
+// The check in place of the entries and the alarms, and what a task's state is, read where it lies. Any bytes are
+// held to the rules, as those of the table that they load to.
 use crate::ALARMS;
 use crate::AWAITED;
 use crate::loading;
@@ -75,6 +75,30 @@ pub(crate) fn entries_right(b: &[u8], count: u8, time: Millis, flags: u32) -> bo
     true
 }
 
+// Whether the i-th entry is zero, but for what a dormant state has no use for.
+fn is_blank(b: &[u8], i: usize) -> bool
+    requires { ⌜ (length (now b) ≡ imageLength) × (i < 16) ⌝ }
+    ensures { λ r. ⌜ r ≡ isBlank (getD (loadOf (now (b .entry)) .tasks) i noTask) ⌝ }
+{
+    if 0 != kind_at(b, i) {
+        return false;
+    }
+    let at = i * 26;
+    if b[at] != 0 {
+        return false;
+    }
+    if b[at + 14] != 0 {
+        return false;
+    }
+    if numbers::pair_in(b, at + 15) != 0 {
+        return false;
+    }
+    if numbers::long_in(b, at + 17) != 0 {
+        return false;
+    }
+    b[at + 25] == 0
+}
+
 // The entries past the task count are zero.
 pub(crate) fn blank_past(b: &[u8], count: u8) -> bool
     requires { ⌜ (length (now b) ≡ imageLength) × (count ≤ 16) ⌝ }
@@ -82,8 +106,7 @@ pub(crate) fn blank_past(b: &[u8], count: u8) -> bool
 {
     let mut i = count as usize;
     while i < 16 {
-        let e = loading::task_in(b, i);
-        if !rules::is_blank(e) {
+        if !is_blank(b, i) {
             return false;
         }
         i += 1;

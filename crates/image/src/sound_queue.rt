@@ -1,5 +1,5 @@
-// The check in place of a line, the ready queue's or a subprogram's: exactly the tasks in its state, once each, in descending
-// priority. Once each by sets of bits, a bit a task.
+// The check in place of a line, the ready queue's or a subprogram's: exactly the tasks in its state, once each, in
+// descending priority. Once each by sets of bits, a bit a task.
 use crate::LEVELS;
 use crate::QUEUE;
 use crate::changes;
@@ -20,8 +20,8 @@ ghost use Rattle.executive.specs.Check.{isNobody, queueRight};
 ghost use Rattle.image.specs.Image.{imageLength, lineFrom, loadOf};
 ghost use Rattle.image.specs.Marks.{passed, Marked, Walks};
 
-// What a walk over a line finds: whether those who stand there are tasks, in descending priority, and nobody twice; who
-// they are, bit i for the task whose entry is the i-th; the word of their levels.
+// What a walk over a line finds: whether those who stand there are tasks, in descending priority, and nobody
+// twice; who they are, bit i for the task whose entry is the i-th; the word of their levels.
 pub(crate) struct Walked {
     pub(crate) right: bool,
     pub(crate) seen: u32,
@@ -110,8 +110,8 @@ pub(crate) fn blank_from(b: &[u8], at: usize, taken: usize) -> bool
     true
 }
 
-// The ready queue holds exactly the ready tasks, once each, in descending priority; its free places are zero; the word of
-// the ready levels is theirs.
+// The ready queue holds exactly the ready tasks, once each, in descending priority; its free places are zero; the
+// word of the ready levels is theirs.
 pub(crate) fn queue_right(b: &[u8], ready: u8, count: u8) -> bool
     requires { ⌜ (length (now b) ≡ imageLength) × (ready ≡ loadOf (now b) .ready) × (count ≡ loadOf (now b) .rest .count) ⌝ }
     ensures { λ r. ⌜ r ≡ queueRight (loadOf (now (b .entry))) ⌝ }

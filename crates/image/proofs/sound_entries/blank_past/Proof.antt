@@ -1,14 +1,13 @@
 -- `sound_entries::blank_past` meets its contract. The invariant: what is left decides.
 use mathlib.Core.Path.{_≡_, refl, sym, _∙_}
 use native.Mathlib.Omega.{arith}
-use borrow.Author.Needs.{needs}
 use denote.Ref.{now}
 use Rattle.image.specs.Image.{loadOf}
 use Prim.Native.Nat.{_≤_, _-_}
-use lib.ListN.{drop}
+use lib.ListN.{drop, getD}
 use Rattle.executive.specs.Lists.{allOf}
 use borrow.Author.Tests.{not-true, not-false}
-use Rattle.image.proofs.Loaded.{tasks-size, task-there, read-turn, read-not, read-end}
+use Rattle.image.proofs.Loaded.{tasks-size, read-turn, read-not, read-end}
 use Rattle.executive.specs.Places.{noTask}
 use Rattle.executive.specs.Check.{isBlank}
 use Rattle.image.proofs.sound_entries.blank_past.Statement.{statement}
@@ -23,17 +22,14 @@ abbrev μ-loop : tie.MeasureT-loop
 loop-holds : tie.Need-loop-holds Inv-loop μ-loop
 loop-holds c = (c .before .pre .1, refl)
 
-task-in-requires : tie.Need-task-in-requires Inv-loop μ-loop
-task-in-requires c κs = (c .loop-test .taken, omega (arith, c .before .before .before .pre .0))
-
 is-blank-requires : tie.Need-is-blank-requires Inv-loop μ-loop
-is-blank-requires c κs = search needs
+is-blank-requires c κs = (c .before .before .before .pre .0, c .loop-test .taken)
 
 returns : tie.Need-returns Inv-loop μ-loop
 returns c =
-    let s = now (c .before .before .before .before .before .before .args .b) in
-    let v = c .before .before .before .before .loop in
-    sym (sym (v .inv .1) ∙ read-not isBlank noTask (loadOf s .tasks) 16 (tasks-size s) (v .i) (c .before .before .task-in .result) (c .before .before .before .loop-test .taken) (c .before .before .task-in .ensures ∙ task-there s (v .i) (c .before .before .before .loop-test .taken)) (sym (c .before .is-blank .ensures) ∙ not-true _ (c .if1 .taken)))
+    let s = now (c .before .before .before .before .before .args .b) in
+    let v = c .before .before .before .loop in
+    sym (sym (v .inv .1) ∙ read-not isBlank noTask (loadOf s .tasks) 16 (tasks-size s) (v .i) (getD (loadOf s .tasks) (v .i) noTask) (c .before .before .loop-test .taken) refl (sym (c .before .is-blank .ensures) ∙ not-true _ (c .if1 .taken)))
 
 add-i : tie.Need-add-i Inv-loop μ-loop
 add-i c = omega arith
@@ -43,9 +39,9 @@ loop-less c = omega arith
 
 loop-again : tie.Need-loop-again Inv-loop μ-loop
 loop-again c =
-    let s = now (c .before .before .before .before .before .before .args .b) in
-    let v = c .before .before .before .before .loop in
-    (omega arith, read-turn isBlank noTask (loadOf s .tasks) 16 (tasks-size s) (v .i) (c .before .before .task-in .result) (c .before .before .before .loop-test .taken) (c .before .before .task-in .ensures ∙ task-there s (v .i) (c .before .before .before .loop-test .taken)) (sym (c .before .is-blank .ensures) ∙ not-false _ (c .if1 .left)) ∙ v .inv .1)
+    let s = now (c .before .before .before .before .before .args .b) in
+    let v = c .before .before .before .loop in
+    (omega arith, read-turn isBlank noTask (loadOf s .tasks) 16 (tasks-size s) (v .i) (getD (loadOf s .tasks) (v .i) noTask) (c .before .before .loop-test .taken) refl (sym (c .before .is-blank .ensures) ∙ not-false _ (c .if1 .left)) ∙ v .inv .1)
 
 returns-2 : tie.Need-returns-2 Inv-loop μ-loop
 returns-2 c =
@@ -60,7 +56,6 @@ blank-past-spec =
     Inv-loop
     μ-loop
     loop-holds
-    task-in-requires
     is-blank-requires
     returns
     add-i
