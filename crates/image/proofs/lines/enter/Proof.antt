@@ -26,7 +26,7 @@ returns-3 c =
     (enter-free (t .tasks) (t .rest) (a .c) (a .m) (c .before .before .before .before .before .before .before .before .if1 .left) _ (holder-read t l (a .m .0) (omega (arith, c .before .before .before .before .before .before .before .before .if1 .left))) (c .before .before .before .before .if2 .left) (c .before .before .if3 .taken))
 
 ahead-requires : tie.Need-ahead-requires
-ahead-requires c κs = (c .before .before .before .before .before .before .before .before .before .before .before .before .pre, (omega (arith, c .before .before .before .before .before .before .before .before .before .if1 .left), c .before .at-most .ensures .0))
+ahead-requires c κs = (c .before .before .before .before .before .before .before .before .before .before .before .before .pre, omega (arith, c .before .before .before .before .before .before .before .before .before .if1 .left), c .before .at-most .ensures .0)
 
 returns-4 : tie.Need-returns-4
 returns-4 c =
