@@ -1,7 +1,7 @@
 /*
  * quermanic.h: the executive's table as bytes, and the four things that a board does with it.
  *
- * The functions are proved against their definitions (crates/board); docs/EMBEDDING.md says how to link them and what is promised.
+ * The functions are proved against their definitions (crates/image); docs/EMBEDDING.md says how to link them and what is promised.
  * They keep nothing between calls, allocate nothing, and use no memory but their buffers and their stack.
  * docs/CALLS.md is the manual of the calls: every record byte by byte, and what each number means.
  *
