@@ -5,8 +5,7 @@ ghost use Rattle.image.specs.Reasons.{ExplainsImage};
 ghost use Rattle.image.specs.Mending.{MendsImage};
 
 // Makes a fresh table from configuration bytes: 0 and its image written; 30 where the buffer has not the image's
-// length, 2 where they
-// are no configuration, and then no byte is changed.
+// length, 2 where they are no configuration, and then no byte is changed.
 #[no_mangle]
 pub extern "C" fn quermanic_fresh(config: &[u8], image: &mut [u8]) -> u8
     ensures { λ r. ⌜ MakesImage (now (config .entry)) (now (image .entry)) (now (image .exit)) r ⌝ }
@@ -22,9 +21,9 @@ pub extern "C" fn quermanic_check(image: &[u8]) -> u8
     image::check(image)
 }
 
-// Takes a step: the answer's number, and the answer at the start of its buffer. Accepted (0), the image is
-// rewritten; refused, none of
-// its bytes is changed. Where the answer's buffer is shorter than 25 bytes: 30, and no byte of any buffer is changed.
+// Takes a step: the answer's number, and the answer at the start of its buffer. Accepted (0), the image is rewritten;
+// refused, none of its bytes is changed. Where the answer's buffer is shorter than 25 bytes: 30, and no byte of any
+// buffer is changed.
 #[no_mangle]
 pub extern "C" fn quermanic_step(image: &mut [u8], call: &[u8], answer: &mut [u8]) -> u8
     ensures { λ r. ⌜ StepsImage (now (image .entry)) (now (call .entry)) (now (answer .entry)) (now (image .exit)) (now (answer .exit)) r ⌝ }

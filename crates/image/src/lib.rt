@@ -1,4 +1,4 @@
-// The board library: the executive's table as bytes, and entry points for C, on byte slices and numbers only.
+// The table as bytes: what a board does with it, each on lent bytes; the crate board has these functions for C.
 use executive::Lamp;
 use executive::configuration;
 use executive::levels;
@@ -73,8 +73,7 @@ pub const IMAGE: usize = 1555;
 const LAMP_DARK: u8 = 16;
 
 // Makes a fresh table from configuration bytes: 0 and its image written; 30 where the buffer has not the image's
-// length, 2 where they
-// are no configuration, and then no byte is changed.
+// length, 2 where they are no configuration, and then no byte is changed.
 pub fn fresh(config: &[u8], image: &mut [u8]) -> u8
     ensures { λ r. ⌜ MakesImage (now (config .entry)) (now (image .entry)) (now (image .exit)) r ⌝ }
 {
@@ -104,9 +103,9 @@ pub fn check(image: &[u8]) -> u8
     1
 }
 
-// Takes a step: the answer's number, and the answer at the start of its buffer. Accepted (0), the image is
-// rewritten; refused, none of
-// its bytes is changed. Where the answer's buffer is shorter than 25 bytes: 30, and no byte of any buffer is changed.
+// Takes a step: the answer's number, and the answer at the start of its buffer. Accepted (0), the image is rewritten;
+// refused, none of its bytes is changed. Where the answer's buffer is shorter than 25 bytes: 30, and no byte of any
+// buffer is changed.
 pub fn step(image: &mut [u8], call: &[u8], answer: &mut [u8]) -> u8
     ensures { λ r. ⌜ StepsImage (now (image .entry)) (now (call .entry)) (now (answer .entry)) (now (image .exit)) (now (answer .exit)) r ⌝ }
 {
