@@ -13,9 +13,10 @@ use executive::Message;
 use executive::Millis;
 use executive::Request;
 use executive::decisions::Change;
+use executive::messages;
+use executive::pool;
 use records::SubNo;
 use records::TaskNo;
-use records::Text;
 ghost use mathlib.Core.Path.{_≡_};
 ghost use mathlib.Core.List.{[], _∷_, _++_};
 ghost use Prim.Native.Nat.{_+_, _-_, _<_, _≤_, _^_};
@@ -31,21 +32,6 @@ ghost use Rattle.executive.specs.Messages.{LettersInOrder, letters, withLetters
 ghost use Rattle.executive.specs.Decisions.{changed, firstDue, Able};
 ghost use Rattle.image.specs.Image.{imageLength};
 ghost use Rattle.image.specs.Laid.{Laid};
-
-const NO_REQUEST: Request = Request {
-    target: TaskNo(0),
-    priority: 0,
-    argument: 0,
-    start_waiter: TaskNo(0),
-    end_waiter: TaskNo(0),
-};
-
-const NO_MESSAGE: Message = Message {
-    to: TaskNo(0),
-    sender: TaskNo(0),
-    priority: 0,
-    text: Text(0),
-};
 
 // A request is queued behind the others.
 fn add_request(b: &mut [u8], q: Request)
@@ -76,7 +62,7 @@ fn take_request(b: &mut [u8], i: usize)
     }
     let at = POOL + i * 6;
     moving::move_up(b, at, at + 6, 186 - i * 6);
-    storing::put_request(b, POOL + 186, NO_REQUEST);
+    storing::put_request(b, POOL + 186, pool::NO_REQUEST);
     fields::set_queued(b, n - 1);
 }
 
@@ -114,7 +100,7 @@ fn hand_out(b: &mut [u8], i: usize)
     }
     let at = MESSAGES + i * 11;
     moving::move_up(b, at, at + 11, 341 - i * 11);
-    storing::put_message(b, MESSAGES + 341, NO_MESSAGE);
+    storing::put_message(b, MESSAGES + 341, messages::NO_MESSAGE);
     fields::set_sent(b, n - 1);
 }
 

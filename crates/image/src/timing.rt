@@ -10,6 +10,7 @@ use crate::ringing;
 use crate::waking;
 use executive::Millis;
 use executive::answers;
+use executive::decisions;
 use executive::decisions::Change;
 use executive::decisions::Decision;
 use executive::decisions::Deed;
@@ -44,24 +45,24 @@ pub(crate) fn flag(b: &[u8], operation: u8, f: FlagNo) -> Decision
     ensures { λ r. ⌜ ((t : Table) → Laid (now (b .entry)) t → WellFormed t → (c : TaskNo) → r ≡ decided (t .tasks) (t .rest) c (call.Flag operation f)) ⌝ }
 {
     if 31 < f.0 {
-        return deeds::refused(6);
+        return decisions::refused(6);
     }
     if 2 < operation {
-        return deeds::refused(6);
+        return decisions::refused(6);
     }
     let flags = numbers::word_in(b, fields::FLAGS);
     let bit = changes::bit_of(f.0 as usize);
     let old = flags & bit != 0;
     if operation == 0 {
-        let reset = deeds::alone(Leave::Stays, Change::Flags(flags & (4294967295 - bit)));
-        return deeds::accepted(answers::marked(!old, false, old), reset);
+        let reset = decisions::alone(Leave::Stays, Change::Flags(flags & (4294967295 - bit)));
+        return decisions::accepted(answers::marked(!old, false, old), reset);
     }
     if operation == 1 {
         let deed = set(b, flags, f);
-        return deeds::accepted(answers::marked(old, false, old), deed);
+        return decisions::accepted(answers::marked(old, false, old), deed);
     }
-    let still = deeds::nothing();
-    deeds::accepted(answers::marked(false, false, old), still)
+    let still = decisions::nothing();
+    decisions::accepted(answers::marked(false, false, old), still)
 }
 
 // Kind 0B: count 0 is a set, with its marks; any other count a mere look at the flag. A clock past its end is none of a
@@ -71,27 +72,27 @@ pub(crate) fn alarm(b: &[u8], unit: u8, count: u8, f: FlagNo) -> Decision
     ensures { λ r. ⌜ ((t : Table) → Laid (now (b .entry)) t → WellFormed t → (c : TaskNo) → r ≡ decided (t .tasks) (t .rest) c (call.Alarm unit count f)) ⌝ }
 {
     if intervals::LAST_UNIT < unit {
-        return deeds::refused(6);
+        return decisions::refused(6);
     }
     if 31 < f.0 {
-        return deeds::refused(6);
+        return decisions::refused(6);
     }
     if numbers::long_in(b, ALARMS + (f.0 as usize) * 8) != 0 {
-        return deeds::refused(9);
+        return decisions::refused(9);
     }
     let flags = numbers::word_in(b, fields::FLAGS);
     let old = flags & changes::bit_of(f.0 as usize) != 0;
     if count == 0 {
         let deed = set(b, flags, f);
-        return deeds::accepted(answers::marked(old, false, old), deed);
+        return decisions::accepted(answers::marked(old, false, old), deed);
     }
     let clock = numbers::long_in(b, fields::CLOCK);
     if intervals::END_OF_TIME < clock {
-        return deeds::refused(1);
+        return decisions::refused(1);
     }
     let at = Millis(clock + intervals::millis_of(unit, count));
-    let stored = deeds::alone(Leave::Stays, Change::Alarm(f, at));
-    deeds::accepted(answers::marked(false, false, old), stored)
+    let stored = decisions::alone(Leave::Stays, Change::Alarm(f, at));
+    decisions::accepted(answers::marked(false, false, old), stored)
 }
 
 // Kind 80: the first alarm that is due is looked for once, and told with the deed.
@@ -101,16 +102,16 @@ pub(crate) fn tick(b: &[u8]) -> Decision
 {
     let clock = numbers::long_in(b, fields::CLOCK);
     if intervals::END_OF_TIME < clock {
-        return deeds::refused(10);
+        return decisions::refused(10);
     }
     let time = clock + changes::wide(b[fields::GRANULE]);
     if intervals::END_OF_TIME < time {
-        return deeds::refused(10);
+        return decisions::refused(10);
     }
     let flags = numbers::word_in(b, fields::FLAGS);
     let first = ringing::next_due(b, 0, time);
     let more = ringing::rings(b, flags, first, time);
     let entrants = waking::woken(b, time, flags, more);
     let deed = deeds::letting_in(entrants, Change::Clock(first));
-    deeds::accepted(answers::marked(false, false, false), deed)
+    decisions::accepted(answers::marked(false, false, false), deed)
 }
