@@ -22,6 +22,9 @@ use Rattle.text.specs.Glyphs.{Adds, decimalOf, hexOf, bitOf}
 use Rattle.bench.specs.Lines.{granuleWord, tasksWord, activeWord, stopWord, endWord, headerBy, headerOf, lineOf, stopOf}
 use Rattle.bench.specs.Listing.{wholeOf, lastOf, stepLength}
 use Rattle.bench.specs.Pieces.{withNext, isMore, after, leftIn, toldAs, toldOf, afterAs, afterOf, none, before, goesOn, pieceIn, pieceOf, Fills, FillsFrom}
+use Rattle.image.specs.Image.{loadOf, isImage}
+use Rattle.image.specs.Acting.{Acts}
+use Rattle.image.proofs.Assured.{acting-promises}
 use Rattle.text.proofs.Assured.{decide}
 use Rattle.bench.proofs.Told.{row-some, whole-fits}
 use Rattle.text.proofs.Assured.{nothing, then, inside, all-of}
@@ -187,6 +190,18 @@ going-step {s} {r} {a} {n} {b} {m} {at} {number} {t} {c} {k} g h w e z x f o i p
     let v : afterOf s (standing at number t) ≡ standing (at + w) l (o .table) =
     after-step s at number t w e z ∙ rw (y, j) in
     rw v at (going-more g (le-leb 64 (length a - m) h) (rw (← q) at p))
+
+-- a step more on the image u, which then is v
+pub going-act : {s : List ℕ} {r : Progress} {a : List ℕ} {n : ℕ} {b : List ℕ} {m : ℕ} {at number : ℕ} {u v : List ℕ} {c : List ℕ} {k : ℕ}
+    → Going s r a n b m (standing at number (loadOf u)) → isImage u ≡ true → 64 ≤ length a - m
+    → (w : ℕ) → w ≡ wholeOf (drop at s) → (w ≡ 0 → ⊥)
+    → (x : List ℕ) → x ≡ take w (drop at s) → (y : Answer) → Acts u x v y
+    → Adds b m c k (lineOf number (getD s at 0) y)
+    → (l : ℕ) → l ≡ after number → Going s r a n c k (standing (at + w) l (loadOf v)) × (isImage v ≡ true)
+going-act {s} {r} {a} {n} {b} {m} {at} {number} {u} {v} {c} {k} g i h w e z x f y d p l j =
+    let q = acting-promises .acted u x v y (loadOf u) d (record { image = i; loads = refl }) in
+    let o : Adds b m c k (lineOf number (getD s at 0) (stepOf (loadOf u) x .answer)) = rw (q .0) at p in
+    (rw (q .1 .loads) (going-step g h w e z x f (stepOf (loadOf u) x) refl o l j), q .1 .image)
 
 -- the last line
 pub going-last : {s : List ℕ} {r : Progress} {a : List ℕ} {n : ℕ} {b : List ℕ} {m : ℕ} {at number : ℕ} {t : Table} {c : List ℕ} {k : ℕ}

@@ -6,6 +6,9 @@ use crate::lines;
 use crate::steps;
 use executive::Table;
 use executive::configuration;
+use image::loading;
+use image::stepping;
+use image::storing;
 use records::TaskNo;
 ghost use mathlib.Core.Path.{_≡_};
 ghost use Prim.Native.Nat.{_≤_, _-_};
@@ -79,7 +82,8 @@ fn header(table: Table, active: TaskNo, out: &mut [u8]) -> usize
     lines::header_line(out, 0, rest.granule, rest.count, active)
 }
 
-// The lines of the steps from where a listing stands, into a buffer that is used up to a place.
+// The lines of the steps from where a listing stands, into a buffer that is used up to a place. The steps are taken on
+// the table's image, where nothing is copied from one to the next.
 fn go_on(input: &[u8], run: Progress, out: &mut [u8], from: usize) -> Filled
     requires { ⌜ from ≤ length (now out) ⌝ }
     ensures { λ r. ⌜ FillsFrom from (now (input .entry)) (withNext Step run) (now (out .entry)) (now (out .exit)) r ⌝ }
@@ -87,11 +91,12 @@ fn go_on(input: &[u8], run: Progress, out: &mut [u8], from: usize) -> Filled
     let mut used = from;
     let mut at = run.at;
     let mut number = run.number;
-    let mut table = run.table;
+    let mut image = storing::image_of(run.table);
     while 64 <= out.len() - used {
         let n = steps::whole_at(input, at);
         if n == 0 {
             used = steps::last_line(input, at, out, used);
+            let table = loading::load(&image);
             return Filled {
                 used,
                 more: false,
@@ -104,12 +109,12 @@ fn go_on(input: &[u8], run: Progress, out: &mut [u8], from: usize) -> Filled
             };
         }
         let end = at + n;
-        let outcome = table.step(&input[at..end]);
-        used = lines::step_line(out, used, number, input[at], outcome.answer);
+        let answer = stepping::act(&mut image, &input[at..end]);
+        used = lines::step_line(out, used, number, input[at], answer);
         number = number_after(number);
         at = end;
-        table = outcome.table;
     }
+    let table = loading::load(&image);
     Filled {
         used,
         more: true,

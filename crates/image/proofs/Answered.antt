@@ -19,6 +19,7 @@ use Rattle.why.specs.declared.Reasons.{Reasons}
 use Rattle.image.specs.Blocks.{written}
 use Rattle.image.specs.Image.{noRoom, imageLength, imageOf, loadOf, isImage, FitsTable}
 use Rattle.image.specs.EntryPoints.{checkNumber, CheckedImage, Holds, freshNumber, freshImage, answerLength, answerBytes, answerTo, imageAfter, stepNumber, stepImage, stepAnswer}
+use Rattle.image.specs.Acting.{Acts}
 use Rattle.image.specs.Reasons.{reasonsLength, reasonsBytes, reasonsTo, whyNumber, whyAnswer}
 use Rattle.image.proofs.Alike.{decide, never}
 use Rattle.image.proofs.Trips.{load-store, stored}
@@ -56,6 +57,17 @@ module _ (s : List ℕ) where
   unfolding checkNumber
   check-wrong h e = record { number = rw (h, e); right = (λ z. absurd (omega arith), λ w. absurd (never (sym e ∙ decided .iff (loadOf s) .1 (w .table)))) }
 
+-- ---- a step that hands its answer out as a value
+module _ (s k : List ℕ) where
+  pub act-none : isImage s ≡ false → Acts s k s noTable
+  unfolding imageAfter answerTo
+  act-none i = record { answer = rw i; image = rw i; holds = λ z. absurd (omega arith) }
+
+  pub act-said : {v : List ℕ} (a : Answer) → isImage s ≡ true → a ≡ stepOf (loadOf s) k .answer → v ≡ imageAfter s k
+      → (a .number ≡ 0 → Holds v (stepOf (loadOf s) k .table)) → Acts s k v a
+  unfolding answerTo
+  act-said a i ea ev h = record { answer = rw i ea; image = ev; holds = h }
+
 -- ---- a step
 module _ (s k o : List ℕ) where
   pub step-short : length o < answerLength → (noRoom ≡ stepNumber s k o) × ((s ≡ stepImage s k o) × (o ≡ stepAnswer s k o))
@@ -63,15 +75,12 @@ module _ (s k o : List ℕ) where
   step-short h = let e = lt-ltb (length o) answerLength h in (rw e, (rw e, rw e))
 
   module _ (h : answerLength ≤ length o) where
-    pub step-none : {u : List ℕ} → isImage s ≡ false → u ≡ written o 0 (answerBytes noTable)
-        → (1 ≡ stepNumber s k o) × ((s ≡ stepImage s k o) × (u ≡ stepAnswer s k o))
-    unfolding stepNumber stepImage stepAnswer imageAfter answerTo
-    step-none i eu = let e = le-ltb (length o) answerLength h in (rw (e, i), (rw (e, i), rw (e, i) eu))
-
-    pub step-said : {u v : List ℕ} (a : Answer) → isImage s ≡ true → a ≡ stepOf (loadOf s) k .answer → u ≡ written o 0 (answerBytes a) → v ≡ imageAfter s k
-        → (a .number ≡ stepNumber s k o) × ((v ≡ stepImage s k o) × (u ≡ stepAnswer s k o))
-    unfolding stepNumber stepImage stepAnswer answerTo
-    step-said a i ea eu ev = let e = le-ltb (length o) answerLength h in (rw (e, i, ← ea), (rw e ev, rw (e, i, ← ea) eu))
+    pub step-acted : {p u : List ℕ} {a : Answer} → Acts s k p a → u ≡ written o 0 (answerBytes a)
+        → (a .number ≡ stepNumber s k o) × ((p ≡ stepImage s k o) × (u ≡ stepAnswer s k o))
+    unfolding stepNumber stepImage stepAnswer
+    step-acted x eu =
+        let e = le-ltb (length o) answerLength h in
+        (rw e (ap (λ (y : Answer). y .number) (x .answer)), (rw e (x .image), rw (e, ← x .answer) eu))
 
 -- ---- a question why a task is not running
 module _ (s : List ℕ) (k : TaskNo) (o : List ℕ) where
@@ -89,7 +98,7 @@ pub not-made : (g o : List ℕ) → (freshNumber g o ≡ 0 → ⊥) → freshIma
 unfolding freshImage
 not-made g o h = rw (ne-eqb (freshNumber g o) 0 h)
 
-kept : (s k : List ℕ) → (answerTo s k .number ≡ 0 → ⊥) → imageAfter s k ≡ s
+pub kept : (s k : List ℕ) → (answerTo s k .number ≡ 0 → ⊥) → imageAfter s k ≡ s
 unfolding imageAfter
 kept s k h = rw (ne-eqb (answerTo s k .number) 0 h)
 

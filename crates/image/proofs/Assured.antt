@@ -4,10 +4,11 @@ use mathlib.Core.Path.{sym, _∙_}
 use Rattle.image.specs.Promises.{Promises}
 use Rattle.image.specs.Reasons.{WhyPromises}
 use Rattle.image.specs.Mending.{MendPromises}
+use Rattle.image.specs.Acting.{ActingPromises}
 use Rattle.image.proofs.Trips.{load-store, image-parts, stored, load-fits}
 use Rattle.image.proofs.Answered.{refused, short, not-made, why-short}
 use Rattle.image.proofs.Explained.{of-table, numbers-in}
-use Rattle.image.proofs.Histories.{fresh-kept, step-kept, active, overtaking}
+use Rattle.image.proofs.Histories.{fresh-kept, step-kept, active, acted, overtaking}
 use Rattle.image.proofs.Shown.{lamp}
 use Rattle.image.proofs.Listed as mending
 pub use Rattle.image.proofs.Spans.{and-then, written-whole, length-row, row-start, row-turn, row-end, length-blocks, block-at, block-turn, block-end}
@@ -57,4 +58,11 @@ mend-promises = record {
   listed-bytes = λ s o p q b c x. mending.listed-bytes s b o p q c x;
   rule-right = mending.rule-right;
   determined = λ s o _ _ _ _ x y p q. (p .image ∙ sym (q .image), p .list ∙ sym (q .list), p .number ∙ sym (q .number));
+}
+
+pub acting-promises : ActingPromises
+acting-promises = record {
+  acted = λ s k p a t x h. acted s k p a x t h;
+  act-determined = λ s k _ _ a b p q. (p .image ∙ sym (q .image), p .answer ∙ sym (q .answer));
+  image-determined = λ t _ _ p q. p .image ∙ sym (q .image);
 }

@@ -1,6 +1,7 @@
 -- Images of well-formed tables, fresh and through steps: what the demands say of the tables holds of the images.
 use Prim.Native.Nat.{ℕ, _≤_}
 use mathlib.Core.Path.{_≡_, refl, sym, ap, _∙_}
+use mathlib.Core.Bool.{true}
 use mathlib.Core.List.{List, [], _∷_}
 use native.Mathlib.Omega.{arith}
 use borrow.Author.Tests.{le-ltb, eqb-true, eqb-false}
@@ -9,16 +10,18 @@ use lib.ListN.{length, getD}
 use Rattle.records.specs.Numbers.{Bytes}
 use Rattle.executive.specs.declared.Table.{Table}
 use Rattle.executive.specs.declared.Fresh.{Fresh}
+use Rattle.executive.specs.declared.Answer.{Answer}
 use Rattle.executive.specs.WellFormed.{WellFormed}
 use Rattle.executive.specs.Step.{stepOf}
 use Rattle.executive.specs.Configuration.{isConfiguration, freshOf}
 use Rattle.executive.specs.Promises.Demands.{after, AllBytes, IsReady, Dispatched, NotYet}
 use Rattle.executive.proofs.Assured.{demands, fresh-law}
 use Rattle.image.specs.Blocks.{written}
-use Rattle.image.specs.Image.{imageLength, loadOf}
+use Rattle.image.specs.Image.{imageLength, loadOf, isImage}
 use Rattle.image.specs.EntryPoints.{WellFormedImage, Holds, freshNumber, MakesImage, answerLength, activeAt, answerTo, stepNumber, stepAnswer, StepsImage, Stepped, Runs, OvertakingImage}
+use Rattle.image.specs.Acting.{Acts}
 use Rattle.image.proofs.Alike.{decide}
-use Rattle.image.proofs.Answered.{refused}
+use Rattle.image.proofs.Answered.{refused, kept}
 
 -- the image of a well-formed table
 held : (s : List ℕ) (t : Table) → Holds s t → WellFormed t → WellFormedImage s
@@ -77,6 +80,24 @@ module _ (s k o p q : List ℕ) (n : ℕ) (b : Bytes k) (w : WellFormedImage s) 
     pub active : Dispatched (loadOf p) (getD q activeAt 0)
     unfolding after
     active = rw (goes-on, active-byte) (demands .dispatched (loadOf s) [] k (w .table) tt b)
+
+-- ---- a step whose answer is handed out as a value, at the image of any table: the answer is the table's own, and the image is
+-- then that of the table after it
+module _ (s k p : List ℕ) (a : Answer) (x : Acts s k p a) where
+  own-answer : isImage s ≡ true → a ≡ stepOf (loadOf s) k .answer
+  unfolding answerTo
+  own-answer i = x .answer ∙ rw i
+
+  stays : isImage s ≡ true → (a .number ≡ 0 → ⊥) → Holds p (stepOf (loadOf s) k .table)
+  stays i n =
+      let e : p ≡ s = x .image ∙ kept s k (λ z. n (ap (λ (y : Answer). y .number) (x .answer) ∙ z)) in
+      let r = demands .refusal-keeps (loadOf s) k (λ z. n (ap (λ (y : Answer). y .number) (own-answer i) ∙ z)) in
+      record { image = rw e i; loads = ap loadOf e ∙ sym r }
+
+  pub acted : (t : Table) → Holds s t → (a ≡ stepOf t k .answer) × Holds p (stepOf t k .table)
+  acted t h =
+      rw (← h .loads)
+      (own-answer (h .image), decide (eqb (a .number) 0) (λ e. x .holds (eqb-true (a .number) 0 e)) (λ e. stays (h .image) (eqb-false (a .number) 0 e)))
 
 -- ---- a history of images
 record Ran (s : List ℕ) (ks : List (List ℕ)) (p : List ℕ) : Type 0 where

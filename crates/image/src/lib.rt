@@ -35,7 +35,7 @@ mod sound_pool;
 mod sound_post;
 mod sound_queue;
 mod sound_subs;
-mod stepping;
+pub mod stepping;
 pub mod storing;
 mod timing;
 mod waking;
@@ -112,12 +112,7 @@ pub fn step(image: &mut [u8], call: &[u8], answer: &mut [u8]) -> u8
     if answer.len() < 25 {
         return NO_ROOM;
     }
-    if !checking::is_image(image) {
-        let none = executive::answers::no_table();
-        answers::put_answer(answer, none);
-        return 1;
-    }
-    let said = stepping::step(image, call);
+    let said = stepping::act(image, call);
     answers::put_answer(answer, said);
     said.number
 }

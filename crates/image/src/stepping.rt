@@ -1,5 +1,6 @@
 // A step on the lent bytes of an image: checked, decided and done in place. No table is loaded.
 use crate::QUEUE;
+use crate::checking;
 use crate::deciding;
 use crate::doing;
 use crate::fields;
@@ -17,6 +18,7 @@ ghost use Rattle.executive.specs.Step.{answerOf, refused, stepOf};
 ghost use Rattle.image.specs.Image.{imageLength, loadOf, isImage};
 ghost use Rattle.image.specs.EntryPoints.{imageAfter, Holds};
 ghost use Rattle.image.specs.Laid.{Laid};
+ghost use Rattle.image.specs.Acting.{Acts};
 
 // The active task; 0 when idle.
 fn active(b: &[u8]) -> TaskNo
@@ -66,7 +68,7 @@ fn refusal(b: &[u8], number: u8) -> Answer
 }
 
 // A step at an image: refused, no byte is written; accepted, the deed is done in place.
-pub(crate) fn step(b: &mut [u8], call: &[u8]) -> Answer
+fn step(b: &mut [u8], call: &[u8]) -> Answer
     requires { ⌜ isImage (now b) ≡ true ⌝ }
     ensures { λ r. ⌜ (r ≡ stepOf (loadOf (now (b .entry))) (now (call .entry)) .answer)
         × ((now (b .exit) ≡ imageAfter (now (b .entry)) (now (call .entry)))
@@ -84,4 +86,15 @@ pub(crate) fn step(b: &mut [u8], call: &[u8]) -> Answer
     let walked = doing::execute(b, deed);
     let m = d.marks;
     answer(b, 0, m, walked)
+}
+
+// A step, whatever the bytes are, and its answer. Accepted, the image is rewritten; refused, none of its bytes is
+// changed.
+pub fn act(image: &mut [u8], call: &[u8]) -> Answer
+    ensures { λ r. ⌜ Acts (now (image .entry)) (now (call .entry)) (now (image .exit)) r ⌝ }
+{
+    if !checking::is_image(image) {
+        return answers::no_table();
+    }
+    step(image, call)
 }

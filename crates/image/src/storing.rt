@@ -30,6 +30,7 @@ ghost use Rattle.image.specs.Blocks.{row, written};
 ghost use Rattle.image.specs.Image.{taskBytes, placeBytes, alarmBytes, requestBytes, awaitedBytes, subBytes, headAt, alarmsAt, poolAt, awaitedAt, subsAt, imageLength, imageOf, Stores};
 ghost use Rattle.image.specs.Image.{messageBytes, mailBytes, messagesAt, mailsAt, postBytes};
 ghost use Rattle.image.specs.Coding.{frontBytes, runBytes, headOf};
+ghost use Rattle.image.specs.Acting.{Images};
 
 // Writes two bytes from a place on.
 pub(crate) fn put_both(out: &mut [u8], at: usize, a: u8, b: u8)
@@ -282,4 +283,13 @@ pub fn store(table: Table, out: &mut [u8]) -> u8
     }
     put_table(out, table);
     0
+}
+
+// The image of a table.
+pub fn image_of(table: Table) -> [u8; IMAGE]
+    ensures { λ r. ⌜ Images table r ⌝ }
+{
+    let mut image = [0u8; IMAGE];
+    put_table(&mut image, table);
+    image
 }

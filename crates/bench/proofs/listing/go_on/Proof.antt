@@ -1,11 +1,15 @@
+-- `listing::go_on` meets its contract. On the way the image is that of the table where the listing stands.
 use borrow.Author.Needs.{needs}
 use mathlib.Core.Path.{_≡_, refl, sym, ap, _∙_}
+use mathlib.Core.Bool.{true}
 use native.Mathlib.Omega.{arith}
 use denote.Ref.{now}
 use Prim.Native.Nat.{ℕ, zero, suc, _<_, _-_}
 use native.Mathlib.Nat.{add-sub-cancel-left}
 use lib.ListN.{length, getD, take, drop}
-use Rattle.bench.proofs.Turns.{standing, Going, going-none, going-step, going-last, going-full, whole-in, line-some}
+use Rattle.image.specs.Image.{loadOf, isImage}
+use Rattle.image.proofs.Assured.{promises}
+use Rattle.bench.proofs.Turns.{standing, Going, going-none, going-act, going-last, going-full, whole-in, line-some}
 use Rattle.bench.proofs.listing.go_on.Statement.{statement}
 use Rattle.bench.proofs.listing.go_on.Tie as tie
 
@@ -15,32 +19,48 @@ some zero h = absurd (h refl)
 some (suc n) h = omega arith
 
 abbrev Inv-loop : tie.InvT-loop
-Inv-loop input out₀ from used₀ at₀ number₀ table₀ out used at number table = Going input (standing at₀ number₀ table₀) out₀ from out used (standing at number table)
+Inv-loop input out₀ from used₀ at₀ number₀ image₀ out used at number image =
+    Going input (standing at₀ number₀ (loadOf image₀)) out₀ from out used (standing at number (loadOf image)) × (isImage image ≡ true)
 
 abbrev μ-loop : tie.MeasureT-loop
-μ-loop input out₀ from used₀ at₀ number₀ table₀ out used at number table = length out₀ - used
+μ-loop input out₀ from used₀ at₀ number₀ image₀ out used at number image = length out₀ - used
 
 loop-holds : tie.Need-loop-holds Inv-loop μ-loop
-loop-holds c = going-none (now (c .before .before .before .args .input)) _ (now (c .before .before .before .args .out)) (c .before .before .before .args .from) (c .before .before .before .pre)
+loop-holds c =
+    let start = c .before .before .before in
+    (going-none (now (start .args .input)) _ (now (start .args .out)) (start .args .from) (start .pre), c .image-of .ensures .holds .image)
 
 sub-loop : tie.Need-sub-loop Inv-loop μ-loop
-sub-loop c = omega (arith, c .loop .inv .place, c .loop .inv .adds .size)
+sub-loop c = omega (arith, c .loop .inv .0 .place, c .loop .inv .0 .adds .size)
 
 last-line-requires : tie.Need-last-line-requires Inv-loop μ-loop
 last-line-requires c κs = omega (arith, c .before .before .before .loop-test .taken)
 
+-- an image has its length
+slice-aggregate-load : tie.Need-slice-aggregate-load Inv-loop μ-loop
+slice-aggregate-load c = sym (promises .sized _ (c .before .before .before .before .before .before .before .before .loop .inv .1))
+
+slice-aggregate-act : tie.Need-slice-aggregate-act Inv-loop μ-loop
+slice-aggregate-act c = sym (promises .sized _ (c .before .before .before .before .loop .inv .1))
+
+slice-aggregate-load-2 : tie.Need-slice-aggregate-load-2 Inv-loop μ-loop
+slice-aggregate-load-2 c = sym (promises .sized _ (c .before .before .loop .inv .1))
+
 same-length : tie.Need-same-length Inv-loop μ-loop
 same-length c =
-    let at-loop = c .before .before .before .before .before .before .before in
-    c .before .before .last-line .ensures .size ∙ at-loop .loop .inv .adds .size
+    let at-last-line = c .before .before .before .before in
+    let at-loop = at-last-line .before .before .before .before .before in
+    at-last-line .last-line .ensures .size ∙ at-loop .loop .inv .0 .adds .size
 
 returns : tie.Need-returns Inv-loop μ-loop
 returns c =
-    let after-whole-at = c .before .before .before .before in
+    let at-last-line = c .before .before .before .before in
+    let after-whole-at = at-last-line .before .before in
     let at-loop-test = after-whole-at .before .before in
     let at-loop = at-loop-test .before in
     let l = at-loop .loop in
-    going-last (l .inv) (omega (arith, at-loop-test .loop-test .taken, l .inv .adds .size)) (sym (after-whole-at .if1 .taken) ∙ after-whole-at .before .whole-at .ensures) (c .before .before .last-line .ensures)
+    rw (c .load .ensures, ← at-loop .before .image-of .ensures .holds .loads)
+    (going-last (l .inv .0) (omega (arith, at-loop-test .loop-test .taken, l .inv .0 .adds .size)) (sym (after-whole-at .if1 .taken) ∙ after-whole-at .before .whole-at .ensures) (at-last-line .last-line .ensures))
 
 add-end : tie.Need-add-end Inv-loop μ-loop
 add-end c =
@@ -49,21 +69,22 @@ add-end c =
     let start = at-shared-slice-known .before in
     omega (arith, whole-in (now (start .args .input)) (at-loop .loop .at) (c .before .whole-at .result) (c .before .whole-at .ensures) (c .if1 .left), at-shared-slice-known .shared-slice-known .given 0)
 
-sub-step : tie.Need-sub-step Inv-loop μ-loop
-sub-step c = omega arith
+sub-act : tie.Need-sub-act Inv-loop μ-loop
+sub-act c = omega arith
 
-part-step-start : tie.Need-part-step-start Inv-loop μ-loop
-part-step-start c = omega arith
+part-act-start : tie.Need-part-act-start Inv-loop μ-loop
+part-act-start c = omega arith
 
-part-step-end : tie.Need-part-step-end Inv-loop μ-loop
-part-step-end c =
-    let at-loop = c .before .before .before in
+part-act-end : tie.Need-part-act-end Inv-loop μ-loop
+part-act-end c =
+    let after-whole-at = c .before in
+    let at-loop = after-whole-at .before .before .before in
     let start = at-loop .before .before .before .before in
-    whole-in (now (start .args .input)) (at-loop .loop .at) (c .before .whole-at .result) (c .before .whole-at .ensures) (c .if1 .left)
+    whole-in (now (start .args .input)) (at-loop .loop .at) (after-whole-at .before .whole-at .result) (after-whole-at .before .whole-at .ensures) (after-whole-at .if1 .left)
 
 shared-slice-read-step-line : tie.Need-shared-slice-read-step-line Inv-loop μ-loop
 shared-slice-read-step-line c =
-    let after-whole-at = c .before .before .before .before in
+    let after-whole-at = c .before .before .before .before .before .before in
     let at-loop = after-whole-at .before .before .before in
     let start = at-loop .before .before .before .before in
     let w = after-whole-at .before .whole-at in
@@ -72,39 +93,40 @@ shared-slice-read-step-line c =
 
 step-line-requires : tie.Need-step-line-requires Inv-loop μ-loop
 step-line-requires c κs =
-    let at-loop-test = c .before .before .before .before .before .before in
+    let at-loop-test = c .before .before .before .before .before .before .before .before in
     omega (arith, at-loop-test .loop-test .taken)
 
 loop-less : tie.Need-loop-less Inv-loop μ-loop
 loop-less c =
-    let at-step-line = c .before .before .before .before in
-    let at-step = at-step-line .before .before .before in
-    let at-loop-test = at-step .before .before .before .before in
+    let at-step-line = c .before .before .before in
+    let at-act = at-step-line .before .before .before .before in
+    let at-loop-test = at-act .before .before .before .before .before in
     let at-loop = at-loop-test .before in
     let start = at-loop .before .before .before .before in
-    omega (arith, at-step-line .step-line .ensures .place, line-some (at-loop .loop .number) (getD (now (start .args .input)) (at-loop .loop .at) 0) (at-step .step .result .answer), at-loop .loop .inv .place, at-loop-test .loop-test .taken, at-loop .loop .inv .adds .size)
+    omega (arith, at-step-line .step-line .ensures .place, line-some (at-loop .loop .number) (getD (now (start .args .input)) (at-loop .loop .at) 0) (at-act .act .result), at-loop .loop .inv .0 .place, at-loop-test .loop-test .taken, at-loop .loop .inv .0 .adds .size)
 
 loop-again : tie.Need-loop-again Inv-loop μ-loop
 loop-again c =
-    let at-step-line = c .before .before .before .before in
-    let at-step = at-step-line .before .before .before in
-    let after-whole-at = at-step .before .before in
+    let at-step-line = c .before .before .before in
+    let at-act = at-step-line .before .before .before .before in
+    let after-whole-at = at-act .before .before .before in
     let at-loop-test = after-whole-at .before .before in
     let at-loop = at-loop-test .before in
     let start = at-loop .before .before .before .before in
     let l = at-loop .loop in
     let w = after-whole-at .before .whole-at in
-    going-step (l .inv) (omega (arith, at-loop-test .loop-test .taken, l .inv .adds .size)) (w .result) (w .ensures) (after-whole-at .if1 .left)
+    going-act (l .inv .0) (l .inv .1) (omega (arith, at-loop-test .loop-test .taken, l .inv .0 .adds .size)) (w .result) (w .ensures) (after-whole-at .if1 .left)
     _ (ap (λ n. take n (drop (l .at) (now (start .args .input)))) (add-sub-cancel-left (l .at) (w .result)))
-    (at-step .step .result) (at-step .step .ensures) (at-step-line .step-line .ensures) _ (c .before .number-after .ensures)
+    (at-act .act .result) (at-act .act .ensures) (at-step-line .step-line .ensures) _ (c .number-after .ensures)
 
 same-length-2 : tie.Need-same-length-2 Inv-loop μ-loop
-same-length-2 c = c .before .loop .inv .adds .size
+same-length-2 c = c .before .before .before .loop .inv .0 .adds .size
 
 returns-2 : tie.Need-returns-2 Inv-loop μ-loop
 returns-2 c =
-    let l = c .before .loop in
-    going-full (l .inv) (omega (arith, c .loop-test .left))
+    let at-loop = c .before .before .before in
+    rw (c .load2 .ensures, ← at-loop .before .image-of .ensures .holds .loads)
+    (going-full (at-loop .loop .inv .0) (omega (arith, c .before .before .loop-test .left)))
 
 pub go-on-spec : {M : Type 1} → statement M
 go-on-spec =
@@ -112,21 +134,27 @@ go-on-spec =
     (tie.spec
     Inv-loop
     μ-loop
+    (λ c κs. search needs)
     loop-holds
     sub-loop
     (λ c κs. search needs)
     last-line-requires
+    slice-aggregate-load
+    (λ c κs. search needs)
     same-length
     returns
     add-end
-    sub-step
-    part-step-start
-    part-step-end
+    slice-aggregate-act
+    sub-act
+    part-act-start
+    part-act-end
     (λ c κs. search needs)
     shared-slice-read-step-line
     step-line-requires
     (λ c κs. search needs)
     loop-less
     loop-again
+    slice-aggregate-load-2
+    (λ c κs. search needs)
     same-length-2
     returns-2)
