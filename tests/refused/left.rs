@@ -173,7 +173,7 @@ fn write_left(file: &File, going: &[&Function]) {
 }
 
 // Takes the proof of a function away. That of a method stands in its type's room, which is in that of the module where
-// the type is declared.
+// the type is declared; functions that call each other have one proof, in a folder with all their names, as +even+odd.
 fn without_proof(folder: &Path, f: &Function) {
     let module = if f.module == "lib" { "" } else { &f.module };
     let rooms = match f.owner.as_deref() {
@@ -181,9 +181,13 @@ fn without_proof(folder: &Path, f: &Function) {
         None => vec![module.to_string()],
     };
     for room in rooms {
-        let proof = folder.join("proofs").join(room.trim_start_matches('/')).join(&f.name).join("Proof.antt");
-        if proof.exists() {
-            fs::remove_file(&proof).unwrap_or_else(|e| fail(&format!("{} cannot be removed: {e}", proof.display())));
+        let room = folder.join("proofs").join(room.trim_start_matches('/'));
+        for proof in files_below(&room).iter().filter(|path| path.ends_with("Proof.antt")) {
+            let of = proof.parent().filter(|p| p.parent() == Some(&room)).and_then(Path::file_name);
+            let of = of.map(|name| name.to_string_lossy().into_owned()).unwrap_or_default();
+            if of == f.name || of.starts_with('+') && of.split('+').any(|name| name == f.name) {
+                fs::remove_file(proof).unwrap_or_else(|e| fail(&format!("{} stays: {e}", proof.display())));
+            }
         }
     }
 }
