@@ -84,6 +84,7 @@ pub use Rattle.executive.proofs.check.Subprograms.{placeless, heldFrom,
 pub use Rattle.executive.proofs.check.Levels.{levels-get}
 pub use Rattle.executive.proofs.check.RuleByRule.{Bounds, bounds-get, awaits-make, timely-get, timely-make, alarm-get, alarm-make, unmet-get, unmet-make}
 pub use Rattle.executive.proofs.Plans.WorkingForm.{StateOk, EntryOk, LinksOk, RestOk, SubOk, SubsOk, EntriesOk, WellFormedByPart, well-formed, line-waiting}
+pub use Rattle.executive.proofs.decisions.OfBytes.{in-empty, in-no-call, in-read, in-refused}
 -- the type of a step in flight
 pub use Rattle.executive.specs.declared.Work.{Work}
 

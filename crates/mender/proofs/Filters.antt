@@ -6,11 +6,11 @@ use mathlib.Core.Bool.{Bool, true, false, cond}
 use mathlib.Core.List.{List, [], _∷_, _++_, append-nil}
 use native.Mathlib.Omega.{arith}
 use native.Mathlib.Numerals.{add-one}
-use lib.ListN.{length, take, drop, set, getD}
+use lib.ListN.{length, take, set, getD}
 use lib.Seq.{take-suc, take-all}
 use Rattle.executive.specs.Lists.{allOf, pad}
 use Rattle.executive.specs.Letters.{allThat}
-use Rattle.executive.proofs.Assured.{pad-more}
+use Rattle.executive.proofs.Assured.{pad-more, take-le}
 
 module _ {A : Type 0} (f : A → Bool) where
   pub that-length : (xs : List A) → length (allThat f xs) ≤ length xs
@@ -77,11 +77,6 @@ module _ {A : Type 0} (f : A → Bool) where
 
     pub passed-few : (i : ℕ) → i ≤ n → length (passed i) ≤ i
     passed-few i h = let z = that-length (take i p) in let y = take-le i p in omega arith
-      where
-        take-le : (m : ℕ) (xs : List A) → length (take m xs) ≤ m
-        take-le zero xs = omega arith
-        take-le (suc m) [] = omega arith
-        take-le (suc m) (x ∷ xs) = omega (arith, take-le m xs)
 
     step : (i : ℕ) → i < n → passed (i + 1) ≡ passed i ++ allThat f (getD p i d ∷ [])
     step i h = rw (add-one, take-suc p i d (omega arith)) (that-append (take i p) (getD p i d ∷ []))

@@ -18,7 +18,7 @@ use Rattle.executive.specs.Lists.{one, pad, sumOf}
 use Rattle.executive.specs.Places.{nobody, taskAt}
 use Rattle.executive.specs.Messages.{mailAt}
 use Rattle.executive.specs.Check.{isWellFormed}
-use Rattle.executive.proofs.Assured.{eqb-self, not-zero, sum-snoc, line-pad}
+use Rattle.executive.proofs.Assured.{eqb-self, not-zero, sum-snoc, line-pad, pad-at}
 use Rattle.mender.specs.declared.Note.{Note}
 use Rattle.mender.specs.declared.Mended.{Mended}
 use Rattle.mender.specs.Rules.{ownRules, ownRuleAt, Whole}
@@ -59,14 +59,6 @@ ascends-snoc : (m : ℕ) (ys : List Note) (i : ℕ) (y : Note) → Ascends m ys 
     → Ascends m (ys ++ (y ∷ []))
 ascends-snoc m [] i y a b l p q = (omega arith, q, tt)
 ascends-snoc m (z ∷ ys) i y a b l p q = (a .0, a .1, ascends-snoc (z .task .0) ys i y (a .2) (b .1) (b .0) p q)
-
-pad-at : {A : Type 0} (d : A) (n : ℕ) (xs : List A) (i : ℕ) → getD (pad n d xs) i d ≡ getD xs i d
-unfolding pad
-pad-at d zero xs i = refl
-pad-at d (suc n) [] zero = refl
-pad-at d (suc n) [] (suc i) = pad-at d n [] i
-pad-at d (suc n) (x ∷ xs) zero = refl
-pad-at d (suc n) (x ∷ xs) (suc i) = pad-at d n xs i
 
 -- ---- the notes of the first i places
 module _ (P : Note → Type 0) (rule : ℕ → ℕ) (i : ℕ) (ns : List Note) where

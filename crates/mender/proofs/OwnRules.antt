@@ -2,11 +2,11 @@
 -- broken first, in the table's terms.
 use Prim.Native.Nat.{ℕ, zero, suc, _-_, _≤_, _<_}
 use mathlib.Core.Path.{_≡_, refl, sym, ap, _∙_}
-use mathlib.Core.Bool.{Bool, true, false, not, cond}
+use mathlib.Core.Bool.{Bool, true, false, cond}
 use mathlib.Core.Logic.{_≢_, inl, inr}
 use mathlib.Core.List.{List}
 use native.Mathlib.Omega.{arith}
-use borrow.Author.Tests.{eqb-true, leb-true, leb-false, le-leb, lt-leb, ltb-true, ltb-false, lt-ltb}
+use borrow.Author.Tests.{eqb-true, leb-true, leb-false, le-leb, lt-leb, ltb-true, ltb-false}
 use lib.Dec.{eqb, leb, ltb}
 use lib.ListN.{getD}
 use Rattle.executive.specs.declared.State.{State}
@@ -16,51 +16,22 @@ use Rattle.executive.specs.declared.Message.{Message}
 use Rattle.executive.specs.declared.Mail.{Mail}
 use Rattle.executive.specs.declared.Rest.{Rest}
 use Rattle.executive.specs.declared.Table.{Table}
-use Rattle.executive.specs.Numbers.{mostTasks, highest, lastSub, longest}
+use Rattle.executive.specs.Numbers.{mostTasks, highest, lastSub}
 use Rattle.executive.specs.Lists.{one, _and_, allOf}
 use Rattle.executive.specs.Places.{noTask, taskAt}
-use Rattle.executive.specs.States.{awaitSub, awaitMessage, stateKind, awaitedOf, timeOf, maskOf, isOf, is, isDormant, hasTime, hasMask, waitMode}
+use Rattle.executive.specs.States.{awaitSub, awaitMessage, stateKind, awaitedOf, isOf, is, isDormant}
 use Rattle.executive.specs.Flags.{met}
 use Rattle.executive.specs.Entries.{withState}
 use Rattle.executive.specs.Messages.{noMail, fits, mailAt}
-use Rattle.executive.specs.WellFormed.{Stored, Timely, Unmet, fitting}
-use Rattle.executive.specs.Check.{awaitsInRange, numbersInRange, mailInRange, isZero, isBlank, isNoMail, isStored, isTimely, isUnmet, taskTimely, isStarted, taskUnmet}
-use Rattle.executive.proofs.Assured.{false-not-true, and-true, true-and, not-of, of-not, none-one, one-none, sum-none, none-all, dormant-is, dormant-named, dormant-kind, zero-is, is-zero, blank-is, no-mail-is}
+use Rattle.executive.specs.WellFormed.{fitting}
+use Rattle.executive.specs.Check.{awaitsInRange, numbersInRange, mailInRange, isZero, isBlank, isNoMail, taskTimely, isStarted, taskUnmet}
+use Rattle.executive.proofs.Assured.{false-not-true, and-true, true-and, none-one, one-none, sum-none, none-all, dormant-is, dormant-named, dormant-kind, zero-is, is-zero, blank-is, no-mail-is, timely-get, timely-make, unmet-get, unmet-make, awaits-make}
 use Rattle.mender.specs.Rules.{rangeRule, timeRule, startRule, maskRule, dormantRule, messageRule, numbersKept, zerosKept, unfit, noneFits, firstBroken, pastBroken, ownRule, ownRuleAt, ownRules, Breaks, Whole}
 use Rattle.mender.specs.Passes.{slept, unlinked, entryAfter, mailAfter, ownPass}
 use Rattle.mender.proofs.Rows.{row-length, row-at, row-past}
 use Rattle.mender.proofs.Passed.{OwnRight, Owned}
 
--- ---- the tests of times, masks and messages are their rules
-timely-get : (c : ℕ) (s : State) → isTimely c s ≡ true → Timely c s
-timely-get c s e h =
-    let a = and-true (ltb c (timeOf s .0)) _ (rw h at e) in
-    let l : c < timeOf s .0 = ltb-true _ _ (a .0) in
-    let m : timeOf s .0 - c ≤ longest = leb-true _ _ (a .1) in
-    (l, omega arith)
-
-timely-make : (c : ℕ) (s : State) → Timely c s → isTimely c s ≡ true
-timely-make c s h = go (hasTime s) h
-  where
-    go : (b : Bool) → (b ≡ true → Stored c (timeOf s .0)) → cond b (isStored c (timeOf s .0)) true ≡ true
-    go true g =
-        let l : Stored c (timeOf s .0) = g refl in
-        true-and (ltb c (timeOf s .0)) _ (lt-ltb _ _ (l .0)) (le-leb (timeOf s .0 - c) longest (omega (arith, l .0, l .1)))
-    go false g = refl
-
-unmet-get : (fs : ℕ) (s : State) → isUnmet fs s ≡ true → Unmet fs s
-unmet-get fs s e h =
-    let a = and-true (ltb 0 (maskOf s)) (not (met fs (waitMode s) (maskOf s))) (rw h at e) in
-    (ltb-true _ _ (a .0), not-of (met fs (waitMode s) (maskOf s)) (a .1))
-
-unmet-make : (fs : ℕ) (s : State) → Unmet fs s → isUnmet fs s ≡ true
-unmet-make fs s h = go (hasMask s) h
-  where
-    go : (b : Bool) → (b ≡ true → (0 < maskOf s) × (met fs (waitMode s) (maskOf s) ≡ false))
-        → cond b (ltb 0 (maskOf s) and not (met fs (waitMode s) (maskOf s))) true ≡ true
-    go true g = let u = g refl in true-and (ltb 0 (maskOf s)) _ (lt-ltb 0 (maskOf s) (u .0)) (of-not (met fs (waitMode s) (maskOf s)) (u .1))
-    go false g = refl
-
+-- ---- the test of messages is its rule
 fits-get : (k : ℕ) (ms : List Message) (s : State) → noneFits k ms s ≡ true → isOf awaitMessage s ≡ true → fitting k (awaitedOf s) ms ≡ 0
 fits-get k ms s e h =
     sum-none (unfit k (awaitedOf s)) (λ (m : Message). one (fits k (awaitedOf s) m)) (λ m. none-one (fits k (awaitedOf s) m)) ms (rw h at e)
@@ -108,15 +79,6 @@ module _ (r : Rest) (k : ℕ) (e : Task) (x : Mail) where
       go : (c : Bool) → isOf awaitSub s ≡ c → isOf awaitMessage s ≡ true → cond c (leb (awaitedOf s) lastSub) (leb (awaitedOf s) n) ≡ true → awaitedOf s ≤ n
       go true f g z = absurd (omega (arith, eqb-true awaitSub (stateKind s) f, eqb-true awaitMessage (stateKind s) g))
       go false f g z = leb-true _ _ z
-
-  awaits-make : (isOf awaitSub s ≡ true → awaitedOf s ≤ lastSub) → (isOf awaitMessage s ≡ true → awaitedOf s ≤ n) → awaitsInRange n s ≡ true
-  awaits-make h g = go (isOf awaitSub s) (isOf awaitMessage s) h g
-    where
-      go : (b c : Bool) → (b ≡ true → awaitedOf s ≤ lastSub) → (c ≡ true → awaitedOf s ≤ n)
-          → cond b (leb (awaitedOf s) lastSub) (cond c (leb (awaitedOf s) n) true) ≡ true
-      go true c f g = le-leb _ _ (f refl)
-      go false true f g = le-leb _ _ (g refl)
-      go false false f g = refl
 
   -- the numbers: the own and the current priority, what is awaited, the mail's sender
   numbers-get : numbersKept n e x ≡ true → (e .own ≤ highest) × (e .priority ≤ highest) × (awaitsInRange n s ≡ true) × (x .sender .0 ≤ n)
@@ -167,7 +129,7 @@ module _ (r : Rest) (k : ℕ) (e : Task) (x : Mail) where
   make-among h o =
       rw (
         true-and (numbersInRange n e) (mailInRange n x) (true-and (leb (e .own) highest) _ (le-leb _ _ (o .entry .home))
-            (true-and (leb (e .priority) highest) _ (le-leb _ _ (o .entry .level)) (awaits-make (o .inside) (o .senders)))) (le-leb _ _ (o .mail)),
+            (true-and (leb (e .priority) highest) _ (le-leb _ _ (o .entry .level)) (awaits-make n s (o .inside) (o .senders)))) (le-leb _ _ (o .mail)),
         timely-make (r .clock .0) s (o .entry .calm .0),
         le-leb (e .start .0) (r .clock .0) (o .entry .started),
         unmet-make (r .flags) s (o .entry .calm .1),

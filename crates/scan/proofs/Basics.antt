@@ -1,13 +1,12 @@
 -- Small laws of tests, sums and lists, below all else.
-use Prim.Native.Nat.{ℕ, zero, suc, _+_, _≤_, _<_, zero-le}
-use mathlib.Core.Path.{_≡_, refl, sym, ap, _∙_}
+use Prim.Native.Nat.{ℕ, zero, suc, _≤_, _<_, zero-le}
+use mathlib.Core.Path.{_≡_, refl, sym, ap}
 use mathlib.Core.Bool.{Bool, true, false, cond}
 use mathlib.Core.List.{List, [], _∷_, map}
 use native.Mathlib.Omega.{arith}
-use borrow.Author.Tests.{eq-eqb, eqb-true}
-use lib.Dec.{eqb}
-use lib.ListN.{length, getD, set, take}
-use Rattle.executive.specs.Lists.{one, sumOf, pad, _and_, allOf}
+use lib.ListN.{length, getD, set}
+use Rattle.executive.specs.Lists.{one, sumOf, _and_, allOf}
+pub use Rattle.executive.proofs.Assured.{eqb-self, eqb-swap, and-true, true-and, sum-set, line-pad, length-pad}
 
 pub never : {A : Type 0} → false ≡ true → A
 never e = absurd (let z : _≡_ {A = ℕ} 0 1 = cc in omega arith)
@@ -15,19 +14,6 @@ never e = absurd (let z : _≡_ {A = ℕ} 0 1 = cc in omega arith)
 pub decide : {A : Type 0} (b : Bool) → (b ≡ true → A) → (b ≡ false → A) → A
 decide true f g = f refl
 decide false f g = g refl
-
-pub eqb-self : (k : ℕ) → eqb k k ≡ true
-eqb-self k = eq-eqb k k refl
-
-pub eqb-swap : (i j : ℕ) → eqb i j ≡ false → eqb j i ≡ false
-eqb-swap i j e = decide (eqb j i) (λ t. never (sym e ∙ eq-eqb i j (sym (eqb-true j i t)))) (λ f. f)
-
-pub and-true : (a b : Bool) → (a and b) ≡ true → (a ≡ true) × (b ≡ true)
-and-true true b e = (refl, e)
-and-true false b e = never e
-
-pub true-and : (a b : Bool) → a ≡ true → b ≡ true → (a and b) ≡ true
-true-and a b p q = rw (p, q) refl
 
 pub and-none : (a b : Bool) → b ≡ false → false ≡ (a and b)
 and-none true b e = sym e
@@ -47,12 +33,6 @@ one-false false h = refl
 
 -- ---- sums
 module _ {A : Type 0} (f : A → ℕ) where
-  pub sum-set : (l : List A) (i : ℕ) (v d : A) → i < length l → sumOf f (set l i v) + f (getD l i d) ≡ sumOf f l + f v
-  unfolding sumOf
-  sum-set [] i v d h = omega arith
-  sum-set (x ∷ xs) zero v d h = omega arith
-  sum-set (x ∷ xs) (suc i) v d h = omega (arith, sum-set xs i v d (omega arith))
-
   pub sum-at : (l : List A) (i : ℕ) (d : A) → i < length l → f (getD l i d) ≤ sumOf f l
   unfolding sumOf
   sum-at [] i d h = absurd (omega arith)
@@ -87,22 +67,6 @@ module _ {A : Type 0} (f g : A → ℕ) (h : (x : A) → f x ≤ g x) where
   sum-lt [] i d k e = absurd (omega arith)
   sum-lt (x ∷ xs) zero d k e = omega (arith, sum-le xs)
   sum-lt (x ∷ xs) (suc i) d k e = omega (arith, h x, sum-lt xs i d (omega arith) e)
-
--- ---- a line at the front of an array
-module _ {A : Type 0} (d : A) where
-  pub line-pad : (n : ℕ) (xs : List A) → take (length xs) (pad n d xs) ≡ xs
-  unfolding pad
-  line-pad zero [] = refl
-  line-pad zero (x ∷ xs) = ap (λ (l : List A). x ∷ l) (line-pad zero xs)
-  line-pad (suc n) [] = refl
-  line-pad (suc n) (x ∷ xs) = ap (λ (l : List A). x ∷ l) (line-pad n xs)
-
-  pub length-pad : (n : ℕ) (xs : List A) → length xs ≤ n → length (pad n d xs) ≡ n
-  unfolding pad
-  length-pad zero [] h = refl
-  length-pad zero (x ∷ xs) h = absurd (omega arith)
-  length-pad (suc n) [] h = ap suc (length-pad n [] (omega arith))
-  length-pad (suc n) (x ∷ xs) h = ap suc (length-pad n xs (omega arith))
 
 -- ---- a reading of each element
 module _ {A B : Type 0} (f : A → B) where

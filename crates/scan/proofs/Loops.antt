@@ -1,15 +1,16 @@
 -- The loops over the entries: one turn, and the end.
 use Prim.Native.Nat.{ℕ, zero, suc, _+_, _≤_, _<_}
-use mathlib.Core.Path.{_≡_, refl, sym, ap, _∙_}
+use mathlib.Core.Path.{_≡_, refl, ap, _∙_}
 use mathlib.Core.Bool.{Bool, true, false, cond}
-use mathlib.Core.List.{List, [], _∷_, _++_, map, append-nil}
+use mathlib.Core.List.{List, [], _∷_, _++_, map}
 use native.Mathlib.Omega.{arith}
 use native.Mathlib.Numerals.{add-one}
 use lib.ListN.{length, getD, set, take, drop, drop-of-length-le}
 use lib.Seq.{drop-cons}
 use Rattle.executive.specs.declared.Task.{Task}
-use Rattle.executive.specs.Lists.{one, sumOf, allOf}
+use Rattle.executive.specs.Lists.{one, sumOf}
 use Rattle.executive.specs.Places.{noTask}
+pub use Rattle.executive.proofs.Assured.{every-turn, every-not, every-end}
 use Rattle.executive.specs.States.{ready, isOf}
 use Rattle.scan.specs.declared.Entry.{Entry}
 use Rattle.scan.specs.declared.Best.{Best}
@@ -43,20 +44,6 @@ module _ {A : Type 0} (f : A → ℕ) (d : A) (xs : List A) (i : ℕ) where
   pub sum-end : length xs ≤ i → sumOf f (drop i xs) ≡ 0
   unfolding sumOf
   sum-end h = rw (ended d xs i h) refl
-
--- ---- a test of each
-module _ {A : Type 0} (f : A → Bool) (d : A) (xs : List A) (i : ℕ) where
-  pub every-turn : i < length xs → f (getD xs i d) ≡ true → allOf f (drop (i + 1) xs) ≡ allOf f (drop i xs)
-  unfolding allOf
-  every-turn h e = rw (opened d xs i h, e) refl
-
-  pub every-not : i < length xs → f (getD xs i d) ≡ false → allOf f (drop i xs) ≡ false
-  unfolding allOf
-  every-not h e = rw (opened d xs i h, e) refl
-
-  pub every-end : length xs ≤ i → allOf f (drop i xs) ≡ true
-  unfolding allOf
-  every-end h = rw (ended d xs i h) refl
 
 -- ---- an array that is filled from the front
 pub take-more : {A : Type 0} (out : List A) (i : ℕ) (x : A) (r : List A) → i < length out → take (i + 1) (set out i x) ++ r ≡ take i out ++ (x ∷ r)

@@ -1,6 +1,6 @@
 use native.Mathlib.Omega.{arith}
 use mathlib.Core.Path.{_≡_, refl, sym, ap, _∙_}
-use Rattle.executive.proofs.decisions.OfBytes.{in-empty, in-no-call, in-read, in-refused}
+use Rattle.executive.proofs.Assured.{in-empty, in-no-call, in-read, in-refused}
 use borrow.Author.Needs.{needs}
 use Rattle.image.proofs.deciding.decide.Statement.{statement}
 use Rattle.image.proofs.deciding.decide.Tie as tie
