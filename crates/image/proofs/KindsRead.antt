@@ -16,7 +16,7 @@ use Rattle.executive.specs.Places.{taskAt, entryPlace}
 use Rattle.executive.specs.States.{stateKind, stateOf, isOf, isDormant, takes, takesFrom}
 use Rattle.executive.specs.Check.{awaitsAny}
 use Rattle.executive.proofs.Assured.{at-next, at-no-place}
-use Rattle.image.specs.Image.{taskFrom, noKind, stateIn}
+use Rattle.image.specs.Image.{taskFrom, stateIn}
 use Rattle.image.specs.Sound.{tasksIn}
 use Rattle.image.proofs.Alike.{decide}
 use Rattle.image.proofs.Loaded.{tasks-size, task-there, entry-there, kind-some, no-kind}
@@ -24,7 +24,7 @@ use Rattle.image.proofs.Loaded.{tasks-size, task-there, entry-there, ki
 -- ---- the state of a kind, a time, a mask and a number
 module _ (t : Millis) (m a : ℕ) where
   -- of any kind but that of a byte that is none
-  is-kind : (n k : ℕ) → n ≤ 9 → (n ≡ 8 → ⊥) → isOf n (stateIn k t m a) ≡ eqb n k
+  pub is-kind : (n k : ℕ) → n ≤ 9 → (n ≡ 8 → ⊥) → isOf n (stateIn k t m a) ≡ eqb n k
   is-kind n k h d =
       decide (leb k 9)
       (λ e. ap (eqb n) (kind-some k t m a (leb-true k 9 e)))

@@ -34,6 +34,7 @@ pub mod Rows
 pub mod Noughts
 pub mod Named
 pub mod KindsRead
+pub mod EntriesRead
 pub mod LinesRead
 pub mod PostRead
 pub mod Noted

@@ -1,6 +1,6 @@
 -- What is read at a place of any bytes is what the table has that they load to; and the loops of the check, which hold
 -- each element of a loaded list to a test as it is read.
-use Prim.Native.Nat.{ℕ, zero, suc, _+_, _*_, _≤_, _<_}
+use Prim.Native.Nat.{ℕ, zero, suc, _+_, _*_, _≤_, _<_, zero-le}
 use mathlib.Core.Path.{_≡_, refl, sym, ap, _∙_}
 use mathlib.Core.Bool.{Bool, true, false, _&&_}
 use mathlib.Core.List.{List}
@@ -14,13 +14,12 @@ use Rattle.executive.specs.declared.Millis.{Millis}
 use Rattle.executive.specs.declared.State.{State}
 use Rattle.executive.specs.declared.Task.{Task}
 use Rattle.executive.specs.declared.Sub.{Sub}
-use Rattle.executive.specs.Lists.{_and_, allOf}
+use Rattle.executive.specs.Lists.{allOf}
 use Rattle.executive.specs.Places.{nobody, never, noTask, noRequest, taskAt, entryPlace}
-use Rattle.executive.specs.States.{stateKind, awaitedOf, stateOf, isAs, isDormant}
+use Rattle.executive.specs.States.{stateKind, awaitedOf, stateOf, isAs}
 use Rattle.executive.specs.Subprograms.{noSub}
 use Rattle.executive.specs.Messages.{noMessage, noMail}
-use Rattle.executive.specs.Check.{isBlank}
-use Rattle.executive.proofs.Assured.{every-turn, every-not, every-end, first-turn, first-not, first-end, at-place, and-false-left, and-true-left}
+use Rattle.executive.proofs.Assured.{every-turn, every-not, every-end, first-turn, first-not, first-end, at-place}
 use Rattle.image.specs.Image.{taskFrom, placeFrom, lineFrom, alarmFrom, requestFrom, subFrom, messageFrom, mailFrom, loadOf, noKind, stateIn}
 use Rattle.image.proofs.Alike.{decide}
 use Rattle.image.proofs.Spans.{length-blocks, block-at}
@@ -156,6 +155,17 @@ kind-some (suc (suc (suc (suc (suc (suc (suc (suc zero)))))))) t m a h = refl
 kind-some (suc (suc (suc (suc (suc (suc (suc (suc (suc zero))))))))) t m a h = refl
 kind-some (suc (suc (suc (suc (suc (suc (suc (suc (suc (suc k)))))))))) t m a h = absurd (omega arith)
 
+-- a number that is none of the kinds, each of which a `match` has met before
+next : (n k : ℕ) → n ≤ k → (k ≡ n → ⊥) → n + 1 ≤ k
+next n k h e = omega arith
+
+module _ (k : ℕ) (e0 : k ≡ 0 → ⊥) (e1 : k ≡ 1 → ⊥) (e2 : k ≡ 2 → ⊥) (e3 : k ≡ 3 → ⊥) (e4 : k ≡ 4 → ⊥) where
+  past-four : 5 ≤ k
+  past-four = next 4 k (next 3 k (next 2 k (next 1 k (next 0 k zero-le e0) e1) e2) e3) e4
+
+  pub past-kinds : (k ≡ 5 → ⊥) → (k ≡ 6 → ⊥) → (k ≡ 7 → ⊥) → (k ≡ 8 → ⊥) → (k ≡ 9 → ⊥) → 9 < k
+  past-kinds e5 e6 e7 e8 e9 = let l = next 9 k (next 8 k (next 7 k (next 6 k (next 5 k past-four e5) e6) e7) e8) e9 in omega arith
+
 pub no-kind : (k : ℕ) (t : Millis) (m a : ℕ) → 9 < k → stateIn k t m a ≡ noKind
 unfolding stateIn
 no-kind k t m a h = rw (lt-ltb 9 k h) refl
@@ -213,63 +223,6 @@ module _ (s : List ℕ) (i : ℕ) (h : i < 16) where
   -- its priority
   pub level-there : (p : ℕ) → p ≡ i * 26 + 14 → getD s p 0 ≡ getD (loadOf s .tasks) i noTask .priority
   level-there p e = let z : p ≡ i * 26 + 1 + 1 + 8 + 4 = omega arith in ap (λ (x : ℕ). getD s x 0) z ∙ ap (λ (e : Task). e .priority) (task-there s i h)
-
-  -- its other numbers
-  pub own-there : (p : ℕ) → p ≡ i * 26 → getD s p 0 ≡ getD (loadOf s .tasks) i noTask .own
-  own-there p e = ap (λ (x : ℕ). getD s x 0) e ∙ ap (λ (e : Task). e .own) (task-there s i h)
-
-  pub argument-there : (p x : ℕ) → p ≡ i * 26 + 15 → x ≡ numberOf (part 2 p s) → x ≡ getD (loadOf s .tasks) i noTask .argument
-  argument-there p x e g =
-      let z : p ≡ i * 26 + 1 + 1 + 8 + 4 + 1 = omega arith in
-      g ∙ ap (λ (y : ℕ). numberOf (part 2 y s)) z ∙ ap (λ (e : Task). e .argument) (task-there s i h)
-
-  pub start-there : (p x : ℕ) → p ≡ i * 26 + 17 → x ≡ numberOf (part 8 p s) → x ≡ getD (loadOf s .tasks) i noTask .start .0
-  start-there p x e g =
-      let z : p ≡ i * 26 + 1 + 1 + 8 + 4 + 1 + 2 = omega arith in
-      g ∙ ap (λ (y : ℕ). numberOf (part 8 y s)) z ∙ ap (λ (e : Task). e .start .0) (task-there s i h)
-
-  pub waiter-there : (p : ℕ) → p ≡ i * 26 + 25 → getD s p 0 ≡ getD (loadOf s .tasks) i noTask .«end_waiter» .0
-  waiter-there p e =
-      let z : p ≡ i * 26 + 1 + 1 + 8 + 4 + 1 + 2 + 8 = omega arith in
-      ap (λ (x : ℕ). getD s x 0) z ∙ ap (λ (e : Task). e .«end_waiter» .0) (task-there s i h)
-
--- ---- a blank entry, by its numbers as they were read one after the other
-module _ (e : Task) (k : ℕ) (ek : k ≡ stateKind (e .state)) where
-  pub blank-kind : (0 ≡ k → ⊥) → false ≡ isBlank e
-  blank-kind n = and-false-left (isDormant (e .state)) _ (ap (eqb 0) (sym ek) ∙ ne-eqb 0 k n)
-
-  module _ (zk : 0 ≡ k) (o : ℕ) (eo : o ≡ e .own) where
-    dormant-is : isDormant (e .state) ≡ true
-    dormant-is = ap (eqb 0) (sym ek) ∙ eq-eqb 0 k zk
-
-    pub blank-own : (o ≡ 0 → ⊥) → false ≡ isBlank e
-    blank-own n = and-true-left (isDormant (e .state)) _ _ dormant-is (and-false-left (eqb (e .own) 0) _ (ap (λ (x : ℕ). eqb x 0) (sym eo) ∙ ne-eqb o 0 n))
-
-    module _ (zo : o ≡ 0) (p : ℕ) (ep : p ≡ e .priority) where
-      begun : (r x : Bool) → r ≡ x → r ≡ (isDormant (e .state) and eqb (e .own) 0 and x)
-      begun r x g = and-true-left (isDormant (e .state)) _ r dormant-is (and-true-left (eqb (e .own) 0) _ r (ap (λ (x : ℕ). eqb x 0) (sym eo) ∙ eq-eqb o 0 zo) g)
-
-      pub blank-priority : (p ≡ 0 → ⊥) → false ≡ isBlank e
-      blank-priority n = begun false _ (and-false-left (eqb (e .priority) 0) _ (ap (λ (x : ℕ). eqb x 0) (sym ep) ∙ ne-eqb p 0 n))
-
-      module _ (zp : p ≡ 0) (a : ℕ) (ea : a ≡ e .argument) where
-        then-on : (r x : Bool) → r ≡ x → r ≡ (isDormant (e .state) and eqb (e .own) 0 and eqb (e .priority) 0 and x)
-        then-on r x g = begun r _ (and-true-left (eqb (e .priority) 0) _ r (ap (λ (x : ℕ). eqb x 0) (sym ep) ∙ eq-eqb p 0 zp) g)
-
-        pub blank-argument : (a ≡ 0 → ⊥) → false ≡ isBlank e
-        blank-argument n = then-on false _ (and-false-left (eqb (e .argument) 0) _ (ap (λ (x : ℕ). eqb x 0) (sym ea) ∙ ne-eqb a 0 n))
-
-        module _ (za : a ≡ 0) (t : ℕ) (et : t ≡ e .start .0) where
-          at-last : (r x : Bool) → r ≡ x → r ≡ (isDormant (e .state) and eqb (e .own) 0 and eqb (e .priority) 0 and eqb (e .argument) 0 and x)
-          at-last r x g = then-on r _ (and-true-left (eqb (e .argument) 0) _ r (ap (λ (x : ℕ). eqb x 0) (sym ea) ∙ eq-eqb a 0 za) g)
-
-          pub blank-start : (t ≡ 0 → ⊥) → false ≡ isBlank e
-          blank-start n = at-last false _ (and-false-left (eqb (e .start .0) 0) _ (ap (λ (x : ℕ). eqb x 0) (sym et) ∙ ne-eqb t 0 n))
-
-          pub blank-waiter : t ≡ 0 → (w : ℕ) → w ≡ e .«end_waiter» .0 → eqb w 0 ≡ isBlank e
-          blank-waiter zt w ew =
-              at-last (eqb w 0) _
-              (and-true-left (eqb (e .start .0) 0) _ (eqb w 0) (ap (λ (x : ℕ). eqb x 0) (sym et) ∙ eq-eqb t 0 zt) (ap (λ (x : ℕ). eqb x 0) ew))
 
 -- ---- the loops: the elements of xs, of which there are m, are held to a test; x is the one that was read at place i, and
 -- d what a place past the end reads as

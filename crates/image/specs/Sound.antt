@@ -1,19 +1,23 @@
--- What the check on the lent bytes says on its way: the loaded lists, bytes that are all zero, sets of tasks as words.
+-- What the check on the lent bytes says on its way: the loaded lists, bytes that are all zero, sets of tasks as words, the
+-- rules on one entry part by part.
 use Prim.Native.Nat.{ℕ, zero, suc, _^_}
 use mathlib.Core.Bool.{Bool, true, false, not, cond}
 use mathlib.Core.List.{List, [], _∷_}
 use lib.Dec.{eqb, leb, ltb}
 use lib.Bits.{bitOr}
 use lib.ListN.{getD}
+use Rattle.executive.specs.declared.State.{State}
 use Rattle.executive.specs.declared.Task.{Task}
 use Rattle.executive.specs.declared.Request.{Request}
 use Rattle.executive.specs.declared.Sub.{Sub}
 use Rattle.executive.specs.declared.Message.{Message}
 use Rattle.executive.specs.declared.Mail.{Mail}
+use Rattle.executive.specs.Numbers.{highest}
 use Rattle.executive.specs.Lists.{_and_}
 use Rattle.executive.specs.Places.{taskAt}
 use Rattle.executive.specs.States.{isOf}
 use Rattle.executive.specs.Flags.{isSet}
+use Rattle.executive.specs.Check.{awaitsInRange, isTimely, isUnmet}
 use Rattle.image.specs.Blocks.{blocks}
 use Rattle.image.specs.Image.{loadOf}
 
@@ -62,3 +66,14 @@ waitsAs kind ts k = isOf kind (taskAt ts k .state)
 
 abbrev pub namesOther : List Task → ℕ → Bool
 namesOther ts k = not (eqb k (taskAt ts k .«end_waiter» .0))
+
+-- ---- the rules on one entry, of n tasks, at the clock c with the flags fs: of its own priority o, its priority p, its waiter
+-- w and its last scheduled start s; of its state. And four of its numbers are zero
+abbrev pub fieldsRight : ℕ → ℕ → ℕ → ℕ → ℕ → ℕ → Bool
+fieldsRight n c o p w s = leb o highest and leb p highest and leb w n and leb s c
+
+abbrev pub stateRight : ℕ → ℕ → ℕ → State → Bool
+stateRight n c fs s = awaitsInRange n s and isTimely c s and isUnmet fs s
+
+abbrev pub fieldsZero : ℕ → ℕ → ℕ → ℕ → Bool
+fieldsZero p a s w = eqb p 0 and eqb a 0 and eqb s 0 and eqb w 0

@@ -2,30 +2,45 @@
 // may stand in its other places.
 use crate::AWAITED;
 use crate::IMAGE;
-use crate::loading;
 use crate::numbers;
 use executive::Millis;
-use executive::states;
 ghost use mathlib.Core.Path.{_≡_};
+ghost use mathlib.Core.Bool.{false, cond};
+ghost use lib.Dec.{eqb};
 ghost use Rattle.image.specs.Image.{isImage};
 ghost use Rattle.image.specs.Coding.{isCode};
+
+// A time, a mask and a number are zero.
+fn are_none(time: u64, mask: u32, number: u8) -> bool
+    ensures { λ r. ⌜ r ≡ cond (eqb 0 time) (cond (eqb 0 mask) (eqb 0 number) false) false ⌝ }
+{
+    if 0 != time {
+        return false;
+    }
+    if 0 != mask {
+        return false;
+    }
+    0 == number
+}
 
 // Whether a kind, a time, a mask and a number are those of the state that they make. A byte that is no kind is none,
 // and a time, a mask or a number is none where the state holds no such.
 pub(crate) fn is_code(kind: u8, time: Millis, mask: u32, number: u8) -> bool
     ensures { λ r. ⌜ r ≡ isCode kind time mask number ⌝ }
 {
-    let state = loading::state_of(kind, time, mask, number);
-    if states::kind_of(state) != kind {
-        return false;
+    match kind {
+        0 => are_none(time.0, mask, number),
+        1 => are_none(time.0, mask, number),
+        2 => are_none(0, mask, number),
+        3 => are_none(0, mask, number),
+        4 => are_none(time.0, 0, number),
+        5 => are_none(time.0, 0, number),
+        6 => are_none(time.0, mask, number),
+        7 => are_none(time.0, mask, number),
+        8 => are_none(time.0, mask, 0),
+        9 => are_none(time.0, mask, 0),
+        _ => false,
     }
-    if states::time_of(state).0 != time.0 {
-        return false;
-    }
-    if states::mask_of(state) != mask {
-        return false;
-    }
-    states::awaited_of(state) == number
 }
 
 // Whether the bytes are an image.

@@ -17,9 +17,6 @@ ghost use Rattle.executive.specs.Lists.{_and_};
 ghost use Rattle.executive.specs.Check.{askedRight, heldRight, sentRight, mailRight, isWellFormed};
 ghost use Rattle.image.specs.Image.{imageLength, loadOf};
 
-// Where the task count stands.
-const COUNT: usize = 433;
-
 // The requests, the subprograms, the messages and the mail keep their rules.
 fn lists_right(b: &[u8], queued: u8, sent: u8, count: u8) -> bool
     requires { ⌜ (length (now b) ≡ imageLength) × (queued ≤ 32) × (count ≤ 16) ⌝ }
@@ -45,7 +42,7 @@ pub(crate) fn is_sound(b: &[u8]) -> bool
     requires { ⌜ length (now b) ≡ imageLength ⌝ }
     ensures { λ r. ⌜ r ≡ isWellFormed (loadOf (now (b .entry))) ⌝ }
 {
-    let count = b[COUNT];
+    let count = b[fields::COUNT];
     let queued = b[fields::QUEUED];
     let time = numbers::long_in(b, fields::CLOCK);
     if !rules::in_bounds(count, b[fields::GRANULE], Millis(time), queued) {

@@ -6,7 +6,7 @@ ghost use lib.Dec.{eqb};
 ghost use lib.ListN.{length};
 ghost use Rattle.image.specs.Sound.{noughts};
 
-// A number that is zero where a byte is, and so four, eight and sixteen.
+// A number that is zero where a byte is, and so four, eight, sixteen and thirty-two.
 fn one(b: &[u8], at: usize) -> u32
     requires { ⌜ at + 1 ≤ length (now b) ⌝ }
     ensures { λ r. ⌜ eqb r 0 ≡ noughts (now (b .entry)) 1 at ⌝ }
@@ -35,6 +35,13 @@ fn sixteen(b: &[u8], at: usize) -> u32
     eight(b, at) | eight(b, at + 8)
 }
 
+fn thirty_two(b: &[u8], at: usize) -> u32
+    requires { ⌜ at + 32 ≤ length (now b) ⌝ }
+    ensures { λ r. ⌜ eqb r 0 ≡ noughts (now (b .entry)) 32 at ⌝ }
+{
+    sixteen(b, at) | sixteen(b, at + 16)
+}
+
 // Whether the bytes from a place up to another are all zero.
 pub(crate) fn are_zero(b: &[u8], from: usize, to: usize) -> bool
     requires { ⌜ (from ≤ to) × (to ≤ length (now b)) ⌝ }
@@ -42,6 +49,10 @@ pub(crate) fn are_zero(b: &[u8], from: usize, to: usize) -> bool
 {
     let mut any: u32 = 0;
     let mut at = from;
+    while 32 <= to - at {
+        any = any | thirty_two(b, at);
+        at += 32;
+    }
     while 16 <= to - at {
         any = any | sixteen(b, at);
         at += 16;
