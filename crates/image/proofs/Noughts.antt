@@ -7,7 +7,6 @@ use native.Mathlib.Omega.{arith}
 use native.Mathlib.Nat.{add-zero, suc-mul, zero-mul}
 use borrow.Author.Tests.{eqb-true, eqb-false, eq-eqb, ne-eqb}
 use lib.Dec.{eqb}
-use lib.Bits.{bitOr, or-zero-l, or-add-and, and-le-l, and-le-r}
 use lib.ListN.{length, getD, drop}
 use Rattle.records.specs.Numbers.{numberFrom, numberOf, part}
 use Rattle.executive.specs.Lists.{_and_, allOf}
@@ -31,18 +30,7 @@ cond-cond : (a b x : Bool) → cond a (cond b x false) false ≡ cond (cond a b 
 cond-cond true b x = refl
 cond-cond false b x = refl
 
--- ---- a word put together of two, and of digits, is zero where both are
-pub or-nought : (a b : ℕ) → eqb (bitOr a b) 0 ≡ cond (eqb a 0) (eqb b 0) false
-or-nought a b = go (eqb a 0) (eqb b 0) refl refl
-  where
-    above : bitOr a b ≡ 0 → (a ≡ 0) × (b ≡ 0)
-    above e = (omega (arith, or-add-and a b, and-le-l a b, and-le-r a b), omega (arith, or-add-and a b, and-le-l a b, and-le-r a b))
-
-    go : (x y : Bool) → eqb a 0 ≡ x → eqb b 0 ≡ y → eqb (bitOr a b) 0 ≡ cond x y false
-    go true true e f = eq-eqb _ _ (ap (λ (n : ℕ). bitOr n b) (eqb-true a 0 e) ∙ or-zero-l b ∙ eqb-true b 0 f)
-    go true false e f = ne-eqb (bitOr a b) 0 (λ z. eqb-false b 0 f (above z .1))
-    go false y e f = ne-eqb (bitOr a b) 0 (λ z. eqb-false a 0 e (above z .0))
-
+-- ---- a number of digits is zero where all of them are
 digit-nought : (n b : ℕ) → eqb (n * 256 + b) 0 ≡ cond (eqb n 0) (eqb b 0) false
 digit-nought n b = go (eqb n 0) (eqb b 0) refl refl
   where
@@ -50,31 +38,6 @@ digit-nought n b = go (eqb n 0) (eqb b 0) refl refl
     go true true e f = eq-eqb (n * 256 + b) 0 (omega (arith, eqb-true n 0 e, eqb-true b 0 f))
     go true false e f = ne-eqb (n * 256 + b) 0 (λ z. eqb-false b 0 f (omega (arith, z)))
     go false y e f = ne-eqb (n * 256 + b) 0 (λ z. eqb-false n 0 e (omega (arith, z)))
-
--- four bytes, the first the lowest
-pub four-nought : (a b c d : ℕ) → eqb (((d * 256 + c) * 256 + b) * 256 + a) 0 ≡ cond (eqb a 0) (cond (eqb b 0) (cond (eqb c 0) (cond (eqb d 0) true false) false) false) false
-four-nought a b c d =
-    digit-nought ((d * 256 + c) * 256 + b) a
-    ∙ ap (λ (x : Bool). cond x (eqb a 0) false) (digit-nought (d * 256 + c) b ∙ ap (λ (x : Bool). cond x (eqb b 0) false) (digit-nought d c))
-    ∙ turned (eqb a 0) (eqb b 0) (eqb c 0) (eqb d 0)
-  where
-    turned : (a b c d : Bool) → cond (cond (cond d c false) b false) a false ≡ cond a (cond b (cond c (cond d true false) false) false) false
-    turned true true true true = refl
-    turned true true true false = refl
-    turned true true false true = refl
-    turned true true false false = refl
-    turned true false true true = refl
-    turned true false true false = refl
-    turned true false false true = refl
-    turned true false false false = refl
-    turned false true true true = refl
-    turned false true true false = refl
-    turned false true false true = refl
-    turned false true false false = refl
-    turned false false true true = refl
-    turned false false true false = refl
-    turned false false false true = refl
-    turned false false false false = refl
 
 module _ (s : List ℕ) where
   -- ---- so many bytes, and so many right behind them
@@ -86,33 +49,25 @@ module _ (s : List ℕ) where
       let y : at + suc m ≡ suc at + m = omega arith in
       rw (z, y) (ap (λ (x : Bool). cond (eqb (getD s at 0) 0) x false) (noughts-join m n (suc at)) ∙ cond-cond (eqb (getD s at 0) 0) (noughts s m (suc at)) (noughts s n (suc at + m)))
 
-  pub noughts-four : (at : ℕ) → eqb (numberOf (getD s (at + 3) 0 ∷ getD s (at + 2) 0 ∷ getD s (at + 1) 0 ∷ getD s at 0 ∷ [])) 0 ≡ noughts s 4 at
+  -- some bytes of which the first w are zero, or are not
+  pub noughts-not : (w n at : ℕ) → w ≤ n → noughts s w at ≡ false → noughts s n at ≡ false
+  noughts-not w n at h e =
+      let z : n ≡ w + (n - w) = omega arith in
+      ap (λ (m : ℕ). noughts s m at) z ∙ noughts-join w (n - w) at ∙ rw e refl
+
+  pub noughts-on : (w n at : ℕ) → w ≤ n → noughts s w at ≡ true → noughts s (n - w) (at + w) ≡ noughts s n at
+  noughts-on w n at h e =
+      let z : n ≡ w + (n - w) = omega arith in
+      sym (ap (λ (m : ℕ). noughts s m at) z ∙ noughts-join w (n - w) at ∙ rw e refl)
+
+  pub noughts-none : (n at : ℕ) → n ≡ 0 → noughts s n at ≡ true
   unfolding noughts
-  noughts-four at =
-      let e1 : at + 1 ≡ suc at = omega arith in
-      let e2 : at + 2 ≡ suc (suc at) = omega arith in
-      let e3 : at + 3 ≡ suc (suc (suc at)) = omega arith in
-      rw (e1, e2, e3) (four-nought (getD s at 0) (getD s (suc at) 0) (getD s (suc (suc at)) 0) (getD s (suc (suc (suc at))) 0))
+  noughts-none n at e = rw e refl
 
-  pub noughts-one : (at : ℕ) → eqb (numberOf (0 ∷ 0 ∷ 0 ∷ getD s at 0 ∷ [])) 0 ≡ noughts s 1 at
+  -- a byte
+  pub byte-nought : (at : ℕ) → noughts s 1 at ≡ eqb (getD s at 0) 0
   unfolding noughts
-  noughts-one at =
-      let z : ((0 * 256 + 0) * 256 + 0) * 256 + getD s at 0 ≡ getD s at 0 = omega arith in
-      ap (λ (n : ℕ). eqb n 0) z ∙ sym (cond-true (eqb (getD s at 0) 0))
-
-  pub twice-noughts : (w at x y : ℕ) → eqb x 0 ≡ noughts s w at → eqb y 0 ≡ noughts s w (at + w) → eqb (bitOr x y) 0 ≡ noughts s (w + w) at
-  twice-noughts w at x y e f = or-nought x y ∙ rw (e, f) (sym (noughts-join w w at))
-
-  -- the loop over them: none yet, and w more
-  pub none-nought : (from : ℕ) → eqb 0 0 ≡ noughts s (from - from) from
-  unfolding noughts
-  none-nought from = let z : from - from ≡ 0 = omega arith in rw z refl
-
-  pub more-noughts : (from at w x y : ℕ) → from ≤ at → eqb x 0 ≡ noughts s (at - from) from → eqb y 0 ≡ noughts s w at → eqb (bitOr x y) 0 ≡ noughts s (at + w - from) from
-  more-noughts from at w x y h e f =
-      let z : at + w - from ≡ at - from + w = omega arith in
-      let v : from + (at - from) ≡ at = omega arith in
-      or-nought x y ∙ rw (e, f, z) (sym (noughts-join (at - from) w from ∙ rw v refl))
+  byte-nought at = cond-true (eqb (getD s at 0) 0)
 
   -- ---- a number of some bytes; some numbers one after the other
   from-nought : (w n at : ℕ) → eqb (numberFrom n (part w at s)) 0 ≡ cond (eqb n 0) (noughts s w at) false
@@ -120,7 +75,7 @@ module _ (s : List ℕ) where
   from-nought zero n at = sym (cond-true (eqb n 0))
   from-nought (suc w) n at = from-nought w (n * 256 + getD s at 0) (suc at) ∙ ap (λ (x : Bool). cond x (noughts s w (suc at)) false) (digit-nought n (getD s at 0)) ∙ sym (cond-cond (eqb n 0) (eqb (getD s at 0) 0) (noughts s w (suc at)))
 
-  number-nought : (w at : ℕ) → eqb (numberOf (part w at s)) 0 ≡ noughts s w at
+  pub number-nought : (w at : ℕ) → eqb (numberOf (part w at s)) 0 ≡ noughts s w at
   unfolding noughts
   number-nought zero at = refl
   number-nought (suc w) at = from-nought w (getD s at 0) (suc at)

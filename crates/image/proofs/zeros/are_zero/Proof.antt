@@ -1,97 +1,92 @@
--- `zeros::are_zero` meets its contract. The invariant of each loop: what is put together is zero where all bytes up to there are.
-use Prim.Native.Nat.{_-_, _≤_}
-use mathlib.Core.Path.{_≡_}
+-- `zeros::are_zero` meets its contract. The invariant of both loops: what is left decides.
+use Prim.Native.Nat.{ℕ, _+_, _-_, _≤_}
+use mathlib.Core.Path.{_≡_, refl, sym, ap, _∙_}
 use native.Mathlib.Omega.{arith}
 use denote.Ref.{now}
-use lib.Dec.{eqb}
+use borrow.Author.Tests.{eq-eqb, ne-eqb, not-true, not-false}
 use Rattle.image.specs.Sound.{noughts}
-use Rattle.image.proofs.Noughts.{none-nought, more-noughts}
+use Rattle.image.proofs.Noughts.{noughts-not, noughts-on, noughts-none, byte-nought}
 use Rattle.image.proofs.zeros.are_zero.Statement.{statement}
 use Rattle.image.proofs.zeros.are_zero.Tie as tie
 
 abbrev Inv-loop : tie.InvT-loop
-Inv-loop b from to any₀ at₀ any at = (from ≤ at) × (at ≤ to) × (eqb any 0 ≡ noughts b (at - from) from)
+Inv-loop b from to at₀ at = (at ≤ to) × (noughts b (to - at) at ≡ noughts b (to - from) from)
 
 abbrev μ-loop : tie.MeasureT-loop
-μ-loop b from to any₀ at₀ any at = to - at
+μ-loop b from to at₀ at = to - at
 
 abbrev Inv-loop2 : tie.InvT-loop2
-Inv-loop2 b from to any₀ at₀ any at = (from ≤ at) × (at ≤ to) × (eqb any 0 ≡ noughts b (at - from) from)
+Inv-loop2 b from to at₀ at = (at ≤ to) × (noughts b (to - at) at ≡ noughts b (to - from) from)
 
 abbrev μ-loop2 : tie.MeasureT-loop2
-μ-loop2 b from to any₀ at₀ any at = to - at
+μ-loop2 b from to at₀ at = to - at
 
-abbrev Inv-loop3 : tie.InvT-loop3
-Inv-loop3 b from to any₀ at₀ any at = (from ≤ at) × (at ≤ to) × (eqb any 0 ≡ noughts b (at - from) from)
+loop-holds : tie.Need-loop-holds Inv-loop μ-loop Inv-loop2 μ-loop2
+loop-holds c = (c .before .pre .0, refl)
 
-abbrev μ-loop3 : tie.MeasureT-loop3
-μ-loop3 b from to any₀ at₀ any at = to - at
+sub-loop : tie.Need-sub-loop Inv-loop μ-loop Inv-loop2 μ-loop2
+sub-loop c = c .loop .inv .0
 
-loop-holds : tie.Need-loop-holds Inv-loop μ-loop Inv-loop2 μ-loop2 Inv-loop3 μ-loop3
-loop-holds c = (omega arith, c .before .pre .0, none-nought (now (c .before .args .b)) (c .before .args .from))
+sixteen-requires : tie.Need-sixteen-requires Inv-loop μ-loop Inv-loop2 μ-loop2
+sixteen-requires c κs = omega (arith, c .before .before .before .pre .1, c .loop-test .taken, c .before .loop .inv .0)
 
-sub-loop : tie.Need-sub-loop Inv-loop μ-loop Inv-loop2 μ-loop2 Inv-loop3 μ-loop3
-sub-loop c = c .loop .inv .1
+returns : tie.Need-returns Inv-loop μ-loop Inv-loop2 μ-loop2
+returns c =
+    let a = c .before .before .before .before .before .args in
+    let v = c .before .before .before .loop in
+    sym (sym (v .inv .1) ∙ noughts-not (now (a .b)) 16 (a .to - v .at) (v .at) (c .before .before .loop-test .taken) (sym (c .before .sixteen .ensures) ∙ not-true _ (c .if1 .taken)))
 
-thirty-two-requires : tie.Need-thirty-two-requires Inv-loop μ-loop Inv-loop2 μ-loop2 Inv-loop3 μ-loop3
-thirty-two-requires c κs = omega (arith, c .before .before .before .pre .1, c .loop-test .taken, c .before .loop .inv .1)
+add-at : tie.Need-add-at Inv-loop μ-loop Inv-loop2 μ-loop2
+add-at c = omega (arith, c .before .before .loop-test .taken, c .before .before .before .loop .inv .0)
 
-add-at : tie.Need-add-at Inv-loop μ-loop Inv-loop2 μ-loop2 Inv-loop3 μ-loop3
-add-at c = omega (arith, c .before .loop-test .taken, c .before .before .loop .inv .1)
+loop-less : tie.Need-loop-less Inv-loop μ-loop Inv-loop2 μ-loop2
+loop-less c = omega (arith, c .before .before .loop-test .taken, c .before .before .before .loop .inv .0)
 
-loop-less : tie.Need-loop-less Inv-loop μ-loop Inv-loop2 μ-loop2 Inv-loop3 μ-loop3
-loop-less c = omega (arith, c .before .loop-test .taken, c .before .before .loop .inv .1)
-
-loop-again : tie.Need-loop-again Inv-loop μ-loop Inv-loop2 μ-loop2 Inv-loop3 μ-loop3
+loop-again : tie.Need-loop-again Inv-loop μ-loop Inv-loop2 μ-loop2
 loop-again c =
-    let a = c .before .before .before .before .args in
-    let v = c .before .before .loop in
-    (omega (arith, v .inv .0), omega (arith, c .before .loop-test .taken, v .inv .1), more-noughts (now (a .b)) (a .from) (v .at) 32 (v .any) (c .thirty-two .result) (v .inv .0) (v .inv .2) (c .thirty-two .ensures))
+    let a = c .before .before .before .before .before .args in
+    let v = c .before .before .before .loop in
+    let z : a .to - (v .at + 16) ≡ a .to - v .at - 16 = omega arith in (
+      omega (arith, c .before .before .loop-test .taken, v .inv .0),
+      ap (λ (n : ℕ). noughts (now (a .b)) n (v .at + 16)) z
+          ∙ noughts-on (now (a .b)) 16 (a .to - v .at) (v .at) (c .before .before .loop-test .taken) (sym (c .before .sixteen .ensures) ∙ not-false _ (c .if1 .left))
+          ∙ v .inv .1,
+    )
 
-loop2-holds : tie.Need-loop2-holds Inv-loop μ-loop Inv-loop2 μ-loop2 Inv-loop3 μ-loop3
+loop2-holds : tie.Need-loop2-holds Inv-loop μ-loop Inv-loop2 μ-loop2
 loop2-holds c = c .before .loop .inv
 
-sub-loop2 : tie.Need-sub-loop2 Inv-loop μ-loop Inv-loop2 μ-loop2 Inv-loop3 μ-loop3
-sub-loop2 c = c .loop2 .inv .1
+shared-slice-read-if2 : tie.Need-shared-slice-read-if2 Inv-loop μ-loop Inv-loop2 μ-loop2
+shared-slice-read-if2 c = omega (arith, c .before .before .before .before .before .before .pre .1, c .before .loop2-test .taken)
 
-sixteen-requires : tie.Need-sixteen-requires Inv-loop μ-loop Inv-loop2 μ-loop2 Inv-loop3 μ-loop3
-sixteen-requires c κs = omega (arith, c .before .before .before .before .before .pre .1, c .loop2-test .taken, c .before .loop2 .inv .1)
+returns-2 : tie.Need-returns-2 Inv-loop μ-loop Inv-loop2 μ-loop2
+returns-2 c =
+    let a = c .before .before .before .before .before .before .before .args in
+    let v = c .before .before .before .loop2 in
+    sym (sym (v .inv .1) ∙ noughts-not (now (a .b)) 1 (a .to - v .at) (v .at) (omega (arith, c .before .before .loop2-test .taken)) (byte-nought (now (a .b)) (v .at) ∙ ne-eqb _ 0 (c .if2 .taken)))
 
-add-at-2 : tie.Need-add-at-2 Inv-loop μ-loop Inv-loop2 μ-loop2 Inv-loop3 μ-loop3
-add-at-2 c = omega (arith, c .before .loop2-test .taken, c .before .before .loop2 .inv .1)
+add-at-2 : tie.Need-add-at-2 Inv-loop μ-loop Inv-loop2 μ-loop2
+add-at-2 c = omega (arith, c .before .before .loop2-test .taken)
 
-loop2-less : tie.Need-loop2-less Inv-loop μ-loop Inv-loop2 μ-loop2 Inv-loop3 μ-loop3
-loop2-less c = omega (arith, c .before .loop2-test .taken, c .before .before .loop2 .inv .1)
+loop2-less : tie.Need-loop2-less Inv-loop μ-loop Inv-loop2 μ-loop2
+loop2-less c = omega (arith, c .before .before .loop2-test .taken)
 
-loop2-again : tie.Need-loop2-again Inv-loop μ-loop Inv-loop2 μ-loop2 Inv-loop3 μ-loop3
+loop2-again : tie.Need-loop2-again Inv-loop μ-loop Inv-loop2 μ-loop2
 loop2-again c =
-    let a = c .before .before .before .before .before .before .args in
-    let v = c .before .before .loop2 in
-    (omega (arith, v .inv .0), omega (arith, c .before .loop2-test .taken, v .inv .1), more-noughts (now (a .b)) (a .from) (v .at) 16 (v .any) (c .sixteen .result) (v .inv .0) (v .inv .2) (c .sixteen .ensures))
+    let a = c .before .before .before .before .before .before .before .args in
+    let v = c .before .before .before .loop2 in
+    let z : a .to - (v .at + 1) ≡ a .to - v .at - 1 = omega arith in (
+      omega (arith, c .before .before .loop2-test .taken),
+      ap (λ (n : ℕ). noughts (now (a .b)) n (v .at + 1)) z
+          ∙ noughts-on (now (a .b)) 1 (a .to - v .at) (v .at) (omega (arith, c .before .before .loop2-test .taken)) (byte-nought (now (a .b)) (v .at) ∙ eq-eqb _ 0 (c .if2 .left))
+          ∙ v .inv .1,
+    )
 
-loop3-holds : tie.Need-loop3-holds Inv-loop μ-loop Inv-loop2 μ-loop2 Inv-loop3 μ-loop3
-loop3-holds c = c .before .loop2 .inv
-
-one-requires : tie.Need-one-requires Inv-loop μ-loop Inv-loop2 μ-loop2 Inv-loop3 μ-loop3
-one-requires c κs = omega (arith, c .before .before .before .before .before .before .before .pre .1, c .loop3-test .taken, c .before .loop3 .inv .1)
-
-add-at-3 : tie.Need-add-at-3 Inv-loop μ-loop Inv-loop2 μ-loop2 Inv-loop3 μ-loop3
-add-at-3 c = omega (arith, c .before .loop3-test .taken, c .before .before .loop3 .inv .1)
-
-loop3-less : tie.Need-loop3-less Inv-loop μ-loop Inv-loop2 μ-loop2 Inv-loop3 μ-loop3
-loop3-less c = omega (arith, c .before .loop3-test .taken, c .before .before .loop3 .inv .1)
-
-loop3-again : tie.Need-loop3-again Inv-loop μ-loop Inv-loop2 μ-loop2 Inv-loop3 μ-loop3
-loop3-again c =
-    let a = c .before .before .before .before .before .before .before .before .args in
-    let v = c .before .before .loop3 in
-    (omega (arith, v .inv .0), omega (arith, c .before .loop3-test .taken, v .inv .1), more-noughts (now (a .b)) (a .from) (v .at) 1 (v .any) (c .one .result) (v .inv .0) (v .inv .2) (c .one .ensures))
-
-returns : tie.Need-returns Inv-loop μ-loop Inv-loop2 μ-loop2 Inv-loop3 μ-loop3
-returns c =
-    let v = c .before .loop3 in
-    let e : v .at ≡ c .before .before .before .before .before .before .before .args .to = omega (arith, c .loop3-test .left, v .inv .1) in
-    rw e at (v .inv .2)
+returns-3 : tie.Need-returns-3 Inv-loop μ-loop Inv-loop2 μ-loop2
+returns-3 c =
+    let a = c .before .before .before .before .before .args in
+    let v = c .before .loop2 in
+    sym (noughts-none (now (a .b)) (a .to - v .at) (v .at) (omega (arith, c .loop2-test .left))) ∙ v .inv .1
 
 pub are-zero-spec : {M : Type 1} → statement M
 are-zero-spec =
@@ -101,23 +96,17 @@ are-zero-spec =
     μ-loop
     Inv-loop2
     μ-loop2
-    Inv-loop3
-    μ-loop3
     loop-holds
     sub-loop
-    thirty-two-requires
+    sixteen-requires
+    returns
     add-at
     loop-less
     loop-again
     loop2-holds
-    sub-loop2
-    sixteen-requires
+    shared-slice-read-if2
+    returns-2
     add-at-2
     loop2-less
     loop2-again
-    loop3-holds
-    one-requires
-    add-at-3
-    loop3-less
-    loop3-again
-    returns)
+    returns-3)
