@@ -83,23 +83,23 @@ struct Parts {
     rest: u64,
 }
 
-// Long division by shifts and subtractions: the length's bits come down one by one, from the highest that it can
-// have, and the
-// interval is taken off where it fits. Always 41 turns.
+// Long division by shifts and subtractions: the interval is doubled until it is more than the length, then halved as
+// often, and taken off where it fits. A turn up and a turn down for each bit of the quotient.
 fn split(length: Millis, every: Millis) -> Parts
     requires { ⌜ (0 < every .0) × (length .0 ≤ endOfTime) × (every .0 ≤ longest) ⌝ }
     ensures { λ r. ⌜ (r .times ≡ length .0 / every .0) × (r .rest ≡ length .0 % every .0) ⌝ }
 {
+    let mut step = every.0;
+    while step <= length.0 {
+        step = step << 1;
+    }
     let mut times: u64 = 0;
-    let mut rest: u64 = 0;
-    let mut i: u32 = 41;
-    while i != 0 {
-        i = i - 1;
-        let bit = (length.0 >> i) & 1;
-        rest = (rest << 1) + bit;
+    let mut rest = length.0;
+    while step != every.0 {
+        step = step >> 1;
         times = times << 1;
-        if every.0 <= rest {
-            rest = rest - every.0;
+        if step <= rest {
+            rest = rest - step;
             times = times + 1;
         }
     }

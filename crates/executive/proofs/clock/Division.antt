@@ -1,61 +1,79 @@
--- Long division by shifts and subtractions: what a turn does to the times and the rest.
-use Prim.Native.Nat.{ℕ, _+_, _-_, _*_, _/_, _%_, _^_, _≤_, _<_}
+-- Long division by shifts and subtractions: the interval doubled until it is more than the length, and halved again.
+use Prim.Native.Nat.{ℕ, zero, suc, _+_, _-_, _*_, _/_, _%_, _^_, _≤_, _<_}
 use mathlib.Core.Path.{_≡_, sym, ap, _∙_}
-use native.Mathlib.Nat.{div-add-mod', mod-eq-of-lt, add-mul, mul-right-comm, mul-le-mul, le-refl}
+use native.Mathlib.Nat.{mod-eq-of-lt, add-mul, mul-assoc, mul-one, mul-le-mul, le-refl, pow-suc}
 use native.Mathlib.Omega.{arith}
-use lib.Bits.{bitAnd, and-mask}
-use lib.Pow.{shr-shr, shr-le}
-use Rattle.executive.specs.Numbers.{longest}
+use lib.Arith.{digits-div, digits-mod}
+use lib.Pow.{pow-pos}
+use Rattle.executive.specs.Numbers.{endOfTime}
 
-module _ (n i every times rest : ℕ) (hi : 0 < i) (e : n / 2 ^ i ≡ times * every + rest) where
-  abbrev bit : ℕ
-  bit = n / 2 ^ (i - 1) % 2
+-- a step is the interval, doubled some times
+pub record Doubled (every step : ℕ) : Type 0 where
+  pub turns : ℕ
+  pub is : step ≡ every * 2 ^ turns
 
-  halved : n / 2 ^ (i - 1) / 2 ≡ n / 2 ^ i
-  halved = shr-shr n (i - 1) 1 ∙ ap (λ (j : ℕ). n / 2 ^ j) (omega arith)
+-- once more
+more : (every k : ℕ) → every * 2 ^ k * 2 ≡ every * 2 ^ suc k
+more every k = mul-assoc every (2 ^ k) 2 ∙ ap (λ (n : ℕ). every * n) (sym (pow-suc 2 k))
 
-  -- the next lower bit comes down: twice the times, twice the rest and the bit
-  pub brought : n / 2 ^ (i - 1) ≡ times * 2 * every + (rest * 2 + bit)
-  brought =
-      let d = div-add-mod' (n / 2 ^ (i - 1)) 2 in
-      let h = ap (λ (q : ℕ). q * 2) (halved ∙ e) in
-      let s = add-mul (times * every) rest 2 in
-      let m = mul-right-comm times every 2 in
-      omega arith
+-- what is no more than a length fits its word doubled
+pub fits : (x : ℕ) → x ≤ endOfTime → x * 2 % 18446744073709551616 ≡ x * 2
+fits x l = mod-eq-of-lt (omega arith)
 
-  -- where the interval fits it is taken off, and counts once more
-  pub taken : every ≤ rest * 2 + bit → n / 2 ^ (i - 1) ≡ (times * 2 + 1) * every + (rest * 2 + bit - every)
-  taken l =
-      let b = brought in
-      let s = add-mul (times * 2) 1 every in
-      omega arith
+module _ {every step : ℕ} (d : Doubled every step) where
+  pub doubled : Doubled every (step * 2)
+  doubled = record { turns = suc (d .turns); is = ap (λ (n : ℕ). n * 2) (d .is) ∙ more every (d .turns) }
 
-  pub times-most : 0 < every → times ≤ n
-  times-most p =
-      let o : 1 ≤ every = omega arith in
-      let m : times * 1 ≤ times * every = mul-le-mul (le-refl times) o in
-      let l = shr-le n i in
-      omega arith
+  pub some : 0 < every → 0 < step
+  some p =
+      let m : 1 * 1 ≤ every * 2 ^ (d .turns) = mul-le-mul p (pow-pos (d .turns)) in
+      omega (arith, d .is)
 
--- what is kept while the bits come down: so many bits are left, and times and rest are those of the bits before
-pub record Divided (n every times rest i : ℕ) : Type 0 where
-  pub bits : i ≤ 41
-  pub parts : n / 2 ^ i ≡ times * every + rest
-  pub less : rest < every
+  -- a step that is not the interval is twice a step
+  halved : (step ≡ every → ⊥) → (step ≡ 2 * (step / 2)) × Doubled every (step / 2)
+  halved other = go (d .turns) (d .is)
+    where
+      go : (k : ℕ) → step ≡ every * 2 ^ k → (step ≡ 2 * (step / 2)) × Doubled every (step / 2)
+      go zero e = absurd (other (e ∙ mul-one every))
+      go (suc k) e =
+          let t : step ≡ every * 2 ^ k * 2 = e ∙ sym (more every k) in
+          (omega arith, record { turns = k; is = omega arith })
 
--- the doubled numbers fit their words, and the lowest bit is the remainder by 2
-pub record Words (n times rest i : ℕ) : Type 0 where
-  pub few : times ≤ 2 ^ 40
-  pub times-fit : times * 2 % 18446744073709551616 ≡ times * 2
-  pub rest-fit : rest * 2 % 18446744073709551616 ≡ rest * 2
-  pub bit : bitAnd (n / 2 ^ (i - 1)) 1 ≡ n / 2 ^ (i - 1) % 2
+-- what is kept while the step is halved: times and rest are those of the length by the step
+pub record Divided (n every step times rest : ℕ) : Type 0 where
+  pub steps : Doubled every step
+  pub parts : n ≡ times * step + rest
+  pub less : rest < step
 
-pub words : (n every times rest i : ℕ) → 0 < i → 0 < every → n ≤ 2 ^ 40 → every ≤ longest → Divided n every times rest i → Words n times rest i
-words n every times rest i h p l m v =
-    let k = times-most n i every times rest h (v .parts) p in
-    record {
-      few = omega arith;
-      times-fit = mod-eq-of-lt (omega arith);
-      rest-fit = mod-eq-of-lt (omega (arith, v .less));
-      bit = and-mask (n / 2 ^ (i - 1)) 1;
-    }
+module _ {n every step times rest : ℕ} (d : Divided n every step times rest) where
+  -- no more times than the length has milliseconds
+  pub times-low : n ≤ endOfTime → times ≤ endOfTime
+  times-low l =
+      let o : 1 ≤ step = omega (arith, d .less) in
+      let m : times * 1 ≤ times * step = mul-le-mul (le-refl times) o in
+      omega (arith, d .parts)
+
+  module _ (other : step ≡ every → ⊥) where
+    twice : n ≡ times * 2 * (step / 2) + rest
+    twice =
+        d .parts
+        ∙ ap (λ (s : ℕ). times * s + rest) (halved (d .steps) other .0)
+        ∙ ap (λ (p : ℕ). p + rest) (sym (mul-assoc times 2 (step / 2)))
+
+    -- where half the step is more than the rest, the times are doubled
+    pub left : rest < step / 2 → Divided n every (step / 2) (times * 2) rest
+    left l = record { steps = halved (d .steps) other .1; parts = twice; less = l }
+
+    -- where it fits it is taken off, and counts once more
+    pub taken : step / 2 ≤ rest → Divided n every (step / 2) (times * 2 + 1) (rest - step / 2)
+    taken l =
+        let h = halved (d .steps) other in
+        let s = add-mul (times * 2) 1 (step / 2) in
+        record { steps = h .1; parts = omega (arith, twice); less = omega (arith, h .0, d .less) }
+
+  -- at the end the step is the interval again
+  pub ended : step ≡ every → (times ≡ n / every) × (rest ≡ n % every)
+  ended e =
+      let p : n ≡ times * every + rest = rw e at (d .parts) in
+      let l : rest < every = rw e at (d .less) in
+      (rw p (sym (digits-div times l)), rw p (sym (digits-mod times l)))
