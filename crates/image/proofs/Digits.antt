@@ -10,10 +10,10 @@ use Rattle.records.specs.Numbers.{numberOf, oneAnd, bytesIn, part}
 
 -- ---- reading: the bytes from a place on, each read by itself
 module _ (s : List ℕ) (at : ℕ) where
-  pub pair-read : numberOf (getD s at 0 ∷ getD s (at + 1) 0 ∷ []) ≡ numberOf (part 2 at s)
+  pub pair-read : getD s at 0 ∷ getD s (at + 1) 0 ∷ [] ≡ part 2 at s
   pair-read = let e1 : at + 1 ≡ suc at = omega arith in rw e1
 
-  pub word-read : numberOf (getD s at 0 ∷ getD s (at + 1) 0 ∷ getD s (at + 2) 0 ∷ getD s (at + 3) 0 ∷ []) ≡ numberOf (part 4 at s)
+  pub word-read : getD s at 0 ∷ getD s (at + 1) 0 ∷ getD s (at + 2) 0 ∷ getD s (at + 3) 0 ∷ [] ≡ part 4 at s
   word-read =
       let e1 : at + 1 ≡ suc at = omega arith in
       let e2 : at + 2 ≡ suc (suc at) = omega arith in

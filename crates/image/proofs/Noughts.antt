@@ -26,6 +26,12 @@ cond-true : (a : Bool) → cond a true false ≡ a
 cond-true true = refl
 cond-true false = refl
 
+cond-swap : (a b : Bool) → cond a b false ≡ cond b a false
+cond-swap true true = refl
+cond-swap true false = refl
+cond-swap false true = refl
+cond-swap false false = refl
+
 cond-cond : (a b x : Bool) → cond a (cond b x false) false ≡ cond (cond a b false) x false
 cond-cond true b x = refl
 cond-cond false b x = refl
@@ -41,7 +47,7 @@ digit-nought n b = go (eqb n 0) (eqb b 0) refl refl
 
 module _ (s : List ℕ) where
   -- ---- so many bytes, and so many right behind them
-  pub noughts-join : (m n at : ℕ) → noughts s (m + n) at ≡ cond (noughts s m at) (noughts s n (at + m)) false
+  noughts-join : (m n at : ℕ) → noughts s (m + n) at ≡ cond (noughts s m at) (noughts s n (at + m)) false
   unfolding noughts
   noughts-join zero n at = let z : 0 + n ≡ n = omega arith in rw (z, add-zero at) refl
   noughts-join (suc m) n at =
@@ -60,6 +66,18 @@ module _ (s : List ℕ) where
       let z : n ≡ w + (n - w) = omega arith in
       sym (ap (λ (m : ℕ). noughts s m at) z ∙ noughts-join w (n - w) at ∙ rw e refl)
 
+  -- the same of those from a place up to another
+  pub noughts-past : (w at to : ℕ) → w ≤ to - at → noughts s w at ≡ true → noughts s (to - (at + w)) (at + w) ≡ noughts s (to - at) at
+  noughts-past w at to h e = let z : to - (at + w) ≡ to - at - w = omega arith in ap (λ (n : ℕ). noughts s n (at + w)) z ∙ noughts-on w (to - at) at h e
+
+  -- not all are zero where the first w are not, as x tells, or others if they are
+  pub noughts-or : (w n at x : ℕ) → w ≤ n → eqb x 0 ≡ noughts s w at → (x ≡ 0 → noughts s n at ≡ false) → noughts s n at ≡ false
+  noughts-or w n at x h q k = go (eqb x 0) refl
+    where
+      go : (v : Bool) → eqb x 0 ≡ v → noughts s n at ≡ false
+      go true e = k (eqb-true x 0 e)
+      go false e = noughts-not w n at h (sym q ∙ e)
+
   pub noughts-none : (n at : ℕ) → n ≡ 0 → noughts s n at ≡ true
   unfolding noughts
   noughts-none n at e = rw e refl
@@ -69,13 +87,25 @@ module _ (s : List ℕ) where
   unfolding noughts
   byte-nought at = cond-true (eqb (getD s at 0) 0)
 
+  -- ---- a number of some bytes, the last the highest; that of four
+  behind-nought : (w n at : ℕ) → eqb n 0 ≡ noughts s w (suc at) → eqb (n * 256 + getD s at 0) 0 ≡ noughts s (suc w) at
+  unfolding noughts
+  behind-nought w n at e = digit-nought n (getD s at 0) ∙ cond-swap (eqb n 0) (eqb (getD s at 0) 0) ∙ ap (λ (x : Bool). cond (eqb (getD s at 0) 0) x false) e
+
+  pub quad-nought : (at : ℕ) → eqb (numberOf (getD s (at + 3) 0 ∷ getD s (at + 2) 0 ∷ getD s (at + 1) 0 ∷ getD s at 0 ∷ [])) 0 ≡ noughts s 4 at
+  quad-nought at =
+      let e1 : at + 1 ≡ suc at = omega arith in
+      let e2 : at + 2 ≡ suc (suc at) = omega arith in
+      let e3 : at + 3 ≡ suc (suc (suc at)) = omega arith in
+      rw (e1, e2, e3) (behind-nought 3 _ at (behind-nought 2 _ (suc at) (behind-nought 1 _ (suc (suc at)) (sym (byte-nought (suc (suc (suc at))))))))
+
   -- ---- a number of some bytes; some numbers one after the other
   from-nought : (w n at : ℕ) → eqb (numberFrom n (part w at s)) 0 ≡ cond (eqb n 0) (noughts s w at) false
   unfolding noughts
   from-nought zero n at = sym (cond-true (eqb n 0))
   from-nought (suc w) n at = from-nought w (n * 256 + getD s at 0) (suc at) ∙ ap (λ (x : Bool). cond x (noughts s w (suc at)) false) (digit-nought n (getD s at 0)) ∙ sym (cond-cond (eqb n 0) (eqb (getD s at 0) 0) (noughts s w (suc at)))
 
-  pub number-nought : (w at : ℕ) → eqb (numberOf (part w at s)) 0 ≡ noughts s w at
+  number-nought : (w at : ℕ) → eqb (numberOf (part w at s)) 0 ≡ noughts s w at
   unfolding noughts
   number-nought zero at = refl
   number-nought (suc w) at = from-nought w (getD s at 0) (suc at)
@@ -115,7 +145,7 @@ module _ (s : List ℕ) where
       let line : allOf isNobody (lineFrom s (at + 2)) ≡ noughts s 16 (at + 1 + 1) = rw y (row-nought isNobody (placeFrom s) 1 nobody-nought 16 (at + 2)) in
       rw l (more-nought 1 17 at (more-nought 1 16 (at + 1) line))
 
-  -- ---- behind the first k of the pool's places, and of the messages
+  -- ---- behind the first k of the pool's places, of the messages, and of the places of a line
   pub pool-nought : (k : ℕ) → k ≤ 32 → allOf isFree (drop k (poolIn s)) ≡ noughts s (896 - (704 + k * 6)) (704 + k * 6)
   unfolding loadOf
   pool-nought k h =
@@ -127,6 +157,12 @@ module _ (s : List ℕ) where
   messages-nought k h =
       let z : (32 - k) * 11 ≡ 1410 - (1058 + k * 11) = omega arith in
       ap (allOf isNoMessage) (blocks-from (messageFrom s) 11 32 1058 k h) ∙ row-nought isNoMessage (messageFrom s) 11 no-message-nought (32 - k) (1058 + k * 11) ∙ ap (λ (n : ℕ). noughts s n (1058 + k * 11)) z
+
+  pub line-nought : (at k : ℕ) → k ≤ 16 → allOf isNobody (drop k (lineFrom s at)) ≡ noughts s (at + 16 - (at + k)) (at + k)
+  line-nought at k h =
+      let z : (16 - k) * 1 ≡ at + 16 - (at + k) = omega arith in
+      let y : at + k * 1 ≡ at + k = omega arith in
+      ap (allOf isNobody) (blocks-from (placeFrom s) 1 16 at k h) ∙ row-nought isNobody (placeFrom s) 1 nobody-nought (16 - k) (at + k * 1) ∙ rw (z, y) refl
 
   -- the subprograms, the mail
   pub subs-nought : allOf isFreeSub (subsIn s) ≡ noughts s 144 914

@@ -22,7 +22,7 @@ module _ (o : List ℕ) (at : ℕ) (bs : List ℕ) (h : at + length bs ≤ lengt
   unfolding written
   take-written = ap (take (at + length bs)) (sym (append-assoc (take at o) bs (drop (at + length bs) o))) ∙ take-at (take at o ++ bs) (drop (at + length bs) o) (at + length bs) head-length
 
-  drop-written : drop (at + length bs) (written o at bs) ≡ drop (at + length bs) o
+  pub drop-written : drop (at + length bs) (written o at bs) ≡ drop (at + length bs) o
   unfolding written
   drop-written = ap (drop (at + length bs)) (sym (append-assoc (take at o) bs (drop (at + length bs) o))) ∙ drop-at (take at o ++ bs) (drop (at + length bs) o) (at + length bs) head-length
 

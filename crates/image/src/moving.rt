@@ -1,27 +1,74 @@
-// Bytes moved within a lent buffer.
+// Bytes moved within a lent buffer, four at a time where there are as many: a Cortex-M3 then moves them at once.
 ghost use mathlib.Core.Path.{_≡_};
 ghost use Prim.Native.Nat.{_+_, _≤_};
 ghost use lib.ListN.{length, take, drop};
 ghost use Rattle.image.specs.Blocks.{written};
 
-// So many bytes from a place on move towards the front.
-pub(crate) fn move_up(b: &mut [u8], to: usize, from: usize, n: usize)
+// Four bytes are written where others stand. All are read first, as the two places may overlap.
+fn copy_four(b: &mut [u8], to: usize, from: usize)
+    requires { ⌜ (from + 4 ≤ length (now b)) × (to + 4 ≤ length (now b)) ⌝ }
+    ensures { λ _. ⌜ now (b .exit) ≡ written (now (b .entry)) to (take 4 (drop from (now (b .entry)))) ⌝ }
+{
+    let first = b[from];
+    let second = b[from + 1];
+    let third = b[from + 2];
+    let fourth = b[from + 3];
+    b[to] = first;
+    b[to + 1] = second;
+    b[to + 2] = third;
+    b[to + 3] = fourth;
+}
+
+// So many bytes from a place on move towards the front, four at a time.
+fn few_up(b: &mut [u8], to: usize, from: usize, n: usize)
     requires { ⌜ (to ≤ from) × (from + n ≤ length (now b)) ⌝ }
     ensures { λ _. ⌜ now (b .exit) ≡ written (now (b .entry)) to (take n (drop from (now (b .entry)))) ⌝ }
 {
     let mut i: usize = 0;
+    while 4 <= n - i {
+        copy_four(b, to + i, from + i);
+        i += 4;
+    }
     while i < n {
         b[to + i] = b[from + i];
         i += 1;
     }
 }
 
-// The same towards the end.
+// Sixteen of them.
+fn sixteen_up(b: &mut [u8], to: usize, from: usize)
+    requires { ⌜ (to ≤ from) × (from + 16 ≤ length (now b)) ⌝ }
+    ensures { λ _. ⌜ now (b .exit) ≡ written (now (b .entry)) to (take 16 (drop from (now (b .entry)))) ⌝ }
+{
+    copy_four(b, to, from);
+    copy_four(b, to + 4, from + 4);
+    copy_four(b, to + 8, from + 8);
+    copy_four(b, to + 12, from + 12);
+}
+
+// The same, sixteen in a turn: requests and messages that close up are many.
+pub(crate) fn move_up(b: &mut [u8], to: usize, from: usize, n: usize)
+    requires { ⌜ (to ≤ from) × (from + n ≤ length (now b)) ⌝ }
+    ensures { λ _. ⌜ now (b .exit) ≡ written (now (b .entry)) to (take n (drop from (now (b .entry)))) ⌝ }
+{
+    let mut i: usize = 0;
+    while 16 <= n - i {
+        sixteen_up(b, to + i, from + i);
+        i += 16;
+    }
+    few_up(b, to + i, from + i, n - i);
+}
+
+// So many bytes from a place on move towards the end.
 pub(crate) fn move_down(b: &mut [u8], to: usize, from: usize, n: usize)
     requires { ⌜ (from ≤ to) × (to + n ≤ length (now b)) ⌝ }
     ensures { λ _. ⌜ now (b .exit) ≡ written (now (b .entry)) to (take n (drop from (now (b .entry)))) ⌝ }
 {
     let mut i = n;
+    while 4 <= i {
+        i -= 4;
+        copy_four(b, to + i, from + i);
+    }
     while 0 < i {
         i -= 1;
         b[to + i] = b[from + i];
