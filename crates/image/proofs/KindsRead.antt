@@ -12,8 +12,8 @@ use Rattle.executive.specs.declared.Millis.{Millis}
 use Rattle.executive.specs.declared.State.{State}
 use Rattle.executive.specs.declared.Task.{Task}
 use Rattle.executive.specs.Lists.{_and_}
-use Rattle.executive.specs.Places.{taskAt, entryPlace}
-use Rattle.executive.specs.States.{stateKind, stateOf, isOf, isDormant, takes, takesFrom}
+use Rattle.executive.specs.Places.{noTask, taskAt, entryPlace}
+use Rattle.executive.specs.States.{stateKind, stateOf, awaitedOf, isOf, isDormant, waitsFor, takes, takesFrom}
 use Rattle.executive.specs.Check.{awaitsAny}
 use Rattle.executive.proofs.Assured.{at-next, at-no-place}
 use Rattle.image.specs.Image.{taskFrom, stateIn}
@@ -32,15 +32,16 @@ module _ (t : Millis) (m a : ℕ) where
       let l = leb-false k 9 e in
       ap (λ (x : State). eqb n (stateKind x)) (no-kind k t m a l) ∙ ne-eqb n 8 d ∙ sym (ne-eqb n k (λ z. omega (arith, l))))
 
-  any-sub : (k : ℕ) → awaitsAny (stateIn k t m a) ≡ (eqb 8 k and leb a 7)
+  -- of a wait for a subprogram whose number passes a test; the number of what is no kind does not pass it
+  sub-kind : (f : ℕ → Bool) (k : ℕ) → f 255 ≡ false → (isOf 8 (stateIn k t m a) and f (awaitedOf (stateIn k t m a))) ≡ (eqb 8 k and f a)
   unfolding stateIn stateOf
-  any-sub k =
+  sub-kind f k h =
       decide (eqb 8 k)
       (λ e. let q : k ≡ 8 = sym (eqb-true 8 k e) in rw q refl)
       (λ e.
       decide (leb k 9)
       (λ l. let w : isOf 8 (stateIn k t m a) ≡ eqb 8 k = ap (eqb 8) (kind-some k t m a (leb-true k 9 l)) in rw (w, e) refl)
-      (λ l. rw (no-kind k t m a (leb-false k 9 l), e) refl))
+      (λ l. rw (no-kind k t m a (leb-false k 9 l), e) h))
 
   takes-from : (c k : ℕ) → takes c (stateIn k t m a) ≡ (eqb 9 k && takesFrom a c)
   unfolding stateIn stateOf
@@ -85,13 +86,16 @@ module _ (s : List ℕ) where
     kind-there n l d = sym (is-kind _ _ _ n (getD s (i * 26 + 1) 0) l d) ∙ ap (λ (x : Task). isOf n (x .state)) (next-there i h)
 
     any-wait-there : (eqb 8 (getD s (i * 26 + 1) 0) and leb (getD s (898 + i) 0) 7) ≡ awaitsAny (taskAt (tasksIn s) (i + 1) .state)
-    any-wait-there = sym (any-sub _ _ (getD s (898 + i) 0) (getD s (i * 26 + 1) 0)) ∙ ap (λ (x : Task). awaitsAny (x .state)) (next-there i h)
+    any-wait-there = sym (sub-kind _ _ (getD s (898 + i) 0) (λ (n : ℕ). leb n 7) (getD s (i * 26 + 1) 0) refl) ∙ ap (λ (x : Task). awaitsAny (x .state)) (next-there i h)
 
     pub any-none : (8 ≡ getD s (i * 26 + 1) 0 → ⊥) → false ≡ awaitsAny (taskAt (tasksIn s) (i + 1) .state)
     any-none d = sym (ap (λ (b : Bool). b and leb (getD s (898 + i) 0) 7) (ne-eqb 8 (getD s (i * 26 + 1) 0) d)) ∙ any-wait-there
 
     pub any-one : 8 ≡ getD s (i * 26 + 1) 0 → leb (getD s (898 + i) 0) 7 ≡ awaitsAny (taskAt (tasksIn s) (i + 1) .state)
     any-one q = sym (ap (λ (b : Bool). b and leb (getD s (898 + i) 0) 7) (eq-eqb 8 (getD s (i * 26 + 1) 0) q)) ∙ any-wait-there
+
+    pub sub-there : (n : ℕ) → n < 8 → (eqb 8 (getD s (i * 26 + 1) 0) and eqb n (getD s (898 + i) 0)) ≡ waitsFor n (getD (tasksIn s) i noTask .state)
+    sub-there n l = sym (sub-kind _ _ (getD s (898 + i) 0) (eqb n) (getD s (i * 26 + 1) 0) (ne-eqb n 255 (λ z. omega arith))) ∙ ap (λ (x : Task). waitsFor n (x .state)) (task-there s i h)
 
     pub waiter-there : getD s (i * 26 + 25) 0 ≡ taskAt (tasksIn s) (i + 1) .«end_waiter» .0
     waiter-there =

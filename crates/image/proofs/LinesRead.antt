@@ -1,30 +1,34 @@
 -- The check of requests, lines and subprograms where they lie: what a turn of each loop says of the loaded table.
-use Prim.Native.Nat.{ℕ, _+_, _*_, _≤_, _<_}
+use Prim.Native.Nat.{ℕ, _+_, _*_, _^_, _≤_, _<_}
 use mathlib.Core.Path.{_≡_, refl, sym, ap, _∙_}
-use mathlib.Core.Bool.{Bool, true, false, not}
+use mathlib.Core.Bool.{Bool, true, false, not, cond}
 use mathlib.Core.List.{List}
 use native.Mathlib.Omega.{arith}
-use borrow.Author.Tests.{eq-eqb, ne-eqb, le-leb, lt-leb}
+use borrow.Author.Tests.{eqb-true, eqb-false, eq-eqb, ne-eqb, le-leb, lt-leb}
 use lib.Dec.{eqb}
-use lib.ListN.{length, getD, take, drop}
+use lib.Bits.{bitOr}
+use lib.ListN.{length, getD, set, replicate, take, drop, length-set, getD-replicate}
+use lib.Seq.{getD-set-same, getD-set-other}
 use Rattle.executive.specs.declared.Task.{Task}
 use Rattle.executive.specs.declared.Request.{Request}
 use Rattle.executive.specs.declared.Sub.{Sub}
 use Rattle.executive.specs.Lists.{one, sumOf, _and_, upTo, allOf}
 use Rattle.executive.specs.Places.{taskAt}
-use Rattle.executive.specs.States.{awaitStart, awaitEnd, awaitSub, isDormant, isAs, waitsFor}
+use Rattle.executive.specs.States.{awaitStart, awaitEnd, isDormant, waitsFor}
 use Rattle.executive.specs.WellFormed.{startsOf, endsOf, runsOf}
 use Rattle.executive.specs.Check.{requestInRange, requestFits, requestRight, waitersAt, awaitsAny, waitsForNone, isNobody, falls, exactAt, lineRight, holderRight, subInRange, subRight, heldRight}
 use Rattle.executive.proofs.Assured.{and-true, and-false-left, and-true-left, placeless, heldFrom, held-turn, held-not, free-right}
 use Rattle.image.specs.Image.{taskFrom, requestFrom, lineFrom, subFrom, loadOf}
 use Rattle.image.specs.Sound.{noughts, tasksIn, poolIn, subsIn, namings, namesIn, setOf, waitsAs, namesOther}
-use Rattle.image.specs.Marks.{passed, Marked, Walks}
+use Rattle.image.specs.Marks.{passed, Marked, Waiting, Walks}
 use Rattle.image.proofs.Loaded.{subs-size, line-size}
 use Rattle.image.proofs.Spans.{block-at}
 use Rattle.image.proofs.Rows.{blocks-first, sum-blocks}
 use Rattle.image.proofs.Noughts.{subs-nought}
 use Rattle.image.proofs.Named.{timesOf, waiters-named}
-use Rattle.image.proofs.Marked.{same-marks}
+use Rattle.image.proofs.Alike.{decide}
+use Rattle.image.proofs.KindsRead.{sub-there}
+use Rattle.image.proofs.Marked.{marks-first, marks-next, passed-at, same-marks}
 
 -- ---- a request that keeps the rules on it alone, by its target's state
 pub request-kept : (ts : List Task) (n : ℕ) (r : Request) (b : Bool) → requestFits n r ≡ true → isDormant (taskAt ts (r .target .0) .state) ≡ b → requestRight ts n r ≡ not b
@@ -71,6 +75,49 @@ waiters-by-names s count queued starts asked ends hc hq a b d =
     ∙ waiters-named (tasksIn s) (take queued (poolIn s)) count hc (namesIn s 6 queued 708) (namesIn s 6 queued 709) (namesIn s 26 16 25)
     (λ k. starts-named s k queued hq) (λ k. ends-named s k queued hq) (λ k. runs-named s k)
 
+-- ---- the sets of those who wait for the subprograms: of no tasks yet, and of one more
+pub waiting-none : (ts : List Task) → Waiting 0 (replicate 8 0) ts
+waiting-none ts = record { sized = refl; each = λ m h. rw (getD-replicate {A = ℕ} 8 m 0 0 h) (marks-first (passed (waitsFor m) ts)) }
+
+module _ (s : List ℕ) (k : ℕ) (h : k < 16) (ws : List ℕ) (w : Waiting k ws (tasksIn s)) where
+  abbrev kind : ℕ
+  kind = getD s (k * 26 + 1) 0
+
+  abbrev number : ℕ
+  number = getD s (898 + k) 0
+
+  next : (m : ℕ) → m < 8 → Marked (k + 1) (cond (eqb 8 kind and eqb m number) (bitOr (getD ws m 0) (2 ^ k)) (getD ws m 0)) (passed (waitsFor m) (tasksIn s))
+  next m l = marks-next k (getD ws m 0) (passed (waitsFor m) (tasksIn s)) (eqb 8 kind and eqb m number) (w .each m l) (passed-at (waitsFor m) (tasksIn s) k (eqb 8 kind and eqb m number) (sub-there s k h m l))
+
+  -- its state is of another kind
+  pub waiting-not : (8 ≡ getD s (k * 26 + 1) 0 → ⊥) → Waiting (k + 1) ws (tasksIn s)
+  waiting-not d = record { sized = w .sized; each = λ m l. rw (ne-eqb 8 kind d) at (next m l) }
+
+  -- it waits for what is no subprogram, or for one
+  module _ (q : 8 ≡ getD s (k * 26 + 1) 0) where
+    pub waiting-past : 8 ≤ getD s (898 + k) 0 → Waiting (k + 1) ws (tasksIn s)
+    waiting-past g = record { sized = w .sized; each = λ m l. rw (eq-eqb 8 kind q, ne-eqb m number (λ z. omega arith)) at (next m l) }
+
+    module _ (bit : ℕ) (b : bit ≡ 2 ^ k) (g : getD s (898 + k) 0 < 8) where
+      abbrev grown : List ℕ
+      grown = set ws number (bitOr (getD ws number 0) bit)
+
+      this : (m : ℕ) → m < 8 → eqb m number ≡ true → Marked (k + 1) (getD grown m 0) (passed (waitsFor m) (tasksIn s))
+      this m l e =
+          let z : m ≡ number = eqb-true m number e in
+          let p : getD grown m 0 ≡ bitOr (getD ws m 0) (2 ^ k) =
+          ap (λ (x : ℕ). getD grown x 0) z
+          ∙ getD-set-same ws number (bitOr (getD ws number 0) bit) 0 (omega (arith, g, w .sized))
+          ∙ ap (bitOr (getD ws number 0)) b
+          ∙ ap (λ (x : ℕ). bitOr (getD ws x 0) (2 ^ k)) (sym z) in
+          rw p (rw (eq-eqb 8 kind q, e) at (next m l))
+
+      that : (m : ℕ) → m < 8 → eqb m number ≡ false → Marked (k + 1) (getD grown m 0) (passed (waitsFor m) (tasksIn s))
+      that m l e = rw (getD-set-other ws number m (bitOr (getD ws number 0) bit) 0 (eqb-false m number e)) (rw (eq-eqb 8 kind q, e) at (next m l))
+
+      pub waiting-one : Waiting (k + 1) (set ws (getD s (898 + k) 0) (bitOr (getD ws (getD s (898 + k) 0) 0) bit)) (tasksIn s)
+      waiting-one = record { sized = length-set ws number (bitOr (getD ws number 0) bit) ∙ w .sized; each = λ m l. decide (eqb m number) (this m l) (that m l) }
+
 -- ---- the tests of a line, one after the other: r of its places are taken
 both-fail : (a b x : Bool) → (a and b) ≡ false → false ≡ (a and b and x)
 both-fail true b x e = and-false-left b x e
@@ -89,7 +136,7 @@ module _ (s : List ℕ) (m at r n : ℕ) (hr : r ≤ 16) (hn : n ≤ 16) where
         (both-fail (falls (tasksIn s) n 15 (take r (lineFrom s at))) (upTo (exactAt (waitsFor m) (tasksIn s) (take r (lineFrom s at))) n) (allOf isNobody (drop r (lineFrom s at))) (w .bad e (waitsFor m))))
 
     -- v is the set of those who wait
-    module _ (e : b ≡ true) (v : ℕ) (k : Marked n v (passed (isAs awaitSub m) (tasksIn s))) where
+    module _ (e : b ≡ true) (v : ℕ) (k : Marked n v (passed (waitsFor m) (tasksIn s))) where
       exact : (c : Bool) → eqb seen v ≡ c → upTo (exactAt (waitsFor m) (tasksIn s) (take r (lineFrom s at))) n ≡ c
       exact c q = sym (same-marks (waitsFor m) (tasksIn s) (take r (lineFrom s at)) n seen v (w .good e .1) k) ∙ q
 

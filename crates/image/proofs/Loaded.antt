@@ -87,7 +87,7 @@ module _ (s : List ℕ) where
     mail-there p h e = sym (block-at (mailFrom s) 9 16 1411 i noMail h ∙ ap (mailFrom s) (sym e))
 
     -- a place of any line, as of a subprogram's
-    pub in-line : (at p : ℕ) → i < 16 → p ≡ at + i → placeFrom s p ≡ getD (lineFrom s at) i nobody
+    in-line : (at p : ℕ) → i < 16 → p ≡ at + i → placeFrom s p ≡ getD (lineFrom s at) i nobody
     in-line at p h e = let z : at + i * 1 ≡ p = omega arith in sym (block-at (placeFrom s) 1 16 at i nobody h ∙ ap (placeFrom s) z)
 
     -- the same by what was read, the number x at p: of an alarm, and of a place of a line

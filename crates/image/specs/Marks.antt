@@ -4,6 +4,7 @@ use Prim.Native.Nat.{ℕ, suc, _<_, _^_}
 use mathlib.Core.Path.{_≡_}
 use mathlib.Core.Bool.{Bool, true, false}
 use mathlib.Core.List.{List}
+use lib.ListN.{length, getD}
 use Rattle.records.specs.declared.TaskNo.{TaskNo}
 use Rattle.executive.specs.declared.State.{State}
 use Rattle.executive.specs.declared.Task.{Task}
@@ -11,6 +12,7 @@ use Rattle.executive.specs.Numbers.{highest}
 use Rattle.executive.specs.Lists.{one, _and_, upTo}
 use Rattle.executive.specs.Places.{taskAt}
 use Rattle.executive.specs.Table.{items, levelsOf}
+use Rattle.executive.specs.States.{waitsFor}
 use Rattle.executive.specs.Flags.{isSet}
 use Rattle.executive.specs.Check.{falls, standsIn, exactAt}
 
@@ -25,6 +27,11 @@ passed f ts j = one (f (taskAt ts (suc j) .state))
 pub record Marked (n w : ℕ) (c : ℕ → ℕ) : Type 0 where
   pub low : w < 2 ^ n
   pub told : (j : ℕ) → j < n → c j ≡ one (isSet w j)
+
+-- these are the sets of those of n tasks who wait for each of the eight subprograms
+pub record Waiting (n : ℕ) (ws : List ℕ) (ts : List Task) : Type 0 where
+  pub sized : length ws ≡ 8
+  pub each : (m : ℕ) → m < 8 → Marked n (getD ws m 0) (passed (waitsFor m) ts)
 
 -- a walk over a line finds it right: it descends, nobody stands there twice, and it has these marks and this word of levels;
 -- or not right: whatever test its tasks are to pass, it is no line of those

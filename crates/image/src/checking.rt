@@ -50,12 +50,17 @@ pub(crate) fn is_image(bytes: &[u8]) -> bool
     if bytes.len() != IMAGE {
         return false;
     }
-    let mut i: usize = 0;
+    let mut i: u8 = 0;
     while i < 16 {
-        let at = i * 26;
+        let at = (i as usize) * 26;
         let time = numbers::long_in(bytes, at + 2);
         let mask = numbers::word_in(bytes, at + 10);
-        if !is_code(bytes[at + 1], Millis(time), mask, bytes[AWAITED + i]) {
+        if !is_code(
+            bytes[at + 1],
+            Millis(time),
+            mask,
+            bytes[AWAITED + i as usize],
+        ) {
             return false;
         }
         i += 1;

@@ -25,7 +25,7 @@ fn lists_right(b: &[u8], queued: u8, sent: u8, count: u8) -> bool
         and sentRight (loadOf (now (b .entry)) .tasks) count sent (loadOf (now (b .entry)) .rest .messages)
         and mailRight (loadOf (now (b .entry)) .tasks) count (loadOf (now (b .entry)) .rest .mail)) ⌝ }
 {
-    if !sound_pool::pool_right(b, queued as usize, count) {
+    if !sound_pool::pool_right(b, queued, count) {
         return false;
     }
     if !sound_subs::subs_right(b, count) {

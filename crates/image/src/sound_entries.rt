@@ -166,9 +166,9 @@ pub(crate) fn entries_right(b: &[u8], count: u8, time: Millis, flags: u32) -> bo
     requires { ⌜ (length (now b) ≡ imageLength) × (count ≤ 16) ⌝ }
     ensures { λ r. ⌜ r ≡ allOf (entryRight count (time .0) flags) (take count (loadOf (now (b .entry)) .tasks)) ⌝ }
 {
-    let mut i: usize = 0;
-    while i < count as usize {
-        if !entry_right(b, i, count, time, flags) {
+    let mut i: u8 = 0;
+    while i < count {
+        if !entry_right(b, i as usize, count, time, flags) {
             return false;
         }
         i += 1;
@@ -198,9 +198,9 @@ pub(crate) fn blank_past(b: &[u8], count: u8) -> bool
     requires { ⌜ (length (now b) ≡ imageLength) × (count ≤ 16) ⌝ }
     ensures { λ r. ⌜ r ≡ allOf isBlank (drop count (loadOf (now (b .entry)) .tasks)) ⌝ }
 {
-    let mut i = count as usize;
+    let mut i = count;
     while i < 16 {
-        if !is_blank(b, i) {
+        if !is_blank(b, i as usize) {
             return false;
         }
         i += 1;
@@ -213,9 +213,9 @@ pub(crate) fn all_alarms(b: &[u8], time: Millis) -> bool
     requires { ⌜ length (now b) ≡ imageLength ⌝ }
     ensures { λ r. ⌜ r ≡ allOf (alarmRight (time .0)) (loadOf (now (b .entry)) .rest .alarms) ⌝ }
 {
-    let mut i: usize = 0;
+    let mut i: u8 = 0;
     while i < 32 {
-        let at = numbers::long_in(b, ALARMS + i * 8);
+        let at = numbers::long_in(b, ALARMS + (i as usize) * 8);
         if !rules::alarm_right(Millis(at), time) {
             return false;
         }

@@ -32,13 +32,13 @@ pub(crate) fn is_idle(b: &[u8], k: u8) -> bool
 }
 
 // All queued requests keep the rules on one request, and name busy tasks only.
-fn requests_right(b: &[u8], queued: usize, count: u8) -> bool
+fn requests_right(b: &[u8], queued: u8, count: u8) -> bool
     requires { ⌜ (length (now b) ≡ imageLength) × (queued ≤ 32) ⌝ }
     ensures { λ r. ⌜ r ≡ allOf (requestRight (tasksIn (now (b .entry))) count) (take queued (poolIn (now (b .entry)))) ⌝ }
 {
-    let mut i: usize = 0;
+    let mut i: u8 = 0;
     while i < queued {
-        let q = loading::request_in(b, POOL + i * 6);
+        let q = loading::request_in(b, POOL + (i as usize) * 6);
         if !rules::request_fits(q, count) {
             return false;
         }
@@ -69,14 +69,14 @@ fn with(set: u32, k: u8, count: u8) -> u32
 }
 
 // A set with those whose numbers stand from a place on, each so many places after the one before.
-pub(crate) fn named(b: &[u8], set: u32, at: usize, step: usize, n: usize, count: u8) -> u32
+pub(crate) fn named(b: &[u8], set: u32, at: usize, step: usize, n: u8, count: u8) -> u32
     requires { ⌜ (length (now b) ≡ imageLength) × (count ≤ 16) × ((i : ℕ) → i < n → at + i * step < imageLength) ⌝ }
     ensures { λ r. ⌜ r ≡ namings count set (namesIn (now (b .entry)) step n at) ⌝ }
 {
     let mut all = set;
-    let mut i: usize = 0;
+    let mut i: u8 = 0;
     while i < n {
-        all = with(all, b[at + i * step], count);
+        all = with(all, b[at + (i as usize) * step], count);
         i += 1;
     }
     all
@@ -118,7 +118,7 @@ fn wait_as_named(b: &[u8], starts: u32, ends: u32, count: u8) -> bool
 }
 
 // Each task is named once in the way that it waits, else not at all.
-fn waiters_right(b: &[u8], queued: usize, count: u8) -> bool
+fn waiters_right(b: &[u8], queued: u8, count: u8) -> bool
     requires { ⌜ (length (now b) ≡ imageLength) × (queued ≤ 32) × (count ≤ 16) ⌝ }
     ensures { λ r. ⌜ r ≡ upTo (waitersAt (tasksIn (now (b .entry))) (take queued (poolIn (now (b .entry))))) count ⌝ }
 {
@@ -129,7 +129,7 @@ fn waiters_right(b: &[u8], queued: usize, count: u8) -> bool
 }
 
 // The requests, their waiters and those of the runs; the pool's free places are last and zero.
-pub(crate) fn pool_right(b: &[u8], queued: usize, count: u8) -> bool
+pub(crate) fn pool_right(b: &[u8], queued: u8, count: u8) -> bool
     requires { ⌜ (length (now b) ≡ imageLength) × (queued ≤ 32) × (count ≤ 16) ⌝ }
     ensures { λ r. ⌜ r ≡ askedRight (loadOf (now (b .entry)) .tasks) count queued (loadOf (now (b .entry)) .rest .pool) ⌝ }
 {
@@ -139,5 +139,5 @@ pub(crate) fn pool_right(b: &[u8], queued: usize, count: u8) -> bool
     if !waiters_right(b, queued, count) {
         return false;
     }
-    zeros::are_zero(b, POOL + queued * 6, LEVELS)
+    zeros::are_zero(b, POOL + (queued as usize) * 6, LEVELS)
 }

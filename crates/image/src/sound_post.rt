@@ -37,14 +37,14 @@ fn is_taken(b: &[u8], to: u8, sender: u8) -> bool
 }
 
 // Those that wait are in range and descend, and no addressee waits for one of them.
-fn letters_right(b: &[u8], sent: usize, count: u8) -> bool
+fn letters_right(b: &[u8], sent: u8, count: u8) -> bool
     requires { ⌜ (length (now b) ≡ imageLength) × (sent ≤ 32) ⌝ }
     ensures { λ r. ⌜ r ≡ lettersRight (tasksIn (now (b .entry))) count 15 (take sent (messagesIn (now (b .entry)))) ⌝ }
 {
     let mut p: u8 = 15;
-    let mut i: usize = 0;
+    let mut i: u8 = 0;
     while i < sent {
-        let m = loading::message_in(b, MESSAGES + i * 11);
+        let m = loading::message_in(b, MESSAGES + (i as usize) * 11);
         if !rules::message_in_range(m, count) {
             return false;
         }
@@ -68,11 +68,10 @@ pub(crate) fn sent_right(b: &[u8], sent: u8, count: u8) -> bool
     if 32 < sent {
         return false;
     }
-    let n = sent as usize;
-    if !letters_right(b, n, count) {
+    if !letters_right(b, sent, count) {
         return false;
     }
-    zeros::are_zero(b, MESSAGES + n * 11, SENT)
+    zeros::are_zero(b, MESSAGES + (sent as usize) * 11, SENT)
 }
 
 // The mail of the task after number i is in range, and a dormant one has none.
@@ -98,9 +97,9 @@ pub(crate) fn mail_right(b: &[u8], count: u8) -> bool
     if zeros::are_zero(b, MAIL, IMAGE) {
         return true;
     }
-    let mut i: usize = 0;
+    let mut i: u8 = 0;
     while i < 16 {
-        if !one_mail(b, i, count) {
+        if !one_mail(b, i as usize, count) {
             return false;
         }
         i += 1;

@@ -6,6 +6,7 @@ use crate::changes;
 use crate::moves;
 use crate::numbers;
 use crate::sound_entries;
+use crate::zeros;
 use executive::places;
 use executive::states;
 use records::TaskNo;
@@ -36,16 +37,16 @@ const WRONG: Walked = Walked {
 };
 
 // Walks over the first places of a line.
-pub(crate) fn walk(b: &[u8], at: usize, taken: usize, count: u8) -> Walked
+pub(crate) fn walk(b: &[u8], at: usize, taken: u8, count: u8) -> Walked
     requires { ⌜ (length (now b) ≡ imageLength) × (at + 16 ≤ imageLength) × (taken ≤ 16) × (count ≤ 16) ⌝ }
     ensures { λ r. ⌜ Walks (loadOf (now (b .entry)) .tasks) count (take taken (lineFrom (now (b .entry)) at)) (r .right) (r .seen) (r .word) ⌝ }
 {
     let mut p: u8 = 15;
     let mut seen: u32 = 0;
     let mut word: u16 = 0;
-    let mut i: usize = 0;
+    let mut i: u8 = 0;
     while i < taken {
-        let k = places::entry_place(TaskNo(b[at + i]));
+        let k = places::entry_place(TaskNo(b[at + i as usize]));
         if count as usize <= k {
             return WRONG;
         }
@@ -86,28 +87,21 @@ pub(crate) fn set_of(b: &[u8], count: u8, kind: u8, number: u8) -> u32
     ensures { λ r. ⌜ Marked count r (passed (isAs kind number) (loadOf (now (b .entry)) .tasks)) ⌝ }
 {
     let mut set: u32 = 0;
-    let mut k: usize = 0;
-    while k < count as usize {
-        let more = sound_entries::is_as(b, k, kind, number);
-        set = with_bit(set, k, more);
+    let mut k: u8 = 0;
+    while k < count {
+        let more = sound_entries::is_as(b, k as usize, kind, number);
+        set = with_bit(set, k as usize, more);
         k += 1;
     }
     set
 }
 
 // The free places of a line are zero.
-pub(crate) fn blank_from(b: &[u8], at: usize, taken: usize) -> bool
+pub(crate) fn blank_from(b: &[u8], at: usize, taken: u8) -> bool
     requires { ⌜ (length (now b) ≡ imageLength) × (at + 16 ≤ imageLength) × (taken ≤ 16) ⌝ }
     ensures { λ r. ⌜ r ≡ allOf isNobody (drop taken (lineFrom (now (b .entry)) at)) ⌝ }
 {
-    let mut i = taken;
-    while i < 16 {
-        if b[at + i] != 0 {
-            return false;
-        }
-        i += 1;
-    }
-    true
+    zeros::are_zero(b, at + taken as usize, at + 16)
 }
 
 // The ready queue holds exactly the ready tasks, once each, in descending priority; its free places are zero; the
@@ -122,8 +116,7 @@ pub(crate) fn queue_right(b: &[u8], ready: u8, count: u8) -> bool
     if 16 < ready {
         return false;
     }
-    let n = ready as usize;
-    let line = walk(b, QUEUE, n, count);
+    let line = walk(b, QUEUE, ready, count);
     if !line.right {
         return false;
     }
@@ -133,5 +126,5 @@ pub(crate) fn queue_right(b: &[u8], ready: u8, count: u8) -> bool
     if line.seen != set_of(b, count, states::READY, 0) {
         return false;
     }
-    blank_from(b, QUEUE, n)
+    blank_from(b, QUEUE, ready)
 }

@@ -66,6 +66,7 @@ all-alarms-spec =
     Inv-loop
     μ-loop
     loop-holds
+    (λ c. search needs)
     mul-long-in
     add-long-in
     long-in-requires

@@ -7,6 +7,7 @@ use Prim.Native.Nat.{_≤_, _-_}
 use lib.ListN.{drop, getD}
 use Rattle.executive.specs.Lists.{allOf}
 use borrow.Author.Tests.{not-true, not-false}
+use borrow.Author.Needs.{needs}
 use Rattle.image.proofs.Loaded.{tasks-size, read-turn, read-not, read-end}
 use Rattle.executive.specs.Places.{noTask}
 use Rattle.executive.specs.Check.{isBlank}
@@ -56,6 +57,7 @@ blank-past-spec =
     Inv-loop
     μ-loop
     loop-holds
+    (λ c. search needs)
     is-blank-requires
     returns
     add-i

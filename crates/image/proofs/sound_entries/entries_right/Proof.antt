@@ -7,6 +7,7 @@ use Prim.Native.Nat.{_≤_, _-_}
 use lib.ListN.{drop, take}
 use Rattle.executive.specs.Lists.{allOf}
 use borrow.Author.Tests.{not-true, not-false}
+use borrow.Author.Needs.{needs}
 use Rattle.image.proofs.Loaded.{tasks-size, read-first-turn, read-first-not, read-first-end}
 use Rattle.executive.specs.Places.{noTask}
 use Rattle.executive.specs.Check.{entryRight}
@@ -59,6 +60,7 @@ entries-right-spec =
     Inv-loop
     μ-loop
     loop-holds
+    (λ c. search needs)
     entry-right-requires
     returns
     add-i

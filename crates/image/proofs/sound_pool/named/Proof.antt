@@ -3,6 +3,7 @@ use Prim.Native.Nat.{_-_, _≤_}
 use mathlib.Core.Path.{_≡_, refl, sym, _∙_}
 use native.Mathlib.Omega.{arith}
 use denote.Ref.{now}
+use borrow.Author.Needs.{needs}
 use lib.ListN.{drop}
 use Rattle.image.specs.Sound.{namings, namesIn}
 use Rattle.image.proofs.Named.{names-turn, names-end}
@@ -55,6 +56,7 @@ named-spec =
     Inv-loop
     μ-loop
     loop-holds
+    (λ c. search needs)
     mul-with
     add-with
     shared-slice-read-with

@@ -79,6 +79,7 @@ requests-right-spec =
     Inv-loop
     μ-loop
     loop-holds
+    (λ c. search needs)
     mul-request-in
     add-request-in
     request-in-requires

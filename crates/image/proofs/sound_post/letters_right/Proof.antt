@@ -84,6 +84,7 @@ letters-right-spec =
     Inv-loop
     μ-loop
     loop-holds
+    (λ c. search needs)
     mul-message-in
     add-message-in
     message-in-requires

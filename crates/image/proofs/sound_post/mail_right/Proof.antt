@@ -5,6 +5,7 @@ use mathlib.Core.Bool.{true}
 use native.Mathlib.Omega.{arith}
 use denote.Ref.{now}
 use borrow.Author.Tests.{not-true, not-false}
+use borrow.Author.Needs.{needs}
 use Rattle.executive.specs.Lists.{upTo}
 use Rattle.executive.specs.Check.{mailRightAt}
 use Rattle.executive.proofs.Assured.{all-none, all-more, all-not}
@@ -58,6 +59,7 @@ mail-right-spec =
     are-zero-requires
     returns
     loop-holds
+    (λ c. search needs)
     one-mail-requires
     returns-2
     add-i

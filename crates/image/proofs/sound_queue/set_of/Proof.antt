@@ -2,6 +2,7 @@
 use mathlib.Core.Path.{_≡_}
 use native.Mathlib.Omega.{arith}
 use denote.Ref.{now}
+use borrow.Author.Needs.{needs}
 use Rattle.image.specs.Image.{loadOf}
 use Prim.Native.Nat.{_≤_, _-_}
 use Rattle.executive.specs.States.{isAs}
@@ -50,7 +51,9 @@ set-of-spec =
     Inv-loop
     μ-loop
     loop-holds
+    (λ c. search needs)
     is-as-requires
+    (λ c. search needs)
     with-bit-requires
     add-k
     loop-less

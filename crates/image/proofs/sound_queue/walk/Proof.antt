@@ -95,6 +95,7 @@ walk-spec =
     Inv-loop
     μ-loop
     loop-holds
+    (λ c. search needs)
     add-level
     shared-slice-read-level
     entry-place-requires

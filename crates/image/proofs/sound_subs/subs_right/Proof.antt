@@ -14,10 +14,10 @@ use Rattle.image.proofs.sound_subs.subs_right.Statement.{statement}
 use Rattle.image.proofs.sound_subs.subs_right.Tie as tie
 
 abbrev Inv-loop : tie.InvT-loop
-Inv-loop b count m₀ m = (m ≤ 8) × (heldFrom (tasksIn b) count (subsIn b) m ≡ heldRight (tasksIn b) count (subsIn b))
+Inv-loop b count sets m₀ m = (m ≤ 8) × (heldFrom (tasksIn b) count (subsIn b) m ≡ heldRight (tasksIn b) count (subsIn b))
 
 abbrev μ-loop : tie.MeasureT-loop
-μ-loop b count m₀ m = 8 - m
+μ-loop b count sets m₀ m = 8 - m
 
 are-zero-requires : tie.Need-are-zero-requires Inv-loop μ-loop
 are-zero-requires c κs = (omega arith, omega (arith, c .before .pre .0))
@@ -28,8 +28,11 @@ none-waits-requires c κs = c .before .before .before .pre
 returns : tie.Need-returns Inv-loop μ-loop
 returns c = c .none-waits .ensures ∙ all-free (now (c .before .before .before .before .args .b)) (c .before .before .before .before .args .count) (c .before .before .before .before .pre .1) (sym (c .before .before .are-zero .ensures) ∙ c .before .if1 .taken)
 
+waiting-sets-requires : tie.Need-waiting-sets-requires Inv-loop μ-loop
+waiting-sets-requires c κs = c .before .before .before .pre
+
 loop-holds : tie.Need-loop-holds Inv-loop μ-loop
-loop-holds c = (omega arith, held-first (tasksIn (now (c .before .before .before .args .b))) (c .before .before .before .args .count) (subsIn (now (c .before .before .before .args .b))))
+loop-holds c = (omega arith, held-first (tasksIn (now (c .before .before .before .before .args .b))) (c .before .before .before .before .args .count) (subsIn (now (c .before .before .before .before .args .b))))
 
 mul-sub-right : tie.Need-mul-sub-right Inv-loop μ-loop
 mul-sub-right c = omega (arith, c .loop-test .taken)
@@ -38,12 +41,13 @@ add-sub-right : tie.Need-add-sub-right Inv-loop μ-loop
 add-sub-right c = omega (arith, c .loop-test .taken)
 
 sub-right-requires : tie.Need-sub-right-requires Inv-loop μ-loop
-sub-right-requires c κs = (c .before .before .before .before .before .pre .0, omega (arith, c .loop-test .taken), c .before .before .before .before .before .pre .1)
+sub-right-requires c κs = (c .before .before .before .before .before .before .pre .0, omega (arith, c .loop-test .taken), c .before .before .before .before .before .before .pre .1)
 
 returns-2 : tie.Need-returns-2 Inv-loop μ-loop
 returns-2 c =
     let v = c .before .before .before .loop in
-    sym (sym (v .inv .1) ∙ held-off (now (c .before .before .before .before .before .before .before .args .b)) (c .before .before .before .before .before .before .before .args .count) (v .m) (c .before .before .loop-test .taken) (sym (c .before .sub-right .ensures) ∙ not-true _ (c .if2 .taken)))
+    let h = c .before .before .loop-test .taken in
+    sym (sym (v .inv .1) ∙ held-off (now (c .before .before .before .before .before .before .before .before .args .b)) (c .before .before .before .before .before .before .before .before .args .count) (v .m) h (sym (c .before .sub-right .ensures (v .m) (c .before .before .before .before .waiting-sets .ensures .each (v .m) h)) ∙ not-true _ (c .if2 .taken)))
 
 add-m : tie.Need-add-m Inv-loop μ-loop
 add-m c = omega (arith, c .before .before .loop-test .taken)
@@ -54,12 +58,13 @@ loop-less c = omega (arith, c .before .before .loop-test .taken)
 loop-again : tie.Need-loop-again Inv-loop μ-loop
 loop-again c =
     let v = c .before .before .before .loop in
-    (omega (arith, c .before .before .loop-test .taken), held-on (now (c .before .before .before .before .before .before .before .args .b)) (c .before .before .before .before .before .before .before .args .count) (v .m) (c .before .before .loop-test .taken) (sym (c .before .sub-right .ensures) ∙ not-false _ (c .if2 .left)) ∙ v .inv .1)
+    let h = c .before .before .loop-test .taken in
+    (omega (arith, h), held-on (now (c .before .before .before .before .before .before .before .before .args .b)) (c .before .before .before .before .before .before .before .before .args .count) (v .m) h (sym (c .before .sub-right .ensures (v .m) (c .before .before .before .before .waiting-sets .ensures .each (v .m) h)) ∙ not-false _ (c .if2 .left)) ∙ v .inv .1)
 
 returns-3 : tie.Need-returns-3 Inv-loop μ-loop
 returns-3 c =
     let v = c .before .loop in
-    sym (held-end (tasksIn (now (c .before .before .before .before .before .args .b))) (c .before .before .before .before .before .args .count) (subsIn (now (c .before .before .before .before .before .args .b))) (v .m) (omega (arith, c .loop-test .left, subs-size (now (c .before .before .before .before .before .args .b))))) ∙ v .inv .1
+    sym (held-end (tasksIn (now (c .before .before .before .before .before .before .args .b))) (c .before .before .before .before .before .before .args .count) (subsIn (now (c .before .before .before .before .before .before .args .b))) (v .m) (omega (arith, c .loop-test .left, subs-size (now (c .before .before .before .before .before .before .args .b))))) ∙ v .inv .1
 
 pub subs-right-spec : {M : Type 1} → statement M
 subs-right-spec =
@@ -70,10 +75,13 @@ subs-right-spec =
     are-zero-requires
     none-waits-requires
     returns
+    waiting-sets-requires
     loop-holds
     (λ c. search needs)
     mul-sub-right
     add-sub-right
+    (λ c. search needs)
+    (λ c. omega (arith, c .loop-test .taken))
     sub-right-requires
     returns-2
     add-m
