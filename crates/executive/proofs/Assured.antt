@@ -59,6 +59,7 @@ pub use Rattle.executive.proofs.queue.ArraysAreLists.{pool-length, requ
 pub use Rattle.executive.proofs.queue.InFlight.{relit-fit, begin-flying, fewer-flying, enter-flying, enters-flying, lit-flying, lit-on-the-way, depart-fit}
 pub use Rattle.executive.proofs.queue.InFlight.{admits-append, admits-rest, rest-same, beside, finds-beside, enters-beside, carry-still}
 pub use Rattle.executive.proofs.executing.Leaving.{left-gone, left-stays, depart-rest, unaltered, changed-neat, done-is}
+pub use Rattle.executive.proofs.Plans.Moves.{items-put}
 pub use Rattle.executive.proofs.levels.OnTheWay.{lit-same, lit-departed, lit-entered}
 pub use Rattle.executive.proofs.decisions.Listing.{blank, all-length, named-listed, listed-well, made-also, made-at, enter-turn, find-turn, enter-end}
 pub use Rattle.executive.proofs.decisions.ByTime.{quiet, woken-few, rising-few, sorted-length}

@@ -5,13 +5,13 @@ use Prim.{Unit}
 use mathlib.Core.Path.{_≡_, refl, sym, ap, _∙_}
 use mathlib.Core.List.{List, [], _∷_, _++_, append-assoc, append-nil}
 use native.Mathlib.Omega.{arith}
-use native.Mathlib.Nat.{add-zero, add-assoc, suc-mul, zero-mul, not-suc-le-zero, le-of-suc-le-suc}
-use lib.ListN.{length, getD, take, drop, set, length-append, length-drop, take-append-drop, List·getD-append}
+use native.Mathlib.Nat.{add-assoc, suc-mul, zero-mul, not-suc-le-zero, le-of-suc-le-suc}
+use lib.ListN.{length, getD, take, drop, set, length-append, length-drop, List·getD-append}
 use lib.Seq.{take-append-le, drop-append-le, take-append-add, drop-append-add, getD-append-add, take-at, drop-at, length-take-le, split-at, take-length, drop-length, take-add}
 use Rattle.executive.specs.Lists.{closedAt}
 use Rattle.executive.specs.Table.{slidOf}
 use Rattle.image.specs.Blocks.{row, Each, written}
-use Rattle.image.proofs.Spans.{Wide, written-then}
+use Rattle.image.proofs.Spans.{Wide}
 
 -- ---- in the first of two runs of bytes, and past it
 pub written-front : (m q : List ℕ) (at : ℕ) (bs : List ℕ) → at + length bs ≤ length m → written (m ++ q) at bs ≡ written m at bs ++ q
@@ -171,6 +171,13 @@ module _ {A : Type 0} (f : A → List ℕ) where
       (shift-down (row f (take i xs)) (row f m) (f (getD xs r d)) (row f (drop (suc r) xs)) (f k) a w c la lc lb lk
       ∙ ap (λ q. row f (take i xs) ++ (f k ++ q)) (sym (row-append m (drop (suc r) xs)))
       ∙ sym (row-append (take i xs) (k ∷ (m ++ drop (suc r) xs))))
+
+-- another element whose block is the same
+pub row-same : {A : Type 0} (f : A → List ℕ) (xs : List A) (i : ℕ) (d y : A) → f y ≡ f (getD xs i d) → row f xs ≡ row f (set xs i y)
+unfolding row
+row-same f [] i d y e = refl
+row-same f (x ∷ xs) zero d y e = ap (λ l. l ++ row f xs) (sym e)
+row-same f (x ∷ xs) (suc i) d y e = ap (λ l. f x ++ l) (row-same f xs i d y e)
 
 module _ {A : Type 0} (f : A → List ℕ) (w : ℕ) where
   -- bytes written into one block make it that of another element

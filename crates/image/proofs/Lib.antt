@@ -14,6 +14,7 @@ pub mod Shifts
 pub mod Parts
 pub mod ReadOff
 pub mod QueueLaid
+pub mod EntryLaid
 pub mod RestLaid
 pub mod DoneLaid
 pub mod LoadLaid

@@ -1,35 +1,30 @@
 -- Bytes written into one part of an image make the image of the table with that part changed: one law, over the part's
 -- number. Then each field, and what is read of one.
-use Prim.Native.Nat.{ℕ, zero, suc, _+_, _-_, _*_, _≤_, _<_}
-use mathlib.Core.Path.{_≡_, refl, sym, ap, ap₂, subst, _∙_}
-use mathlib.Core.List.{List, [], _∷_, _++_, append-nil}
+use Prim.Native.Nat.{ℕ, _+_, _-_, _*_, _≤_, _<_}
+use mathlib.Core.Path.{_≡_, refl, sym, ap, subst, _∙_}
+use mathlib.Core.List.{List, [], _∷_, append-nil}
 use native.Mathlib.Omega.{arith}
-use lib.ListN.{length, getD, take, drop, set, length-append, length-drop, length-set}
-use lib.Seq.{length-take-le, getD-set-same, getD-set-other, set-out}
-use Rattle.records.specs.declared.TaskNo.{TaskNo}
-use Rattle.records.specs.Numbers.{bytesIn, numberOf, part}
-use Rattle.records.proofs.Numbers.{number-back}
+use lib.ListN.{length, getD, take, drop, set, length-set}
+use Rattle.records.specs.Numbers.{bytesIn, part}
 use Rattle.executive.specs.declared.Millis.{Millis}
 use Rattle.executive.specs.declared.Task.{Task}
 use Rattle.executive.specs.declared.Request.{Request}
 use Rattle.executive.specs.declared.Sub.{Sub}
-use Rattle.executive.specs.declared.Message.{Message}
 use Rattle.executive.specs.declared.Mail.{Mail}
 use Rattle.executive.specs.declared.Table.{Table}
-use Rattle.executive.specs.Places.{nobody, never, noTask, noRequest, putAt}
+use Rattle.executive.specs.Places.{noTask}
 use Rattle.executive.specs.Table.{withRest}
-use Rattle.executive.specs.Rest.{remade, withSubs, withPost}
+use Rattle.executive.specs.Rest.{withPost}
 use Rattle.executive.specs.Subprograms.{noSub}
 use Rattle.executive.specs.Clock.{withAlarm, withClock}
 use Rattle.executive.specs.Flags.{withFlags}
-use Rattle.executive.specs.Messages.{noMessage, noMail}
 use Rattle.executive.specs.WellFormed.{Sizes}
-use Rattle.image.specs.Blocks.{row, Each, written}
-use Rattle.image.specs.Image.{taskBytes, placeBytes, headBytes, alarmBytes, requestBytes, levelsBytes, awaitedBytes, subBytes, messageBytes, sentBytes, mailBytes, subLength, imageOf}
-use Rattle.image.specs.Laid.{Laid, withTasks, withQueue, withReady, withLevels, withPool}
-use Rattle.image.proofs.Spans.{Wide, each-all, each-of, each-so, written-whole}
-use Rattle.image.proofs.Trips.{tasks-length, queue-length, alarms-length, pool-length, awaited-length, subs-length, messages-length, mail-length, sub-length}
-use Rattle.image.proofs.Joined.{joined, offset, Sized, join-put, join-slice, join-read, sized-put, sized-at, row-put, row-read, row-set}
+use Rattle.image.specs.Blocks.{row, written}
+use Rattle.image.specs.Image.{taskBytes, placeBytes, headBytes, alarmBytes, requestBytes, levelsBytes, awaitedBytes, subBytes, messageBytes, sentBytes, mailBytes, imageOf}
+use Rattle.image.specs.Laid.{Laid, withTasks, withReady, withLevels, withPool}
+use Rattle.image.proofs.Spans.{Wide, each-all}
+use Rattle.image.proofs.Trips.{tasks-length, queue-length, alarms-length, pool-length, awaited-length, subs-length, messages-length, mail-length}
+use Rattle.image.proofs.Joined.{joined, offset, Sized, join-put, join-slice, join-read, sized-put, row-put, row-set, row-same}
 
 -- ---- the parts of an image, in their order, and how long they are
 abbrev pub partsOf : Table → List (List ℕ)
@@ -82,9 +77,6 @@ wrote {s} {r} {u} e l = subst (λ (x : List ℕ). Laid x u) (sym e) l
 
 pub onto : {r : List ℕ} {u v : Table} → u ≡ v → Laid r u → Laid r v
 onto {r} {u} {v} e l = subst (Laid r) e l
-
-pub entry-same : {r : List ℕ} (t : Table) (k : ℕ) {x e : Task} → x ≡ e → Laid r (withTasks (putAt (t .tasks) k x) t) → Laid r (withTasks (putAt (t .tasks) k e) t)
-entry-same {r} t k p l = subst (λ (y : Task). Laid r (withTasks (putAt (t .tasks) k y) t)) p l
 
 -- ---- the general laws
 pub put-laid : (d : ℕ) {s : List ℕ} (t u : Table) → Laid s t → Sizes u → (at : ℕ) (bs : List ℕ) → d < 11 → at + length bs ≤ getD lengths d 0
@@ -163,30 +155,47 @@ module _ {s : List ℕ} (t : Table) (l : Laid s t) where
       (as-long _ (l .sizes) refl refl refl refl refl refl (length-set (t .rest .mail) i x)) (i * 9) (mailBytes x) (omega arith) (omega arith)
       (ap (set (partsOf t) 10) (row-set mailBytes 9 (t .rest .mail) (each-all (Wide mailBytes 9) (λ a. refl) (t .rest .mail)) i x (omega arith) refl))
 
-  -- a task's entry, and apart from it the number that its state waits for
-  pub entry-laid : (i : ℕ) (e : Task) {r q : List ℕ} → i < 16 → r ≡ written s (i * 26) (taskBytes e) → q ≡ written r (898 + i) (awaitedBytes e) → Laid q (withTasks (set (t .tasks) i e) t)
-  entry-laid i e {r} {q} h er eq =
-      let n = l .sizes .tasks in
-      let z : 0 + i * 26 ≡ i * 26 = omega arith in
-      let y : i * 1 ≡ i = omega arith in
-      let a : written (row taskBytes (t .tasks)) (i * 26) (taskBytes e) ≡ row taskBytes (set (t .tasks) i e) =
-      row-set taskBytes 26 (t .tasks) (each-all (Wide taskBytes 26) (λ x. refl) (t .tasks)) i e (omega arith) refl in
-      let b : written (row awaitedBytes (t .tasks)) i (awaitedBytes e) ≡ row awaitedBytes (set (t .tasks) i e) =
-      rw y at (row-set awaitedBytes 1 (t .tasks) (each-all (Wide awaitedBytes 1) (λ x. refl) (t .tasks)) i e (omega arith) refl) in
-      let m = put-made (put-made (laid-made t l) 0 (i * 26) (taskBytes e) (omega arith) (omega arith)) 6 i (awaitedBytes e) (omega arith) (omega arith) in
-      let f : q ≡ written (written s (0 + i * 26) (taskBytes e)) (898 + i) (awaitedBytes e) = eq ∙ ap (λ x. written x (898 + i) (awaitedBytes e)) (er ∙ ap (λ k. written s k (taskBytes e)) (sym z)) in
-      rw f
-      (made-laid (withTasks (set (t .tasks) i e) t) m (as-long _ (l .sizes) (length-set (t .tasks) i e) refl refl refl refl refl refl)
-      (λ j.
-      a j
-      ∷ row placeBytes (t .queue)
-      ∷ headBytes t
-      ∷ row alarmBytes (t .rest .alarms)
-      ∷ row requestBytes (t .rest .pool)
-      ∷ levelsBytes t
-      ∷ b j
-      ∷ row subBytes (t .rest .subs)
-      ∷ row messageBytes (t .rest .messages)
-      ∷ sentBytes (t .rest)
-      ∷ row mailBytes (t .rest .mail)
-      ∷ []))
+  -- some bytes of a task's entry
+  module _ (i : ℕ) (e : Task) (h : i < 16) (at : ℕ) (bs : List ℕ) (g : at + length bs ≤ 26) (w : written (taskBytes (getD (t .tasks) i noTask)) at bs ≡ taskBytes e) where
+    bytes-put : written (row taskBytes (t .tasks)) (i * 26 + at) bs ≡ row taskBytes (set (t .tasks) i e)
+    bytes-put = let n = l .sizes .tasks in row-put taskBytes 26 (t .tasks) (each-all (Wide taskBytes 26) (λ x. refl) (t .tasks)) i noTask e at bs (omega arith) g w
+
+    -- the parts of the table with that entry
+    parts-as : {x : List ℕ} → x ≡ row awaitedBytes (set (t .tasks) i e)
+        → set (set (partsOf t) 0 (written (row taskBytes (t .tasks)) (i * 26 + at) bs)) 6 x ≡ partsOf (withTasks (set (t .tasks) i e) t)
+    parts-as b =
+        λ j.
+        bytes-put j
+        ∷ row placeBytes (t .queue)
+        ∷ headBytes t
+        ∷ row alarmBytes (t .rest .alarms)
+        ∷ row requestBytes (t .rest .pool)
+        ∷ levelsBytes t
+        ∷ b j
+        ∷ row subBytes (t .rest .subs)
+        ∷ row messageBytes (t .rest .messages)
+        ∷ sentBytes (t .rest)
+        ∷ row mailBytes (t .rest .mail)
+        ∷ []
+
+    wrote-there : {r : List ℕ} → r ≡ written s (i * 26 + at) bs → r ≡ written s (0 + (i * 26 + at)) bs
+    wrote-there er = let z : 0 + (i * 26 + at) ≡ i * 26 + at = omega arith in er ∙ ap (λ k. written s k bs) (sym z)
+
+    -- where its state still waits for the same number, and with the number that it waits for now
+    pub entry-laid : {r : List ℕ} → awaitedBytes e ≡ awaitedBytes (getD (t .tasks) i noTask) → r ≡ written s (i * 26 + at) bs → Laid r (withTasks (set (t .tasks) i e) t)
+    entry-laid ea er =
+        let b : row awaitedBytes (t .tasks) ≡ row awaitedBytes (set (t .tasks) i e) = row-same awaitedBytes (t .tasks) i noTask e ea in
+        rw (wrote-there er)
+        (made-laid (withTasks (set (t .tasks) i e) t) (put-made (laid-made t l) 0 (i * 26 + at) bs (omega arith) (omega arith)) (as-long _ (l .sizes) (length-set (t .tasks) i e) refl refl refl refl refl refl)
+        (parts-as b))
+
+    pub entry-laid-as : {r q : List ℕ} → r ≡ written s (i * 26 + at) bs → q ≡ written r (898 + i) (awaitedBytes e) → Laid q (withTasks (set (t .tasks) i e) t)
+    entry-laid-as er eq =
+        let n = l .sizes .tasks in
+        let y : i * 1 ≡ i = omega arith in
+        let b : written (row awaitedBytes (t .tasks)) i (awaitedBytes e) ≡ row awaitedBytes (set (t .tasks) i e) =
+        rw y at (row-set awaitedBytes 1 (t .tasks) (each-all (Wide awaitedBytes 1) (λ x. refl) (t .tasks)) i e (omega arith) refl) in
+        let m = put-made (put-made (laid-made t l) 0 (i * 26 + at) bs (omega arith) (omega arith)) 6 i (awaitedBytes e) (omega arith) (omega arith) in
+        rw (eq ∙ ap (λ x. written x (898 + i) (awaitedBytes e)) (wrote-there er))
+        (made-laid (withTasks (set (t .tasks) i e) t) m (as-long _ (l .sizes) (length-set (t .tasks) i e) refl refl refl refl refl refl)
+        (parts-as b))

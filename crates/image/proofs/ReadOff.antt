@@ -1,20 +1,18 @@
 -- What is read of an image is what its table has: a place of the queue, a number that stands alone, an alarm, a task.
 use Prim.Native.Nat.{ℕ, zero, suc, _+_, _*_, _≤_, _<_}
 use mathlib.Core.Path.{_≡_, refl, sym, ap, ap₂, _∙_}
-use mathlib.Core.List.{List, [], _∷_, _++_}
+use mathlib.Core.List.{List, [], _∷_}
 use native.Mathlib.Omega.{arith}
 use native.Mathlib.Nat.{add-zero}
-use lib.ListN.{length, getD}
-use Rattle.records.specs.declared.TaskNo.{TaskNo}
+use lib.ListN.{getD}
 use Rattle.records.specs.Numbers.{numberOf, part, cut, total}
 use Rattle.records.proofs.Numbers.{number-back}
-use Rattle.executive.specs.declared.Millis.{Millis}
 use Rattle.executive.specs.declared.Task.{Task}
 use Rattle.executive.specs.declared.Table.{Table}
 use Rattle.executive.specs.Places.{nobody, never, noTask, taskAt, entryPlace}
 use Rattle.executive.specs.States.{stateKind, timeOf, maskOf, awaitedOf}
 use Rattle.executive.proofs.Assured.{at-place, at-no-place}
-use Rattle.image.specs.Blocks.{row, Each}
+use Rattle.image.specs.Blocks.{row}
 use Rattle.image.specs.Image.{taskBytes, placeBytes, headBytes, alarmBytes, awaitedBytes, taskWidths, awaitedWidths, taskNumbers, awaitedNumbers, taskOf, taskFrom}
 use Rattle.image.specs.Laid.{Laid}
 use Rattle.image.proofs.Spans.{Wide, each-all}
@@ -108,6 +106,11 @@ module _ {s : List ℕ} (t : Table) (l : Laid s t) where
       ∙ read-laid 0 t l (i * 26 + at) (omega arith) (omega arith)
       ∙ row-read taskBytes 26 (t .tasks) (each-all (Wide taskBytes 26) (λ x. refl) (t .tasks)) i noTask at (omega arith) g
 
+  pub entry-part : (n at i : ℕ) → i < 16 → at + n ≤ 26 → part n (i * 26 + at) s ≡ part n at (taskBytes (getD (t .tasks) i noTask))
+  entry-part n at i h g =
+      part-agree n (i * 26 + at) at s (taskBytes (getD (t .tasks) i noTask))
+      (λ j k. let z : i * 26 + at + j ≡ i * 26 + (at + j) = omega arith in ap (λ (m : ℕ). getD s m 0) z ∙ entry-read i (at + j) h (omega arith))
+
   awaited-read : (i : ℕ) → i < 16 → getD s (898 + i) 0 ≡ awaitedOf (getD (t .tasks) i noTask .state)
   awaited-read i h =
       let n = l .sizes .tasks in
@@ -141,6 +144,15 @@ module _ {s : List ℕ} (t : Table) (l : Laid s t) where
 
     pub level-of : k < 16 → getD s (k * 26 + 14) 0 ≡ taskAt (t .tasks) n .priority
     level-of h = entry-read k 14 h (omega arith) ∙ ap (λ (x : Task). x .priority) (sym at-entry)
+
+    pub argument-of : k < 16 → numberOf (part 2 (k * 26 + 15) s) ≡ taskAt (t .tasks) n .argument
+    argument-of h = ap numberOf (entry-part 2 15 k h (omega arith)) ∙ number-back 1 (getD (t .tasks) k noTask .argument) ∙ ap (λ (x : Task). x .argument) (sym at-entry)
+
+    pub start-of : k < 16 → numberOf (part 8 (k * 26 + 17) s) ≡ taskAt (t .tasks) n .start .0
+    start-of h = ap numberOf (entry-part 8 17 k h (omega arith)) ∙ number-back 7 (getD (t .tasks) k noTask .start .0) ∙ ap (λ (x : Task). x .start .0) (sym at-entry)
+
+    pub waiter-of : k < 16 → getD s (k * 26 + 25) 0 ≡ taskAt (t .tasks) n .«end_waiter» .0
+    waiter-of h = entry-read k 25 h (omega arith) ∙ ap (λ (x : Task). x .«end_waiter» .0) (sym at-entry)
 
     pub level-none : 15 < k → 0 ≡ taskAt (t .tasks) n .priority
     level-none h = ap (λ (x : Task). x .priority) (entry-none h)

@@ -1,6 +1,6 @@
 -- What each kind decides, from what was read of an image: refused or done, as its sheet says.
-use Prim.Native.Nat.{ℕ, _+_, _/_, _%_, _≤_, _<_}
-use mathlib.Core.Path.{_≡_, refl, sym, ap, subst, _∙_}
+use Prim.Native.Nat.{ℕ, _/_, _%_, _≤_, _<_}
+use mathlib.Core.Path.{_≡_, refl, sym, ap, _∙_}
 use mathlib.Core.Bool.{Bool, true, false, not, cond, _||_}
 use mathlib.Core.List.{List}
 use mathlib.Core.Logic.{_≢_}
@@ -14,13 +14,13 @@ use Rattle.records.specs.declared.SubNo.{SubNo}
 use Rattle.records.specs.declared.Text.{Text}
 use Rattle.records.specs.declared.Call.the-variants as call
 use Rattle.executive.specs.declared.State.the-variants as state
+use Rattle.executive.specs.declared.Millis.{Millis}
 use Rattle.executive.specs.declared.Task.{Task}
 use Rattle.executive.specs.declared.Request.{Request}
-use Rattle.executive.specs.declared.Sub.{Sub}
 use Rattle.executive.specs.declared.Rest.{Rest}
 use Rattle.executive.specs.declared.decisions.Leave.the-variants as leave
 use Rattle.executive.specs.declared.decisions.Change.the-variants as change
-use Rattle.executive.specs.Places.{nobody, noRequest, taskAt}
+use Rattle.executive.specs.Places.{noRequest, taskAt}
 use Rattle.executive.specs.Pool.{requests, placeOf}
 use Rattle.executive.specs.Table.{headOf, aheadOf}
 use Rattle.executive.specs.Numbers.{endOfTime, lastUnit, mostQueued}
@@ -43,36 +43,37 @@ module _ (ts : List Task) (r : Rest) (c : TaskNo) where
     unfolding decided
     end-held h = rw (← eb, h) refl
 
-    module _ (h : b ≡ false) (e : Task) (ee : e ≡ taskAt ts (c .0)) (n i : ℕ) (en : n ≡ r .queued) (ei : i ≡ placeOf (c .0) (take n (r .pool))) (z : length (r .pool) ≡ 32) (q : r .queued ≤ 32) where
+    module _ (h : b ≡ false) (w : TaskNo) (ew : w ≡ taskAt ts (c .0) .«end_waiter») (n i : ℕ) (en : n ≡ r .queued) (ei : i ≡ placeOf (c .0) (take n (r .pool))) (z : length (r .pool) ≡ 32) (q : r .queued ≤ 32) where
       many : length (requests r) ≡ r .queued
       many = length-take-le (r .queued) (r .pool) (omega arith)
 
       first : placeOf (c .0) (requests r) ≡ i
       first = sym (ei ∙ ap (λ k. placeOf (c .0) (take k (r .pool))) en)
 
-      pub end-anew : i < n → (x : Request) → x ≡ getD (r .pool) i noRequest → doing (onlyZ false) (anewDeed (e .«end_waiter») c x i) ≡ decided ts r c call.Terminate
+      pub end-anew : i < n → (x : Request) → x ≡ getD (r .pool) i noRequest → doing (onlyZ false) (anewDeed w c x i) ≡ decided ts r c call.Terminate
       unfolding decided terminateDeed
       end-anew l x ex =
           let m : length (requests r) ≡ r .queued = many in
           let y : ltb i (length (requests r)) ≡ true = lt-ltb i (length (requests r)) (omega (arith, m, en, l)) in
           let g : getD (requests r) i noRequest ≡ x = getD-take (r .queued) (r .pool) i noRequest (omega (arith, en, l)) ∙ sym ex in
-          rw (← eb, h, first, y, g, ee) refl
+          rw (← eb, h, first, y, g, ew) refl
 
-      pub end-none : n ≤ i → doing (onlyZ false) (sleepDeed (e .«end_waiter») c) ≡ decided ts r c call.Terminate
+      pub end-none : n ≤ i → doing (onlyZ false) (sleepDeed w c) ≡ decided ts r c call.Terminate
       unfolding decided terminateDeed
       end-none l =
           let m : length (requests r) ≡ r .queued = many in
           let y : ltb i (length (requests r)) ≡ false = le-ltb i (length (requests r)) (omega (arith, m, en, l)) in
-          rw (← eb, h, first, y, ee) refl
+          rw (← eb, h, first, y, ew) refl
 
   -- ---- 01 to 05, 0A: an entry e, the clock x, what the rest counts
-  pub restarted : (e : Task) (x p n : ℕ) (b : Bool) → e ≡ taskAt ts (c .0) → x ≡ r .clock .0 → b ≡ holdsAnyOf c (r .subs) → r .clock .0 ≤ endOfTime
+  pub restarted : (m : Millis) (w : TaskNo) (x p n : ℕ) (b : Bool) → m ≡ taskAt ts (c .0) .start → w ≡ taskAt ts (c .0) .«end_waiter» → x ≡ r .clock .0 → b ≡ holdsAnyOf c (r .subs) → r .clock .0 ≤ endOfTime
       → taskAt ts (c .0) .start .0 ≤ r .clock .0
-      → cond (ltb endOfTime x || ltb x (e .start .0)) (refusing 1)
-      (cond (eqb (p / 64 % 4) 3) (refusing 6) (cond b (refusing 15) (doing (restartMarks (e .start) (record { 0 = x }) p n) (restartDeed c e (record { 0 = x }) p n))))
+      → cond (ltb endOfTime x || ltb x (m .0)) (refusing 1)
+      (cond (eqb (p / 64 % 4) 3) (refusing 6) (cond b (refusing 15) (doing (restartMarks m (record { 0 = x }) p n)
+      (restartDeed c (record { own = 0; state = state.Dormant; priority = 0; argument = 0; start = m; «end_waiter» = w }) (record { 0 = x }) p n))))
       ≡ decided ts r c (call.Restart p n)
-  unfolding decided
-  restarted e x p n b ee ex eb h g = rw (ee, ex, eb, le-ltb endOfTime (r .clock .0) h, le-ltb (r .clock .0) (taskAt ts (c .0) .start .0) g) refl
+  unfolding decided restartDeed
+  restarted m w x p n b em ew ex eb h g = rw (em, ew, ex, eb, le-ltb endOfTime (r .clock .0) h, le-ltb (r .clock .0) (taskAt ts (c .0) .start .0) g) refl
 
   pub paused : (x u n : ℕ) → x ≡ r .clock .0 → r .clock .0 ≤ endOfTime
       → cond (ltb endOfTime x) (refusing 1) (cond (ltb lastUnit u) (refusing 6) (doing (onlyZ (eqb n 0)) (pauseDeed (record { 0 = x }) u n))) ≡ decided ts r c (call.Pause u n)

@@ -1,11 +1,11 @@
 -- A step on the bytes of an image is the executive's: what its decision says, refused or done.
-use Prim.Native.Nat.{ℕ, _+_, _≤_, _<_}
+use Prim.Native.Nat.{ℕ, _+_, _<_}
 use mathlib.Core.Path.{_≡_, refl, sym, ap, subst, _∙_}
 use mathlib.Core.Bool.{Bool, true, false, cond}
 use mathlib.Core.List.{List, [], _∷_}
 use mathlib.Core.Logic.{_≢_}
 use native.Mathlib.Omega.{arith}
-use borrow.Author.Tests.{eq-eqb, ne-eqb, eqb-true, eqb-false}
+use borrow.Author.Tests.{eq-eqb, ne-eqb, eqb-true}
 use lib.Dec.{eqb}
 use lib.ListN.{length, getD, take}
 use Rattle.records.specs.declared.TaskNo.{TaskNo}
@@ -13,16 +13,15 @@ use Rattle.executive.specs.declared.Sub.{Sub}
 use Rattle.executive.specs.declared.Table.{Table}
 use Rattle.executive.specs.declared.Answer.{Answer}
 use Rattle.executive.specs.declared.Marks.{Marks}
-use Rattle.executive.specs.declared.Task.{Task}
 use Rattle.executive.specs.declared.Outcome.{Outcome}
 use Rattle.executive.specs.declared.decisions.Decision.{Decision}
 use Rattle.executive.specs.Places.{nobody, taskAt}
 use Rattle.executive.specs.Subprograms.{noSub}
 use Rattle.executive.specs.Plans.{caller}
 use Rattle.executive.specs.Lists.{_and_, pad}
-use Rattle.executive.specs.Check.{queueRight, allButQueue, isWellFormed, Checked}
+use Rattle.executive.specs.Check.{queueRight, allButQueue, isWellFormed}
 use Rattle.executive.specs.WellFormed.{WellFormed, Sizes}
-use Rattle.executive.specs.Table.{Join, headOf, begin, joins, join, enterAllInFlight, enterInFlight, apply, applyInFlight, depart, relit, withRest}
+use Rattle.executive.specs.Table.{Join, headOf, joins, join, enterAllInFlight, enterInFlight, apply, applyInFlight, depart, relit, withRest}
 use Rattle.executive.specs.Decisions.{meant, Doable, refusing}
 use Rattle.executive.specs.Deciding.{callerRight, decisionIn, decisionFor}
 use Rattle.executive.specs.Step.{noTable, answerOf, hasV, refused, stepOf}
@@ -30,7 +29,7 @@ use Rattle.executive.specs.Sheet.{marks}
 use Rattle.executive.specs.Promises.ByDecision.{done, enacted}
 use Rattle.executive.proofs.Assured.{false-not-true, demands, decided, by-decision, queue-right, can-be-done, head-taken}
 use Rattle.image.specs.Blocks.{blocks}
-use Rattle.image.specs.Image.{imageLength, imageOf, loadOf, isImage, taskFrom, placeFrom, alarmFrom, requestFrom, subFrom, messageFrom, mailFrom}
+use Rattle.image.specs.Image.{imageOf, loadOf, isImage, taskFrom, placeFrom, alarmFrom, requestFrom, subFrom, messageFrom, mailFrom}
 use Rattle.image.specs.EntryPoints.{answerTo, imageAfter, Holds}
 use Rattle.image.specs.Laid.{Laid}
 use Rattle.image.proofs.Spans.{each-or, length-blocks}
@@ -201,11 +200,11 @@ module _ (s k : List ℕ) (i : isImage s ≡ true) where
   doable-is d w ed h = subst (λ (x : Decision). Doable (x .deed) (loadOf s)) (sym ed) (can-do (loadOf s) k w (ap (λ (x : Decision). x .number) (sym ed) ∙ h))
 
 -- ---- an answer from a table's numbers
-pub answer-is : (t : Table) (n : ℕ) (m : Marks) (w : ℕ) (k : TaskNo) (e : Task) → k ≡ caller t → e ≡ taskAt (t .tasks) (k .0)
-    → record { number = n; z = m .z; v = m .v; c = m .c; active = k; argument = e .argument; skipped = m .skipped; walked = w; sender = m .sender; text = m .text } ≡ answerOf n m w t
-answer-is t n m w k e ek ee =
-    let f : e ≡ taskAt (t .tasks) (caller t .0) = ee ∙ ap (λ (x : TaskNo). taskAt (t .tasks) (x .0)) ek in
-    λ j. record { number = n; z = m .z; v = m .v; c = m .c; active = ek j; argument = f j .argument; skipped = m .skipped; walked = w; sender = m .sender; text = m .text }
+pub answer-is : (t : Table) (n : ℕ) (m : Marks) (w : ℕ) (k : TaskNo) (x : ℕ) → k ≡ caller t → x ≡ taskAt (t .tasks) (k .0) .argument
+    → record { number = n; z = m .z; v = m .v; c = m .c; active = k; argument = x; skipped = m .skipped; walked = w; sender = m .sender; text = m .text } ≡ answerOf n m w t
+answer-is t n m w k x ek ex =
+    let f : x ≡ taskAt (t .tasks) (caller t .0) .argument = ex ∙ ap (λ (y : TaskNo). taskAt (t .tasks) (y .0) .argument) ek in
+    λ j. record { number = n; z = m .z; v = m .v; c = m .c; active = ek j; argument = f j; skipped = m .skipped; walked = w; sender = m .sender; text = m .text }
 
 pub refused-one : (t : Table) (n : ℕ) → n ≡ 1 → noTable ≡ refused t n .answer
 unfolding refused

@@ -4,6 +4,7 @@ use mathlib.Core.Path.{_≡_}
 use mathlib.Core.List.{List}
 use lib.ListN.{length, getD}
 use Rattle.records.specs.declared.TaskNo.{TaskNo}
+use Rattle.executive.specs.declared.Millis.{Millis}
 use Rattle.executive.specs.declared.Task.{Task}
 use Rattle.executive.specs.declared.Request.{Request}
 use Rattle.executive.specs.declared.Table.{Table}
@@ -35,6 +36,16 @@ withReady n t = record { tasks = t .tasks; queue = t .queue; ready = n; levels =
 
 abbrev pub withLevels : ℕ → Table → Table
 withLevels n t = record { tasks = t .tasks; queue = t .queue; ready = t .ready; levels = n; rest = t .rest }
+
+-- ---- an entry with one part changed: its run, of which a request has priority, argument and waiter; one field of it
+abbrev pub withRun : Request → Millis → Task → Task
+withRun q m e = record { own = e .own; state = e .state; priority = q .priority; argument = q .argument; start = m; «end_waiter» = q .«end_waiter» }
+
+abbrev pub withStart : Millis → Task → Task
+withStart m e = record { own = e .own; state = e .state; priority = e .priority; argument = e .argument; start = m; «end_waiter» = e .«end_waiter» }
+
+abbrev pub withWaiter : TaskNo → Task → Task
+withWaiter w e = record { own = e .own; state = e .state; priority = e .priority; argument = e .argument; start = e .start; «end_waiter» = w }
 
 abbrev pub withPool : List Request → ℕ → Table → Table
 withPool p n t = withRest (remade (t .rest .clock) (t .rest .flags) (t .rest .alarms) p n (t .rest)) t

@@ -51,12 +51,11 @@ fn enter_all(b: &mut [u8], list: Entrants, q: Request, time: Millis) -> u8
     if 16 < list.count {
         return 0;
     }
-    let entrants = list.places;
-    let n = list.count as usize;
+    let n = list.count;
     let mut walked: u8 = 0;
-    let mut i: usize = 0;
+    let mut i: u8 = 0;
     while i < n {
-        let x = entrants[i];
+        let x = list.places[i as usize];
         let k = x.who;
         let how = x.how;
         walked = walked + moves::enter(b, k, how, q, time);

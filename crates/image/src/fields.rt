@@ -1,6 +1,5 @@
 // One field of the table set, or read, in the lent bytes of its image.
 use crate::ALARMS;
-use crate::AWAITED;
 use crate::LEVELS;
 use crate::MAIL;
 use crate::SENT;
@@ -18,14 +17,14 @@ ghost use Prim.Native.Nat.{_<_, _≤_};
 ghost use lib.ListN.{length, set};
 ghost use Rattle.executive.specs.declared.Table.{Table};
 ghost use Rattle.executive.specs.Numbers.{flagCount};
-ghost use Rattle.executive.specs.Places.{entryPlace, taskAt, putAt};
+ghost use Rattle.executive.specs.Places.{entryPlace, taskAt};
 ghost use Rattle.executive.specs.Table.{withRest};
 ghost use Rattle.executive.specs.Rest.{withPost};
 ghost use Rattle.executive.specs.Clock.{withAlarm, withClock};
 ghost use Rattle.executive.specs.Flags.{withFlags};
 ghost use Rattle.executive.specs.Messages.{withMail};
 ghost use Rattle.image.specs.Image.{imageLength};
-ghost use Rattle.image.specs.Laid.{Laid, withTasks, withReady, withLevels, withPool};
+ghost use Rattle.image.specs.Laid.{Laid, withReady, withLevels, withPool};
 
 // The blank entry.
 const NO_TASK: Task = Task {
@@ -126,14 +125,14 @@ pub(crate) fn place(k: u8) -> usize
 }
 
 // A number of places that are taken, of so many that there are.
-pub(crate) fn at_most(n: u8, most: u8) -> usize
+pub(crate) fn at_most(n: u8, most: u8) -> u8
     ensures { λ r. ⌜ r ≤ most ⌝ }
     ensures { λ r. ⌜ (n ≤ most → r ≡ n) ⌝ }
 {
     if most < n {
-        return most as usize;
+        return most;
     }
-    n as usize
+    n
 }
 
 // The mail of a task; a number that names no task has none.
@@ -146,19 +145,6 @@ pub(crate) fn set_mail(b: &mut [u8], k: TaskNo, mail: Mail)
         return;
     }
     storing::put_mail(b, MAIL + i * 9, mail);
-}
-
-// The entry of a task; a number that names no task changes nothing.
-pub(crate) fn set_entry(b: &mut [u8], k: TaskNo, e: Task)
-    requires { ⌜ length (now b) ≡ imageLength ⌝ }
-    ensures { λ _. ⌜ ((t : Table) → Laid (now (b .entry)) t → Laid (now (b .exit)) (withTasks (putAt (t .tasks) (k .0) e) t)) ⌝ }
-{
-    let i = place(k.0);
-    if 15 < i {
-        return;
-    }
-    storing::put_task(b, i * 26, e);
-    storing::put_awaited(b, AWAITED + i, e);
 }
 
 // The entry of a task, read; a blank one for a number that names no task.
@@ -183,4 +169,38 @@ pub(crate) fn level(b: &[u8], k: u8) -> u8
         return 0;
     }
     b[i * 26 + 14]
+}
+
+// Its argument, its last scheduled start, who waits for its end.
+pub(crate) fn argument(b: &[u8], k: TaskNo) -> u16
+    requires { ⌜ length (now b) ≡ imageLength ⌝ }
+    ensures { λ r. ⌜ ((t : Table) → Laid (now (b .entry)) t → r ≡ taskAt (t .tasks) (k .0) .argument) ⌝ }
+{
+    let i = place(k.0);
+    if 15 < i {
+        return 0;
+    }
+    numbers::pair_in(b, i * 26 + 15)
+}
+
+pub(crate) fn start(b: &[u8], k: TaskNo) -> Millis
+    requires { ⌜ length (now b) ≡ imageLength ⌝ }
+    ensures { λ r. ⌜ ((t : Table) → Laid (now (b .entry)) t → r ≡ taskAt (t .tasks) (k .0) .start) ⌝ }
+{
+    let i = place(k.0);
+    if 15 < i {
+        return Millis(0);
+    }
+    Millis(numbers::long_in(b, i * 26 + 17))
+}
+
+pub(crate) fn end_waiter(b: &[u8], k: TaskNo) -> TaskNo
+    requires { ⌜ length (now b) ≡ imageLength ⌝ }
+    ensures { λ r. ⌜ ((t : Table) → Laid (now (b .entry)) t → r ≡ taskAt (t .tasks) (k .0) .«end_waiter») ⌝ }
+{
+    let i = place(k.0);
+    if 15 < i {
+        return TaskNo(0);
+    }
+    TaskNo(b[i * 26 + 25])
 }

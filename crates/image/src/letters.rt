@@ -128,7 +128,7 @@ pub(crate) fn receive(b: &[u8], c: TaskNo, s: TaskNo) -> Decision
     if b[fields::COUNT] < s.0 {
         return decisions::refused(6);
     }
-    let n = fields::at_most(b[SENT], 32);
+    let n = fields::at_most(b[SENT], 32) as usize;
     let i = first_fit(b, n, c, s);
     let m = message_at(b, i, n);
     let marks = messages::handing(m);

@@ -14,7 +14,6 @@ mod checking;
 mod deciding;
 mod deeds;
 mod doing;
-mod entrants;
 mod entries;
 mod fields;
 mod intervals;

@@ -45,7 +45,10 @@ pub(crate) fn enter(b: &[u8], c: TaskNo, m: SubNo) -> Decision
     let n = fields::at_most(b[base + 1], 16);
     let p = fields::level(b, c.0);
     let at = moves::ahead(b, base + 2, n, p);
-    let waits = decisions::alone(Leave::As(State::AwaitSub(m)), Change::Lined(m, c, at));
+    let waits = decisions::alone(
+        Leave::As(State::AwaitSub(m)),
+        Change::Lined(m, c, at as usize),
+    );
     decisions::accepted(marks, waits)
 }
 

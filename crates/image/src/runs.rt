@@ -6,6 +6,8 @@ use crate::fields;
 use crate::loading;
 use crate::numbers;
 use executive::Millis;
+use executive::State;
+use executive::Task;
 use executive::calls;
 use executive::decisions;
 use executive::decisions::Decision;
@@ -62,9 +64,8 @@ pub(crate) fn terminate(b: &[u8], c: TaskNo) -> Decision
     if holds_any(b, c) {
         return decisions::refused(15);
     }
-    let e = fields::entry(b, c);
-    let w = e.end_waiter;
-    let n = fields::at_most(b[fields::QUEUED], 32);
+    let w = fields::end_waiter(b, c);
+    let n = fields::at_most(b[fields::QUEUED], 32) as usize;
     let i = first_for(b, n, c);
     if i < n {
         let q = loading::request_in(b, POOL + i * 6);
@@ -73,12 +74,21 @@ pub(crate) fn terminate(b: &[u8], c: TaskNo) -> Decision
     calls::sleeps(w, c)
 }
 
-// Kind 01.
+// Kind 01. Of the caller's entry it asks the last scheduled start and who waits for the end.
 pub(crate) fn restart(b: &[u8], c: TaskNo, param: u8, count: u8) -> Decision
     requires { ⌜ length (now b) ≡ imageLength ⌝ }
     ensures { λ r. ⌜ ((t : Table) → Laid (now (b .entry)) t → WellFormed t → r ≡ decided (t .tasks) (t .rest) c (call.Restart param count)) ⌝ }
 {
-    let e = fields::entry(b, c);
+    let start = fields::start(b, c);
+    let end_waiter = fields::end_waiter(b, c);
+    let e = Task {
+        own: 0,
+        state: State::Dormant,
+        priority: 0,
+        argument: 0,
+        start,
+        end_waiter,
+    };
     let holding = holds_any(b, c);
     let time = numbers::long_in(b, fields::CLOCK);
     calls::restart(e, Millis(time), c, holding, param, count)

@@ -37,7 +37,7 @@ fn answer(b: &[u8], number: u8, m: Marks, walked: u8) -> Answer
     ensures { λ r. ⌜ ((t : Table) → Laid (now (b .entry)) t → r ≡ answerOf number m walked t) ⌝ }
 {
     let active = active(b);
-    let e = fields::entry(b, active);
+    let argument = fields::argument(b, active);
     let sender = m.sender;
     let text = m.text;
     Answer {
@@ -46,7 +46,7 @@ fn answer(b: &[u8], number: u8, m: Marks, walked: u8) -> Answer
         v: m.v,
         c: m.c,
         active,
-        argument: e.argument,
+        argument,
         skipped: m.skipped,
         walked,
         sender,

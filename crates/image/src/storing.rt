@@ -42,7 +42,7 @@ pub(crate) fn put_both(out: &mut [u8], at: usize, a: u8, b: u8)
 }
 
 // Writes the front of a task's entry, its own priority and its state, over 14 bytes.
-fn put_state(out: &mut [u8], at: usize, own: u8, state: State)
+pub(crate) fn put_state(out: &mut [u8], at: usize, own: u8, state: State)
     requires { ⌜ at + 14 ≤ length (now out) ⌝ }
     ensures { λ _. ⌜ now (out .exit) ≡ written (now (out .entry)) at (frontBytes own state) ⌝ }
 {
@@ -55,7 +55,7 @@ fn put_state(out: &mut [u8], at: usize, own: u8, state: State)
 }
 
 // Writes the rest of a task's entry, of its run, over 12 bytes.
-fn put_run(out: &mut [u8], at: usize, task: Task)
+pub(crate) fn put_run(out: &mut [u8], at: usize, task: Task)
     requires { ⌜ at + 12 ≤ length (now out) ⌝ }
     ensures { λ _. ⌜ now (out .exit) ≡ written (now (out .entry)) at (runBytes task) ⌝ }
 {

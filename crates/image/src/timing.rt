@@ -2,7 +2,6 @@
 use crate::ALARMS;
 use crate::changes;
 use crate::deeds;
-use crate::entrants;
 use crate::fields;
 use crate::intervals;
 use crate::numbers;
@@ -34,7 +33,7 @@ fn set(b: &[u8], flags: u32, f: FlagNo) -> Deed
     ensures { λ r. ⌜ ((t : Table) → Laid (now (b .entry)) t → r ≡ setDeed (t .tasks) flags f) ⌝ }
 {
     let more = flags | changes::bit_of(f.0 as usize);
-    let nobody = entrants::nobody();
+    let nobody = decisions::none();
     let entrants = waking::held(b, nobody, more);
     deeds::letting_in(entrants, Change::Flags(more))
 }

@@ -13,25 +13,25 @@ use Rattle.image.proofs.doing.enter_all.Statement.{statement}
 use Rattle.image.proofs.doing.enter_all.Tie as tie
 
 abbrev Inv-loop : tie.InvT-loop
-Inv-loop b₀ q time entrants n walked₀ i₀ b walked i =
-    (length b ≡ 1555) × (i ≤ n) × (n ≤ length entrants) × (n ≤ 16) × (walked ≤ 15 * i)
-    × ((t : Table) → Laid b₀ t → InFlight n (begin t) → FindsRoom (joinsFor q time (take n entrants)) t
-    → Entering b walked (joinsFor q time (drop i (take n entrants))) (n - i) (litInFlight (enterAllInFlight (joinsFor q time (take n entrants)) (begin t)) .table) (litInFlight (enterAllInFlight (joinsFor q time (take n entrants)) (begin t)) .walked))
+Inv-loop b₀ q time list n walked₀ i₀ b walked i =
+    (length b ≡ 1555) × (i ≤ n) × (n ≤ length (list .places)) × (n ≤ 16) × (walked ≤ 15 * i)
+    × ((t : Table) → Laid b₀ t → InFlight n (begin t) → FindsRoom (joinsFor q time (take n (list .places))) t
+    → Entering b walked (joinsFor q time (drop i (take n (list .places)))) (n - i) (litInFlight (enterAllInFlight (joinsFor q time (take n (list .places))) (begin t)) .table) (litInFlight (enterAllInFlight (joinsFor q time (take n (list .places))) (begin t)) .walked))
 
 abbrev μ-loop : tie.MeasureT-loop
-μ-loop b₀ q time entrants n walked₀ i₀ b walked i = n - i
+μ-loop b₀ q time list n walked₀ i₀ b walked i = n - i
 
 returns : tie.Need-returns Inv-loop μ-loop
 returns c = λ t l f h. absurd (omega (arith, f .room, c .if1 .taken))
 
 loop-holds : tie.Need-loop-holds Inv-loop μ-loop
 loop-holds c =
-    let s = c .before .before .before .before .before in
-    let k : length (s .args .list .places) ≡ 16 = sym (length-map (s .args .list .places) _) ∙ s .good .1 .0 .1 .1 .0 .1 .0 .1 in
-    (s .pre, omega arith, omega (arith, c .before .before .if1 .left, k), omega arith, omega arith, λ t l f h. stage-start _ _ (s .args .list .places) _ t l f h)
+    let s = c .before .before in
+    let k : length (s .args .t2 .places) ≡ 16 = sym (length-map (s .args .t2 .places) _) ∙ s .good .1 .0 .1 .1 .0 .1 .0 .1 in
+    (s .pre, omega arith, omega (arith, c .if1 .left, k), omega arith, omega arith, λ t l f h. stage-start _ _ (s .args .t2 .places) _ t l f h)
 
-array-copy-out-x : tie.Need-array-copy-out-x Inv-loop μ-loop
-array-copy-out-x c = omega (arith, c .before .loop .inv .2)
+element-copy-out-x : tie.Need-element-copy-out-x Inv-loop μ-loop
+element-copy-out-x c = omega (arith, c .before .loop .inv .3)
 
 enter-requires : tie.Need-enter-requires Inv-loop μ-loop
 enter-requires c κs = c .before .before .before .before .loop .inv .0
@@ -51,7 +51,7 @@ loop-again c =
     )
 
 same-length : tie.Need-same-length Inv-loop μ-loop
-same-length c = c .before .loop .inv .0 ∙ sym (c .before .before .before .before .before .before .before .pre)
+same-length c = c .before .loop .inv .0 ∙ sym (c .before .before .before .before .pre)
 
 returns-2 : tie.Need-returns-2 Inv-loop μ-loop
 returns-2 c =
@@ -65,10 +65,10 @@ enter-all-spec =
     Inv-loop
     μ-loop
     returns
-    (λ c. omega arith)
     loop-holds
     (λ c. omega arith)
-    array-copy-out-x
+    (λ c. omega (arith, c .before .loop .inv .3))
+    element-copy-out-x
     enter-requires
     add-walked
     (λ c. omega arith)

@@ -34,6 +34,7 @@ receive-spec =
     returns
     (λ c. search needs)
     (λ c κs. search needs)
+    (λ c. search needs)
     first-fit-requires
     message-at-requires
     (λ c κs. search needs)

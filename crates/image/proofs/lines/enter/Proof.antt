@@ -61,6 +61,7 @@ enter-spec =
     (λ c κs. search needs)
     (λ c. search needs)
     ahead-requires
+    (λ c. search needs)
     (λ c κs. search needs)
     (λ c κs. search needs)
     returns-4)

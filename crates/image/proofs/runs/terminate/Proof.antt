@@ -1,7 +1,6 @@
+use mathlib.Core.Path.{_∙_}
 use native.Mathlib.Omega.{arith}
-use mathlib.Core.Path.{_≡_, refl, sym, ap, _∙_}
-use Prim.Native.Nat.{_+_, _-_, _≤_, _<_}
-use lib.ListN.{getD}
+use Prim.Native.Nat.{_-_}
 use Rattle.image.proofs.ReadOff.{queued-read}
 use Rattle.image.proofs.LoadLaid.{request-read}
 use Rattle.image.proofs.Sheets.{end-held, end-anew, end-none}
@@ -19,26 +18,23 @@ add-request-in : tie.Need-add-request-in
 add-request-in c = omega (arith, c .if2 .taken, c .before .before .at-most .ensures .0)
 
 request-in-requires : tie.Need-request-in-requires
-request-in-requires c κs = omega (arith, c .before .before .before .before .before .before .before .before .before .pre, c .if2 .taken, c .before .before .at-most .ensures .0)
+request-in-requires c κs = omega (arith, c .before .before .before .before .before .before .before .before .pre, c .if2 .taken, c .before .before .at-most .ensures .0)
 
 returns-2 : tie.Need-returns-2
 returns-2 c =
-    let a = c .before .before .before .before .before .before .before .before .before .before .before .args in
     λ t l w.
     let q = w .numbers .queued in
     let en = c .before .before .before .before .at-most .ensures .1 (rw (queued-read t l) q) ∙ queued-read t l in
     c .begins-anew .ensures
-    ∙ end-anew (t .tasks) (t .rest) (a .c) _ (c .before .before .before .before .before .before .before .before .before .holds-any .ensures t l) (c .before .before .before .before .before .before .before .before .if1 .left) _ (c .before .before .before .before .before .before .before .entry .ensures t l) _ _ en (c .before .before .before .first-for .ensures t l) (l .sizes .pool) q (c .before .before .if2 .taken) _
+    ∙ end-anew (t .tasks) (t .rest) (c .before .before .before .before .before .before .before .before .before .before .args .c) _ (c .before .before .before .before .before .before .before .before .holds-any .ensures t l) (c .before .before .before .before .before .before .before .if1 .left) _ (c .before .before .before .before .before .before .end-waiter .ensures t l) _ _ en (c .before .before .before .first-for .ensures t l) (l .sizes .pool) q (c .before .before .if2 .taken) _
     (c .before .request-in .ensures ∙ request-read t l (c .before .before .before .first-for .result) (omega (arith, c .before .before .if2 .taken, c .before .before .before .before .at-most .ensures .0)))
 
 returns-3 : tie.Need-returns-3
 returns-3 c =
-    let a = c .before .before .before .before .before .before .before .before .before .before .args in
     λ t l w.
     let q = w .numbers .queued in
     let en = c .before .before .before .at-most .ensures .1 (rw (queued-read t l) q) ∙ queued-read t l in
-    c .sleeps .ensures
-    ∙ end-none (t .tasks) (t .rest) (a .c) _ (c .before .before .before .before .before .before .before .before .holds-any .ensures t l) (c .before .before .before .before .before .before .before .if1 .left) _ (c .before .before .before .before .before .before .entry .ensures t l) _ _ en (c .before .before .first-for .ensures t l) (l .sizes .pool) q (c .before .if2 .left)
+    c .sleeps .ensures ∙ end-none (t .tasks) (t .rest) (c .before .before .before .before .before .before .before .before .before .args .c) _ (c .before .before .before .before .before .before .before .holds-any .ensures t l) (c .before .before .before .before .before .before .if1 .left) _ (c .before .before .before .before .before .end-waiter .ensures t l) _ _ en (c .before .before .first-for .ensures t l) (l .sizes .pool) q (c .before .if2 .left)
 
 pub terminate-spec : {M : Type 1} → statement M
 terminate-spec =
@@ -50,6 +46,7 @@ terminate-spec =
     (λ c κs. search needs)
     (λ c. search needs)
     (λ c κs. search needs)
+    (λ c. search needs)
     (λ c κs. search needs)
     mul-request-in
     add-request-in

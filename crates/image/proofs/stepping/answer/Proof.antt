@@ -4,7 +4,7 @@ use Rattle.image.proofs.stepping.answer.Statement.{statement}
 use Rattle.image.proofs.stepping.answer.Tie as tie
 
 returns : tie.Need-returns
-returns c = λ t l. answer-is t _ (c .before .before .before .before .before .args .m) _ _ _ (c .before .before .before .active .ensures t l) (c .before .before .entry .ensures t l)
+returns c = λ t l. answer-is t _ (c .before .before .before .before .before .args .m) _ _ _ (c .before .before .before .active .ensures t l) (c .before .before .argument .ensures t l)
 
 pub answer-spec : {M : Type 1} → statement M
 answer-spec =

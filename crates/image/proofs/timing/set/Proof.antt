@@ -24,7 +24,7 @@ returns c =
     let m = bitOr (a .flags) (c .before .before .before .bit-of .result) in
     λ t l.
     let z : length (rising (holds m) 1 (t .tasks)) ≤ 16 = omega (arith, rising-few (t .tasks) (holds m), l .sizes .tasks) in
-    c .letting-in .ensures (rising (holds m) 1 (t .tasks)) (c .before .held .ensures t l [] (c .before .before .nobody .ensures) z)
+    c .letting-in .ensures (rising (holds m) 1 (t .tasks)) (c .before .held .ensures t l [] (c .before .before .none .ensures) z)
     ∙ set-is (t .tasks) (a .flags) (a .f) m (ap (bitOr (a .flags)) (c .before .before .before .bit-of .ensures))
 
 pub set-spec : {M : Type 1} → statement M
