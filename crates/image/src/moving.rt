@@ -1,4 +1,5 @@
-// Bytes moved within a lent buffer, four at a time where there are as many: a Cortex-M3 then moves them at once.
+// Bytes moved within a lent buffer. Towards the front they go four at a time where there are as many: a Cortex-M3 then
+// moves them at once.
 ghost use mathlib.Core.Path.{_≡_};
 ghost use Prim.Native.Nat.{_+_, _≤_};
 ghost use lib.ListN.{length, take, drop};
@@ -59,16 +60,13 @@ pub(crate) fn move_up(b: &mut [u8], to: usize, from: usize, n: usize)
     few_up(b, to + i, from + i, n - i);
 }
 
-// So many bytes from a place on move towards the end.
+// So many bytes from a place on move towards the end, one by one: by fours the compiler would multiply, to know how many
+// turns the messages behind a place take.
 pub(crate) fn move_down(b: &mut [u8], to: usize, from: usize, n: usize)
     requires { ⌜ (from ≤ to) × (to + n ≤ length (now b)) ⌝ }
     ensures { λ _. ⌜ now (b .exit) ≡ written (now (b .entry)) to (take n (drop from (now (b .entry)))) ⌝ }
 {
     let mut i = n;
-    while 4 <= i {
-        i -= 4;
-        copy_four(b, to + i, from + i);
-    }
     while 0 < i {
         i -= 1;
         b[to + i] = b[from + i];
