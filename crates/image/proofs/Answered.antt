@@ -1,7 +1,7 @@
 -- The entry points' answers and buffers, a law for each of their outcomes.
 use Prim.Native.Nat.{ℕ, _≤_, _<_}
 use mathlib.Core.Path.{_≡_, refl, sym, ap, _∙_}
-use mathlib.Core.Bool.{true, false, cond}
+use mathlib.Core.Bool.{true, false}
 use mathlib.Core.List.{List}
 use native.Mathlib.Omega.{arith}
 use lib.Dec.{ltb}
@@ -11,7 +11,8 @@ use Rattle.executive.specs.declared.Table.{Table}
 use Rattle.executive.specs.declared.Fresh.{Fresh}
 use Rattle.executive.specs.declared.Answer.{Answer}
 use Rattle.executive.specs.Check.{isWellFormed}
-use Rattle.executive.proofs.Assured.{decided}
+use Rattle.executive.specs.Lists.{_and_}
+use Rattle.executive.proofs.Assured.{decided, and-true, true-and}
 use Rattle.executive.specs.Step.{noTable, stepOf}
 use Rattle.executive.specs.Configuration.{freshOf}
 use Rattle.records.specs.declared.TaskNo.{TaskNo}
@@ -45,17 +46,19 @@ module _ (g o : List ℕ) where
 
 -- ---- the check of some bytes
 module _ (s : List ℕ) where
-  pub check-none : isImage s ≡ false → CheckedImage s 1
+  pub check-sound : (isImage s and isWellFormed (loadOf s)) ≡ true → CheckedImage s 0
   unfolding checkNumber
-  check-none h = record { number = rw h; right = (λ e. absurd (omega arith), λ w. absurd (never (sym h ∙ w .image))) }
+  check-sound e =
+      let b = and-true (isImage s) _ e in
+      record { number = rw (b .0, b .1); right = (λ z. record { image = b .0; table = decided .iff (loadOf s) .0 (b .1) }, λ w. refl) }
 
-  pub check-right : isImage s ≡ true → isWellFormed (loadOf s) ≡ true → CheckedImage s 0
+  pub check-unsound : (isImage s and isWellFormed (loadOf s)) ≡ false → CheckedImage s 1
   unfolding checkNumber
-  check-right h e = record { number = rw (h, e); right = (λ z. record { image = h; table = decided .iff (loadOf s) .0 e }, λ w. refl) }
-
-  pub check-wrong : isImage s ≡ true → isWellFormed (loadOf s) ≡ false → CheckedImage s 1
-  unfolding checkNumber
-  check-wrong h e = record { number = rw (h, e); right = (λ z. absurd (omega arith), λ w. absurd (never (sym e ∙ decided .iff (loadOf s) .1 (w .table)))) }
+  check-unsound e =
+      record {
+        number = decide (isImage s) (λ i. rw i (let w : isWellFormed (loadOf s) ≡ false = rw i at e in rw w)) (λ i. rw i);
+        right = (λ z. absurd (omega arith), λ w. absurd (never (sym e ∙ true-and (isImage s) _ (w .image) (decided .iff (loadOf s) .1 (w .table)))));
+      }
 
 -- ---- a step that hands its answer out as a value
 module _ (s k : List ℕ) where

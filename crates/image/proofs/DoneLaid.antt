@@ -1,25 +1,46 @@
 -- A deed on the way in an image: those who enter, one after the other.
 use Prim.Native.Nat.{ℕ, suc, _+_, _-_, _≤_, _<_}
 use mathlib.Core.Path.{_≡_, refl, sym, ap, subst, _∙_}
-use mathlib.Core.List.{List}
+use mathlib.Core.List.{List, [], _∷_, tail}
 use native.Mathlib.Omega.{arith}
 use lib.ListN.{length, getD, take, drop}
+use Rattle.records.specs.declared.TaskNo.{TaskNo}
 use Rattle.executive.specs.declared.Millis.{Millis}
 use Rattle.executive.specs.declared.Request.{Request}
 use Rattle.executive.specs.declared.Rest.{Rest}
+use Rattle.executive.specs.declared.Task.{Task}
 use Rattle.executive.specs.declared.Table.{Table}
-use Rattle.executive.specs.declared.decisions.Leave.{Leave}
 use Rattle.executive.specs.declared.decisions.Leave.the-variants as leave
 use Rattle.executive.specs.declared.decisions.Entrant.{Entrant}
 use Rattle.executive.specs.declared.decisions.Deed.{Deed}
-use Rattle.executive.specs.Places.{taskAt}
+use Rattle.executive.specs.Places.{nobody, taskAt, putAt}
 use Rattle.executive.specs.Plans.{caller}
-use Rattle.executive.specs.Queue.{count}
+use Rattle.executive.specs.Queue.{Desc, count}
+use Rattle.executive.specs.States.{isReady}
+use Rattle.executive.specs.WellFormed.{Line}
 use Rattle.executive.specs.Messages.{noMail, withMail}
-use Rattle.executive.specs.Table.{ArraysInOrder, FindsRoom, InFlight, Join, Out, view, levelsOf, relit, depart, departed, entered, passedBy, withRest, begin, enterInFlight, enterAllInFlight, litInFlight, applyInFlight}
-use Rattle.executive.specs.Decisions.{named, outFor, goneAs, changeFor, joinsFor, changed, meant, Doable}
-use Rattle.executive.proofs.Assured.{blank, enter-turn, find-turn, enter-end, left-gone, depart-rest, changed-neat, done-is, lit-same, begin-flying, depart-fit, finds-beside, fewer-flying, enter-flying, lit-on-the-way, lit-flying}
+use Rattle.executive.specs.Table.{ArraysInOrder, FindsRoom, InFlight, Join, Out, line, items, itemOf, enterAt, headOf, stays, leaves, view, levelsOf, relit, depart, departed, entered, passedBy, withRest, begin, enterInFlight, enterAllInFlight, litInFlight, applyInFlight}
+use Rattle.executive.specs.Decisions.{named, outFor, changeFor, joinsFor, changed, meant, Doable}
+use Rattle.executive.proofs.Assured.{blank, enter-turn, find-turn, enter-end, changed-neat, done-is, lit-same, begin-flying, depart-fit, finds-beside, fewer-flying, enter-flying, lit-on-the-way, lit-flying, line-pad, items-put, insert-desc, queue-law, eqb-self, one-le}
 use Rattle.image.specs.Laid.{Laid}
+
+-- ---- the line descends after each move
+pub entered-sorted : (t : Table) (k : TaskNo) (e : Task) → count (k .0) (view t) ≡ 0 → Desc (view t) → Desc (view (relit (entered k e t)))
+unfolding entered
+entered-sorted t k e a d =
+    let ts : List Task = putAt (t .tasks) (k .0) e in
+    rw (line-pad nobody 16 (enterAt ts k (line t)), queue-law .numbers ts k (line t), items-put (t .tasks) (k .0) e (line t) a) (insert-desc (itemOf ts k) (view t) d)
+
+pub depart-sorted : (o : Out) (t : Table) → Line isReady (t .tasks) (line t) → Desc (view (depart o t))
+unfolding depart departed items count
+depart-sorted stays t q = q .sorted
+depart-sorted (leaves f) t q = rw (line-pad nobody 16 (tail (line t))) (go (line t) q)
+  where
+    go : (r : List TaskNo) → Line isReady (t .tasks) r → Desc (items (putAt (t .tasks) (headOf r .0) (f (taskAt (t .tasks) (headOf r .0)))) (tail r))
+    go [] q = tt
+    go (k ∷ r) q =
+        let z = rw (eqb-self (k .0)) at (q .exact (k .0)) in
+        rw (items-put (t .tasks) (k .0) (f (taskAt (t .tasks) (k .0))) r (omega (arith, z, one-le (isReady (taskAt (t .tasks) (k .0) .state))))) (q .sorted .1)
 
 -- ---- those who are still to enter, from a table on the way that the bytes are the image of, w being passed over so far: the
 -- whole is the table u, with n passed over
@@ -28,6 +49,7 @@ pub record Entering (b : List ℕ) (w : ℕ) (js : List Join) (m : ℕ) (u : Tab
   pub laid : Laid b table
   pub flying : InFlight m (record { table = table; walked = w })
   pub finds : FindsRoom js table
+  pub sorted : Desc (view table)
   pub left : litInFlight (enterAllInFlight js (record { table = table; walked = w })) ≡ record { table = u; walked = n }
 
 module _ (q : Request) (time : Millis) (ps : List Entrant) (n : ℕ) (h : n ≤ length ps) (u : Table) (all : ℕ) where
@@ -35,7 +57,7 @@ module _ (q : Request) (time : Millis) (ps : List Entrant) (n : ℕ) (h : n ≤ 
   Stage b w i = Entering b w (joinsFor q time (drop i (take n ps))) (n - i) u all
 
   pub stage-turn : {b d : List ℕ} (w r i : ℕ) → i < n → Stage b w i
-      → ((t : Table) → Laid b t → ArraysInOrder t → t .ready < 16 → t .levels ≡ levelsOf (view t) → count (getD ps i blank .who .0) (view t) ≡ 0
+      → ((t : Table) → Laid b t → ArraysInOrder t → t .ready < 16 → t .levels ≡ levelsOf (view t) → Desc (view t) → count (getD ps i blank .who .0) (view t) ≡ 0
       → Laid d (relit (entered (getD ps i blank .who) (changeFor q time (getD ps i blank .how) (taskAt (t .tasks) (getD ps i blank .who .0))) t))
       × (r ≡ passedBy (getD ps i blank .who) (changeFor q time (getD ps i blank .how) (taskAt (t .tasks) (getD ps i blank .who .0))) t))
       → Stage d (w + r) (i + 1)
@@ -47,13 +69,14 @@ module _ (q : Request) (time : Millis) (ps : List Entrant) (n : ℕ) (h : n ≤ 
       let z : n - i ≡ suc (n - (i + 1)) = omega arith in
       let a = find-turn ps n q time (record { table = t; walked = w }) i h g (e .finds) in
       let room : t .ready < 16 = omega (arith, e .flying .room) in
-      let y = f t (e .laid) (e .flying .fit) room (e .flying .lit) (a .0) in
+      let y = f t (e .laid) (e .flying .fit) room (e .flying .lit) (e .sorted) (a .0) in
       let fl : InFlight (suc (n - (i + 1))) (record { table = t; walked = w }) = rw z at (e .flying) in
       let on : Stage d (w + passedBy k x t) (i + 1) = record {
         table = relit (entered k x t);
         laid = y .0;
         flying = enter-flying (n - (i + 1)) k x (record { table = t; walked = w }) fl;
         finds = a .1;
+        sorted = entered-sorted t k x (a .0) (e .sorted);
         left = lit-on-the-way _ _ ∙ ap litInFlight (enter-turn ps n q time (record { table = t; walked = w }) i h g) ∙ e .left;
       } in
       subst (λ m. Stage d (w + m) (i + 1)) (sym (y .1)) on
@@ -65,9 +88,9 @@ module _ (q : Request) (time : Millis) (ps : List Entrant) (n : ℕ) (h : n ≤ 
       let l = sym (ap litInFlight k) ∙ e .left in
       (subst (Laid b) ((λ j. v j .table) ∙ (λ j. l j .table)) (e .laid), (λ j. v j .walked) ∙ (λ j. l j .walked))
 
-pub stage-start : (q : Request) (time : Millis) (ps : List Entrant) (n : ℕ) {b : List ℕ} (t : Table) → Laid b t → InFlight n (begin t) → FindsRoom (joinsFor q time (take n ps)) t
+pub stage-start : (q : Request) (time : Millis) (ps : List Entrant) (n : ℕ) {b : List ℕ} (t : Table) → Laid b t → InFlight n (begin t) → FindsRoom (joinsFor q time (take n ps)) t → Desc (view t)
     → Entering b 0 (joinsFor q time (drop 0 (take n ps))) (n - 0) (litInFlight (enterAllInFlight (joinsFor q time (take n ps)) (begin t)) .table) (litInFlight (enterAllInFlight (joinsFor q time (take n ps)) (begin t)) .walked)
-stage-start q time ps n t l f h = record { table = t; laid = l; flying = fewer-flying _ _ _ (omega arith) f; finds = h; left = refl }
+stage-start q time ps n t l f h d = record { table = t; laid = l; flying = fewer-flying _ _ _ (omega arith) f; finds = h; sorted = d; left = refl }
 
 -- ---- one who stays
 pub stays-laid : {s : List ℕ} (t : Table) → t .levels ≡ levelsOf (view t) → Laid s t → Laid s (relit (depart (outFor leave.Stays) t))
@@ -97,6 +120,9 @@ module _ (d : Deed) (t : Table) (o : Doable d t) where
 
   pub midway-finds : FindsRoom js midway
   midway-finds = finds-beside js (levelsOf (view (depart out t))) after (depart out t) (o .finds)
+
+  pub midway-sorted : Desc (view midway)
+  midway-sorted = depart-sorted out t (o .queue)
 
   pub whole-is : litInFlight (enterAllInFlight js (begin midway)) ≡ applyInFlight (meant d t) t
   unfolding meant

@@ -17,14 +17,12 @@ use Rattle.executive.specs.declared.Table.{Table}
 use Rattle.executive.specs.Lists.{nextOf, allOf, _and_}
 use Rattle.executive.specs.Places.{nobody, noRequest}
 use Rattle.executive.specs.Pool.{placeOf}
-use Rattle.executive.specs.States.{takesFrom}
 use Rattle.executive.specs.Table.{headOf}
 use Rattle.executive.specs.Subprograms.{noSub, subAt, lineOf, holds?, holdsAnyOf}
 use Rattle.executive.specs.Messages.{noMessage, fits}
 use Rattle.executive.proofs.Assured.{next-hit, next-pass, next-end, every-turn, every-not, every-end, head-taken}
 use Rattle.image.specs.Laid.{Laid, LineAt}
 use Rattle.image.proofs.Parts.{read-laid}
-use Rattle.image.proofs.ReadOff.{place-read}
 use Rattle.image.proofs.RestLaid.{sub-read}
 use Rattle.image.proofs.LoadLaid.{request-read, message-read, sub-line}
 
@@ -69,10 +67,6 @@ module _ {s : List ℕ} (t : Table) (l : Laid s t) where
       let g : 0 < subAt (t .rest) m .waiting = omega (arith, z, e) in
       let f : getD s (914 + m * 18 + 2) 0 ≡ getD (subAt (t .rest) m .line) 0 nobody .0 = ap (λ k. getD s k 0) y ∙ sub-line t l m 0 h (omega arith) in
       (λ j. record { 0 = f j }) ∙ head-taken nobody (subAt (t .rest) m .waiting) (subAt (t .rest) m .line) g (l .sizes .lines m)
-
-  -- the ready queue
-  pub queue-line-at : LineAt s 416 (t .queue)
-  queue-line-at = record { size = l .sizes .queue; places = λ i g. place-read t l i g }
 
 -- ---- the first request for task k, of n
 module _ (k : ℕ) (p : List Request) (n : ℕ) (hn : n ≤ length p) where

@@ -11,10 +11,8 @@ use lib.ListN.{getD}
 use Rattle.executive.specs.declared.Millis.{Millis}
 use Rattle.executive.specs.declared.State.{State}
 use Rattle.executive.specs.declared.Task.{Task}
-use Rattle.executive.specs.Lists.{_and_}
 use Rattle.executive.specs.Places.{noTask, taskAt, entryPlace}
-use Rattle.executive.specs.States.{stateKind, stateOf, awaitedOf, isOf, isDormant, waitsFor, takes, takesFrom}
-use Rattle.executive.specs.Check.{awaitsAny}
+use Rattle.executive.specs.States.{stateKind, stateOf, isOf, isDormant, waitsFor, takes, takesFrom}
 use Rattle.executive.proofs.Assured.{at-next, at-no-place}
 use Rattle.image.specs.Image.{taskFrom, stateIn}
 use Rattle.image.specs.Sound.{tasksIn}
@@ -32,16 +30,10 @@ module _ (t : Millis) (m a : ℕ) where
       let l = leb-false k 9 e in
       ap (λ (x : State). eqb n (stateKind x)) (no-kind k t m a l) ∙ ne-eqb n 8 d ∙ sym (ne-eqb n k (λ z. omega (arith, l))))
 
-  -- of a wait for a subprogram whose number passes a test; the number of what is no kind does not pass it
-  sub-kind : (f : ℕ → Bool) (k : ℕ) → f 255 ≡ false → (isOf 8 (stateIn k t m a) and f (awaitedOf (stateIn k t m a))) ≡ (eqb 8 k and f a)
+  -- of a wait for a subprogram
+  waits-sub : (n k : ℕ) → 8 ≡ k → eqb n a ≡ waitsFor n (stateIn k t m a)
   unfolding stateIn stateOf
-  sub-kind f k h =
-      decide (eqb 8 k)
-      (λ e. let q : k ≡ 8 = sym (eqb-true 8 k e) in rw q refl)
-      (λ e.
-      decide (leb k 9)
-      (λ l. let w : isOf 8 (stateIn k t m a) ≡ eqb 8 k = ap (eqb 8) (kind-some k t m a (leb-true k 9 l)) in rw (w, e) refl)
-      (λ l. rw (no-kind k t m a (leb-false k 9 l), e) h))
+  waits-sub n k q = let e : k ≡ 8 = sym q in rw e refl
 
   takes-from : (c k : ℕ) → takes c (stateIn k t m a) ≡ (eqb 9 k && takesFrom a c)
   unfolding stateIn stateOf
@@ -80,24 +72,10 @@ module _ (s : List ℕ) where
       pub taken-one : k < 16 → 9 ≡ getD s (k * 26 + 1) 0 → (getD s (898 + k) 0 ≡ 0 → ⊥) → eqb (getD s (898 + k) 0) c ≡ takes c (taskAt (tasksIn s) n .state)
       taken-one h q z = sym (rw (eq-eqb 9 (getD s (k * 26 + 1) 0) q, ne-eqb (getD s (898 + k) 0) 0 z) refl) ∙ taken-there h
 
-  -- ---- by place: the kind of the state of the task after number i; whether it waits for a subprogram
+  -- ---- by place: the kind of the state of the task after number i; which subprogram it waits for
   module _ (i : ℕ) (h : i < 16) where
     pub kind-there : (n : ℕ) → n ≤ 9 → (n ≡ 8 → ⊥) → eqb n (getD s (i * 26 + 1) 0) ≡ isOf n (taskAt (tasksIn s) (i + 1) .state)
     kind-there n l d = sym (is-kind _ _ _ n (getD s (i * 26 + 1) 0) l d) ∙ ap (λ (x : Task). isOf n (x .state)) (next-there i h)
 
-    any-wait-there : (eqb 8 (getD s (i * 26 + 1) 0) and leb (getD s (898 + i) 0) 7) ≡ awaitsAny (taskAt (tasksIn s) (i + 1) .state)
-    any-wait-there = sym (sub-kind _ _ (getD s (898 + i) 0) (λ (n : ℕ). leb n 7) (getD s (i * 26 + 1) 0) refl) ∙ ap (λ (x : Task). awaitsAny (x .state)) (next-there i h)
-
-    pub any-none : (8 ≡ getD s (i * 26 + 1) 0 → ⊥) → false ≡ awaitsAny (taskAt (tasksIn s) (i + 1) .state)
-    any-none d = sym (ap (λ (b : Bool). b and leb (getD s (898 + i) 0) 7) (ne-eqb 8 (getD s (i * 26 + 1) 0) d)) ∙ any-wait-there
-
-    pub any-one : 8 ≡ getD s (i * 26 + 1) 0 → leb (getD s (898 + i) 0) 7 ≡ awaitsAny (taskAt (tasksIn s) (i + 1) .state)
-    any-one q = sym (ap (λ (b : Bool). b and leb (getD s (898 + i) 0) 7) (eq-eqb 8 (getD s (i * 26 + 1) 0) q)) ∙ any-wait-there
-
-    pub sub-there : (n : ℕ) → n < 8 → (eqb 8 (getD s (i * 26 + 1) 0) and eqb n (getD s (898 + i) 0)) ≡ waitsFor n (getD (tasksIn s) i noTask .state)
-    sub-there n l = sym (sub-kind _ _ (getD s (898 + i) 0) (eqb n) (getD s (i * 26 + 1) 0) (ne-eqb n 255 (λ z. omega arith))) ∙ ap (λ (x : Task). waitsFor n (x .state)) (task-there s i h)
-
-    pub waiter-there : getD s (i * 26 + 25) 0 ≡ taskAt (tasksIn s) (i + 1) .«end_waiter» .0
-    waiter-there =
-        let z : i * 26 + 25 ≡ i * 26 + 1 + 1 + 8 + 4 + 1 + 2 + 8 = omega arith in
-        ap (λ (p : ℕ). getD s p 0) z ∙ ap (λ (x : Task). x .«end_waiter» .0) (next-there i h)
+    pub sub-there : 8 ≡ getD s (i * 26 + 1) 0 → (n : ℕ) → eqb n (getD s (898 + i) 0) ≡ waitsFor n (getD (tasksIn s) i noTask .state)
+    sub-there q n = waits-sub _ _ (getD s (898 + i) 0) n (getD s (i * 26 + 1) 0) q ∙ ap (λ (x : Task). waitsFor n (x .state)) (task-there s i h)

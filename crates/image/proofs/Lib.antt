@@ -19,10 +19,12 @@ pub mod RestLaid
 pub mod DoneLaid
 pub mod LoadLaid
 pub mod Finds
+pub mod SetBits
 pub mod Sheets
 pub mod Stepwise
 pub mod Listing
 pub mod WakeLaid
+pub mod Chosen
 pub mod Searches
 pub mod RingLaid
 pub mod Timings
@@ -36,7 +38,11 @@ pub mod Noughts
 pub mod Named
 pub mod KindsRead
 pub mod EntriesRead
+pub mod Beheld
+pub mod FirstPart
+pub mod Learnt
 pub mod LinesRead
+pub mod PoolRead
 pub mod PostRead
 pub mod Noted
 pub mod Listed

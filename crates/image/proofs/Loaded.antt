@@ -2,11 +2,10 @@
 -- each element of a loaded list to a test as it is read.
 use Prim.Native.Nat.{ℕ, zero, suc, _+_, _*_, _≤_, _<_, zero-le}
 use mathlib.Core.Path.{_≡_, refl, sym, ap, _∙_}
-use mathlib.Core.Bool.{Bool, true, false, _&&_}
+use mathlib.Core.Bool.{Bool, true, false}
 use mathlib.Core.List.{List}
 use native.Mathlib.Omega.{arith}
-use borrow.Author.Tests.{eqb-true, eqb-false, eq-eqb, ne-eqb, lt-ltb}
-use lib.Dec.{eqb}
+use borrow.Author.Tests.{lt-ltb}
 use lib.ListN.{length, take, drop, getD}
 use Rattle.records.specs.declared.TaskNo.{TaskNo}
 use Rattle.records.specs.Numbers.{numberOf, part}
@@ -16,12 +15,11 @@ use Rattle.executive.specs.declared.Task.{Task}
 use Rattle.executive.specs.declared.Sub.{Sub}
 use Rattle.executive.specs.Lists.{allOf}
 use Rattle.executive.specs.Places.{nobody, never, noTask, noRequest, taskAt, entryPlace}
-use Rattle.executive.specs.States.{stateKind, awaitedOf, stateOf, isAs}
+use Rattle.executive.specs.States.{stateKind, stateOf}
 use Rattle.executive.specs.Subprograms.{noSub}
 use Rattle.executive.specs.Messages.{noMessage, noMail}
 use Rattle.executive.proofs.Assured.{every-turn, every-not, every-end, first-turn, first-not, first-end, at-place}
 use Rattle.image.specs.Image.{taskFrom, placeFrom, lineFrom, alarmFrom, requestFrom, subFrom, messageFrom, mailFrom, loadOf, noKind, stateIn}
-use Rattle.image.proofs.Alike.{decide}
 use Rattle.image.proofs.Spans.{length-blocks, block-at}
 
 -- ---- the arrays of any bytes: their lengths, and what stands at a place of them; p is where it is read
@@ -62,10 +60,6 @@ module _ (s : List ℕ) where
     unfolding loadOf
     task-there h = let z : 0 + i * 1 ≡ i = omega arith in sym (block-at (taskFrom s) 1 16 0 i noTask h ∙ ap (taskFrom s) z)
 
-    pub place-there : (p : ℕ) → i < 16 → p ≡ 416 + i → placeFrom s p ≡ getD (loadOf s .queue) i nobody
-    unfolding loadOf
-    place-there p h e = let z : 416 + i * 1 ≡ p = omega arith in sym (block-at (placeFrom s) 1 16 416 i nobody h ∙ ap (placeFrom s) z)
-
     pub alarm-there : (p : ℕ) → i < 32 → p ≡ 448 + i * 8 → alarmFrom s p ≡ getD (loadOf s .rest .alarms) i never
     unfolding loadOf
     alarm-there p h e = sym (block-at (alarmFrom s) 8 32 448 i never h ∙ ap (alarmFrom s) (sym e))
@@ -91,9 +85,6 @@ module _ (s : List ℕ) where
     in-line at p h e = let z : at + i * 1 ≡ p = omega arith in sym (block-at (placeFrom s) 1 16 at i nobody h ∙ ap (placeFrom s) z)
 
     -- the same by what was read, the number x at p: of an alarm, and of a place of a line
-    pub time-there : (p x : ℕ) → i < 32 → p ≡ 448 + i * 8 → x ≡ numberOf (part 8 p s) → _≡_ {A = Millis} (record { 0 = x }) (getD (loadOf s .rest .alarms) i never)
-    time-there p x h e g = let z : _≡_ {A = Millis} (record { 0 = x }) (alarmFrom s p) = λ j. record { 0 = g j } in z ∙ alarm-there p h e
-
     -- and the place of the task who stands there
     pub placed-there : (at k : ℕ) → i < 16 → k ≡ entryPlace (getD s (at + i) 0) → k ≡ entryPlace (getD (lineFrom s at) i nobody .0)
     placed-there at k h e = e ∙ ap (λ (x : TaskNo). entryPlace (x .0)) (in-line at (at + i) h refl)
@@ -131,10 +122,6 @@ module _ (s : List ℕ) where
   unfolding loadOf
   flags-there = refl
 
-  pub levels-there : numberOf (part 2 896 s) ≡ loadOf s .levels
-  unfolding loadOf
-  levels-there = refl
-
   pub sent-there : getD s 1410 0 ≡ loadOf s .rest .sent
   unfolding loadOf
   sent-there = refl
@@ -170,33 +157,6 @@ pub no-kind : (k : ℕ) (t : Millis) (m a : ℕ) → 9 < k → stateIn k t m a �
 unfolding stateIn
 no-kind k t m a h = rw (lt-ltb 9 k h) refl
 
-awaits-none : (k : ℕ) (t : Millis) (m a : ℕ) → k < 8 → awaitedOf (stateIn k t m a) ≡ 0
-unfolding stateIn stateOf
-awaits-none zero t m a h = refl
-awaits-none (suc zero) t m a h = refl
-awaits-none (suc (suc zero)) t m a h = refl
-awaits-none (suc (suc (suc zero))) t m a h = refl
-awaits-none (suc (suc (suc (suc zero)))) t m a h = refl
-awaits-none (suc (suc (suc (suc (suc zero))))) t m a h = refl
-awaits-none (suc (suc (suc (suc (suc (suc zero)))))) t m a h = refl
-awaits-none (suc (suc (suc (suc (suc (suc (suc zero))))))) t m a h = refl
-awaits-none (suc (suc (suc (suc (suc (suc (suc (suc k)))))))) t m a h = absurd (omega arith)
-
-awaits-some : (k : ℕ) (t : Millis) (m a : ℕ) → 8 ≤ k → k ≤ 9 → awaitedOf (stateIn k t m a) ≡ a
-unfolding stateIn stateOf
-awaits-some k t m a h l =
-    decide (eqb k 8)
-    (λ q. let z = eqb-true k 8 q in rw z refl)
-    (λ q. let z : k ≡ 9 = omega (arith, eqb-false k 8 q) in rw z refl)
-
--- a state of a kind that waits for a number, by the kind r and the number a that were read
-module _ (k m r a : ℕ) (x : State) (e : r ≡ stateKind x) where
-  pub not-as : (k ≡ r → ⊥) → false ≡ isAs k m x
-  not-as n = sym (ap (λ (y : ℕ). eqb k y && eqb m (awaitedOf x)) (sym e) ∙ ap (λ (b : Bool). b && eqb m (awaitedOf x)) (ne-eqb k r n))
-
-  pub so-as : k ≡ r → a ≡ awaitedOf x → eqb m a ≡ isAs k m x
-  so-as q g = sym (ap (λ (y : ℕ). eqb k y && eqb m (awaitedOf x)) (sym e) ∙ ap (λ (b : Bool). b && eqb m (awaitedOf x)) (eq-eqb k r q) ∙ ap (eqb m) (sym g))
-
 module _ (s : List ℕ) (i : ℕ) (h : i < 16) where
   abbrev told : State
   told = getD (loadOf s .tasks) i noTask .state
@@ -207,18 +167,6 @@ module _ (s : List ℕ) (i : ℕ) (h : i < 16) where
   module _ (k : ℕ) (e : k ≡ getD s (i * 26 + 1) 0) where
     pub kind-there : k ≤ 9 → k ≡ stateKind told
     kind-there l = sym (ap stateKind same-state ∙ rw (← e) (kind-some k _ _ _ l))
-
-    pub kind-none : 9 < k → 8 ≡ stateKind told
-    kind-none l = sym (ap stateKind same-state ∙ rw (← e, no-kind k _ _ _ l) refl)
-
-    pub awaited-low : k < 8 → 0 ≡ awaitedOf told
-    awaited-low l = sym (ap awaitedOf same-state ∙ rw (← e) (awaits-none k _ _ _ l))
-
-    pub awaited-high : 9 < k → 255 ≡ awaitedOf told
-    awaited-high l = sym (ap awaitedOf same-state ∙ rw (← e, no-kind k _ _ _ l) refl)
-
-    pub awaited-there : 8 ≤ k → k ≤ 9 → getD s (898 + i) 0 ≡ awaitedOf told
-    awaited-there g l = sym (ap awaitedOf same-state ∙ rw (← e) (awaits-some k _ _ _ g l))
 
   -- its priority
   pub level-there : (p : ℕ) → p ≡ i * 26 + 14 → getD s p 0 ≡ getD (loadOf s .tasks) i noTask .priority

@@ -6,25 +6,26 @@ use mathlib.Core.Bool.{Bool, true, false, not, cond, _||_}
 use mathlib.Core.List.{List, []}
 use native.Mathlib.Omega.{arith}
 use native.Mathlib.Numerals.{add-one}
-use borrow.Author.Tests.{eqb-true, eqb-false, eq-eqb, ne-eqb}
+use borrow.Author.Tests.{eqb-true, eqb-false, eq-eqb, ne-eqb, ltb-true, ltb-false}
 use lib.Dec.{eqb, ltb}
-use lib.Pow.{pow-lt, pow-pos}
+use lib.Pow.{pow-lt, pow-pos, pow-mono}
 use lib.Bits.{bitAnd, bitOr, or-zero-l, or-lt}
-use lib.ListN.{length, take, drop, getD, take-append-drop}
-use lib.Seq.{length-take-le, getD-take, take-suc, take-all, drop-cons}
+use lib.ListN.{length, take, drop, getD, set, replicate, take-append-drop, length-set, length-replicate, getD-replicate}
+use lib.Seq.{length-take-le, getD-take, getD-set-same, getD-set-other, take-suc, take-all, drop-cons}
 use Rattle.records.specs.declared.TaskNo.{TaskNo}
 use Rattle.executive.specs.declared.State.{State}
 use Rattle.executive.specs.declared.Task.{Task}
 use Rattle.executive.specs.Lists.{one, sumOf, _and_, upTo}
 use Rattle.executive.specs.Places.{nobody, noTask, taskAt, entryPlace}
 use Rattle.executive.specs.Table.{items, levelBit, levelsOf}
+use Rattle.executive.specs.States.{isOf}
 use Rattle.executive.specs.Flags.{isSet}
 use Rattle.executive.specs.Check.{falls, standsIn, exactAt}
 use Rattle.executive.proofs.Assured.{one-le, all-not, all-get, all-make, false-not-true, and-false-left, and-false-right, sum-append, sum-snoc, set-none, set-or, set-same, set-only, set-within, same-bits, same, falls-turn, falls-off, falls-over, falls-end, word-on, word-end}
 use Rattle.image.specs.Image.{lineFrom, loadOf}
-use Rattle.image.specs.Marks.{stood, passed, Marked, Walks}
+use Rattle.image.specs.Marks.{stood, passed, Marked, Sets, Kinds, Walks}
 use Rattle.image.proofs.Alike.{decide}
-use Rattle.image.proofs.Loaded.{tasks-size, line-size, placed-there, level-there}
+use Rattle.image.proofs.Loaded.{tasks-size, line-size, placed-there, level-there, kind-there}
 
 -- ---- one bit
 pub bit-other : (k j : ℕ) → (j ≡ k → ⊥) → isSet (2 ^ k) j ≡ false
@@ -99,9 +100,57 @@ marks-next k w c b t e = go b e
               (λ q. let z = eqb-false j k q in t .told j (omega (arith, z)));
         }
 
+-- the same set where nobody of some more tasks is among them
+pub marks-on : (a b w : ℕ) (c : ℕ → ℕ) → a ≤ b → Marked a w c → ((j : ℕ) → a ≤ j → j < b → c j ≡ 0) → Marked b w c
+marks-on a b w c h t z =
+    record {
+      low = omega (arith, t .low, pow-mono {i = a} {j = b} h);
+      told =
+          λ j g.
+          decide (ltb j a)
+          (λ e. t .told j (ltb-true j a e))
+          (λ e. let l = ltb-false j a e in z j l g ∙ sym (ap one (decide (isSet w j) (λ q. absurd (omega (arith, set-within a w j (t .low) q))) (λ q. q))));
+    }
+
 pub passed-at : (f : State → Bool) (ts : List Task) (k : ℕ) (b : Bool) → b ≡ f (getD ts k noTask .state) → passed f ts k ≡ one b
 unfolding taskAt
 passed-at f ts k b e = ap one (sym e)
+
+-- ---- the sets of those who pass each of m tests: of no tasks yet
+pub sets-none : (m : ℕ) (f : ℕ → State → Bool) (ts : List Task) → Sets m 0 (replicate m 0) f ts
+sets-none m f ts = record { sized = length-replicate m 0; each = λ j h. rw (getD-replicate {A = ℕ} m j 0 0 h) (marks-first (passed (f j) ts)) }
+
+-- one task more, who passes the test a and no other
+module _ (m k : ℕ) (ws : List ℕ) (f : ℕ → State → Bool) (ts : List Task) (w : Sets m k ws f ts) (a bit : ℕ) (l : a < m) (b : bit ≡ 2 ^ k)
+    (q : (j : ℕ) → eqb j a ≡ f j (getD ts k noTask .state)) where
+  abbrev grown : List ℕ
+  grown = set ws a (bitOr (getD ws a 0) bit)
+
+  next-set : (j : ℕ) → j < m → Marked (k + 1) (cond (eqb j a) (bitOr (getD ws j 0) (2 ^ k)) (getD ws j 0)) (passed (f j) ts)
+  next-set j h = marks-next k (getD ws j 0) (passed (f j) ts) (eqb j a) (w .each j h) (passed-at (f j) ts k (eqb j a) (q j))
+
+  this-set : (j : ℕ) → j < m → eqb j a ≡ true → Marked (k + 1) (getD grown j 0) (passed (f j) ts)
+  this-set j h e =
+      let z : j ≡ a = eqb-true j a e in
+      let p : getD grown j 0 ≡ bitOr (getD ws j 0) (2 ^ k) =
+      ap (λ (x : ℕ). getD grown x 0) z
+      ∙ getD-set-same ws a (bitOr (getD ws a 0) bit) 0 (omega (arith, l, w .sized))
+      ∙ ap (bitOr (getD ws a 0)) b
+      ∙ ap (λ (x : ℕ). bitOr (getD ws x 0) (2 ^ k)) (sym z) in
+      rw p (rw e at (next-set j h))
+
+  that-set : (j : ℕ) → j < m → eqb j a ≡ false → Marked (k + 1) (getD grown j 0) (passed (f j) ts)
+  that-set j h e = rw (getD-set-other ws a j (bitOr (getD ws a 0) bit) 0 (eqb-false j a e)) (rw e at (next-set j h))
+
+  pub sets-one : Sets m (k + 1) (set ws a (bitOr (getD ws a 0) bit)) f ts
+  sets-one = record { sized = length-set ws a (bitOr (getD ws a 0) bit) ∙ w .sized; each = λ j h. decide (eqb j a) (this-set j h) (that-set j h) }
+
+-- of the kinds: that of the i-th entry is a
+pub kinds-one : (s : List ℕ) (k : ℕ) → k < 16 → (ws : List ℕ) → Kinds k ws (loadOf s .tasks) → (bit : ℕ) → bit ≡ 2 ^ k → getD s (k * 26 + 1) 0 ≤ 9
+    → Kinds (k + 1) (set ws (getD s (k * 26 + 1) 0) (bitOr (getD ws (getD s (k * 26 + 1) 0) 0) bit)) (loadOf s .tasks)
+kinds-one s k h ws w bit b l =
+    sets-one 10 k ws isOf (loadOf s .tasks) w (getD s (k * 26 + 1) 0) bit (omega arith) b
+    (λ j. ap (eqb j) (kind-there s k h (getD s (k * 26 + 1) 0) refl l))
 
 -- ---- the law: the two sets are one exactly where each task stands in the line as often as its state says
 pub one-same : (a b : Bool) → one a ≡ one b → a ≡ b

@@ -1,6 +1,6 @@
 -- Sets of tasks as words: the set of those named, with none named twice, is that of those who pass a test exactly where each
 -- of them is named once and no other.
-use Prim.Native.Nat.{ℕ, zero, suc, _+_, _*_, _^_, _≤_, _<_}
+use Prim.Native.Nat.{ℕ, zero, suc, _+_, _*_, _/_, _%_, _^_, _≤_, _<_}
 use mathlib.Core.Path.{_≡_, refl, sym, ap, _∙_}
 use mathlib.Core.Bool.{Bool, true, false, not, cond, _||_}
 use mathlib.Core.List.{List, [], _∷_, _++_}
@@ -8,10 +8,11 @@ use native.Mathlib.Omega.{arith}
 use native.Mathlib.Numerals.{add-one}
 use borrow.Author.Tests.{eqb-true, eqb-false, eq-eqb, ne-eqb, lt-ltb, ltb-true, le-leb, lt-leb, leb-true, leb-false}
 use lib.Dec.{eqb, leb, ltb}
-use lib.Pow.{pow-lt}
+use lib.Pow.{pow-lt, pow-mono}
 use lib.Bits.{bitAnd, bitOr, or-lt}
 use lib.ListN.{length, getD, drop, drop-of-length-le}
 use lib.Seq.{drop-cons}
+use Rattle.executive.specs.declared.State.{State}
 use Rattle.executive.specs.declared.Task.{Task}
 use Rattle.executive.specs.declared.Request.{Request}
 use Rattle.executive.specs.Lists.{one, sumOf, _and_, upTo}
@@ -20,11 +21,13 @@ use Rattle.executive.specs.States.{awaitStart, awaitEnd}
 use Rattle.executive.specs.Flags.{isSet}
 use Rattle.executive.specs.WellFormed.{startsOf, endsOf, runsOf}
 use Rattle.executive.specs.Check.{waitersAt}
-use Rattle.executive.proofs.Assured.{one-le, all-not, all-get, all-make, sum-append, false-not-true, eqb-self, and-true, and-false-left, and-false-right, and-true-left, of-not, set-none, set-or, set-same, same-bits, same}
+use Rattle.executive.proofs.Assured.{one-le, all-get, all-make, sum-append, false-not-true, eqb-self, and-true, set-none, set-or, set-same, set-within, same-bits, same}
 use Rattle.image.specs.Sound.{naming, namings, namesIn, setOf, waitsAs, namesOther}
+use Rattle.image.specs.Marks.{passed, Marked}
 use Rattle.image.proofs.Alike.{decide}
 use Rattle.image.proofs.Spans.{length-blocks, block-at}
 use Rattle.image.proofs.Marked.{bit-other, one-same}
+use Rattle.image.proofs.SetBits.{bit-low as lowest, bit-shifted}
 
 -- how often number k stands among some
 abbrev pub timesOf : ℕ → List ℕ → ℕ
@@ -245,11 +248,6 @@ unfolding namings
 namings-then n w [] ys = refl
 namings-then n w (x ∷ xs) ys = namings-then n (naming n w x) xs ys
 
--- ---- the set of those who pass a test, one more
-pub set-turn : (f : ℕ → Bool) (k w r : ℕ) (b : Bool) → w ≡ setOf f k → b ≡ f (k + 1) → r ≡ bitOr w (cond b (2 ^ (k + 1)) 0) → r ≡ setOf f (k + 1)
-unfolding setOf
-set-turn f k w r b e g h = h ∙ rw (e, g, add-one) refl
-
 -- ---- tests at each number, put together
 up-and : (f g : ℕ → Bool) (n : ℕ) → upTo (λ (k : ℕ). f k and g k) n ≡ (upTo f n and upTo g n)
 unfolding upTo
@@ -267,50 +265,69 @@ unfolding upTo
 up-same f g zero h = refl
 up-same f g (suc n) h = rw (up-same f g n h, h (suc n)) refl
 
--- ---- the waiters of the requests p and of the runs of ts: those named at the start by `starts`, at the end by `asked` and
--- `runs`
+-- ---- the waiters of the requests p and of the runs of ts: those named at the start by `starts`, at the end by `runs` and
+-- `asked`
 module _ (ts : List Task) (p : List Request) (n : ℕ) (hn : n ≤ 16) (starts asked runs : List ℕ) where
   pub waiters-named : ((k : ℕ) → timesOf k starts ≡ startsOf k p) → ((k : ℕ) → timesOf k asked ≡ endsOf k p) → ((k : ℕ) → timesOf k runs ≡ runsOf k ts)
-      → (eqb (namings n 0 starts) (setOf (waitsAs awaitStart ts) n) and eqb (namings n (namings n 0 asked) runs) (setOf (waitsAs awaitEnd ts) n) and upTo (namesOther ts) n)
+      → (eqb (namings n 0 starts) (setOf (waitsAs awaitStart ts) n) and eqb (namings n (namings n 0 runs) asked) (setOf (waitsAs awaitEnd ts) n) and upTo (namesOther ts) n)
       ≡ upTo (waitersAt ts p) n
   unfolding waitersAt
   waiters-named a b d =
       let A : ℕ → Bool = λ k. eqb (timesOf k starts) (one (waitsAs awaitStart ts k)) in
-      let B : ℕ → Bool = λ k. eqb (timesOf k (asked ++ runs)) (one (waitsAs awaitEnd ts k)) in
-      let both : (k : ℕ) → timesOf k (asked ++ runs) ≡ endsOf k p + runsOf k ts = λ k. sum-append (λ (j : ℕ). one (eqb k j)) asked runs ∙ omega (arith, b k, d k) in
+      let B : ℕ → Bool = λ k. eqb (timesOf k (runs ++ asked)) (one (waitsAs awaitEnd ts k)) in
+      let both : (k : ℕ) → timesOf k (runs ++ asked) ≡ endsOf k p + runsOf k ts = λ k. sum-append (λ (j : ℕ). one (eqb k j)) runs asked ∙ omega (arith, b k, d k) in
       let x : upTo (waitersAt ts p) n ≡ upTo (λ (k : ℕ). A k and (B k and namesOther ts k)) n = up-same (waitersAt ts p) (λ (k : ℕ). A k and (B k and namesOther ts k)) n (λ k. rw (a k, both k) refl) in
       let y : upTo (λ (k : ℕ). A k and (B k and namesOther ts k)) n ≡ (upTo A n and (upTo B n and upTo (namesOther ts) n)) = up-and A (λ (k : ℕ). B k and namesOther ts k) n ∙ ap (λ (z : Bool). upTo A n and z) (up-and B (namesOther ts) n) in
-      rw (namings-then n 0 asked runs, named-exact n hn (waitsAs awaitStart ts) starts, named-exact n hn (waitsAs awaitEnd ts) (asked ++ runs)) (sym (x ∙ y))
+      rw (namings-then n 0 runs asked, named-exact n hn (waitsAs awaitStart ts) starts, named-exact n hn (waitsAs awaitEnd ts) (runs ++ asked)) (sym (x ∙ y))
 
--- ---- the loop over those who wait: one whose run names itself, one whose run does not, and its end
+-- ---- a run that does not name itself, and one that does
 pub some-of : (k : ℕ) → (k ≡ 0 → ⊥) → 0 < k
 some-of zero n = absurd (n refl)
 some-of (suc k) n = omega arith
 
-module _ (ts : List Task) (k w : ℕ) (e : w ≡ taskAt ts (k + 1) .«end_waiter» .0) where
-  pub other-named : (k + 1 ≡ w → ⊥) → namesOther ts (k + 1) ≡ true
-  other-named d = of-not _ (ap (eqb (k + 1)) (sym e) ∙ ne-eqb (k + 1) w d)
+-- ---- a set of tasks with bit i for the i-th entry, moved up: bit k for task k
+module _ (w : ℕ) where
+  moved-none : isSet (w * 2) 0 ≡ false
+  moved-none = let z : w * 2 / 2 ^ 0 % 2 ≡ 0 = omega arith in lowest (w * 2) 0 ∙ ap (λ (x : ℕ). not (eqb x 0)) z
 
-  itself : k + 1 ≡ w → namesOther ts (k + 1) ≡ false
-  itself q = ap (λ (x : ℕ). not (eqb (k + 1) x)) (sym e) ∙ ap not (eq-eqb (k + 1) w q)
+  moved-next : (j : ℕ) → isSet (w * 2) (suc j) ≡ isSet w j
+  moved-next j =
+      let z : 1 + j ≡ suc j = omega arith in
+      let e : w * 2 / 2 ^ 1 ≡ w = omega arith in
+      ap (isSet (w * 2)) (sym z) ∙ sym (bit-shifted (w * 2) 1 j) ∙ ap (λ (x : ℕ). isSet x j) e
 
-  pub itself-named : (n starts ends : ℕ) → k < n → k + 1 ≡ w
-      → false ≡ (eqb starts (setOf (waitsAs awaitStart ts) n) and eqb ends (setOf (waitsAs awaitEnd ts) n) and upTo (namesOther ts) n)
-  itself-named n starts ends h q =
-      and-false-right (eqb starts (setOf (waitsAs awaitStart ts) n)) _
-      (and-false-right (eqb ends (setOf (waitsAs awaitEnd ts) n)) _ (sym (all-not (namesOther ts) n k h (itself q))))
+module _ (f : State → Bool) (ts : List Task) (n w : ℕ) (hn : n ≤ 16) (m : Marked n w (passed f ts)) where
+  abbrev test : ℕ → Bool
+  test k = f (taskAt ts k .state)
 
-module _ (ts : List Task) (n k starts ends start end : ℕ) (q : k ≡ n) (a : start ≡ setOf (waitsAs awaitStart ts) k) (b : end ≡ setOf (waitsAs awaitEnd ts) k) where
-  pub starts-differ : (starts ≡ start → ⊥) → false ≡ (eqb starts (setOf (waitsAs awaitStart ts) n) and eqb ends (setOf (waitsAs awaitEnd ts) n) and upTo (namesOther ts) n)
-  starts-differ d = and-false-left _ _ (ap (eqb starts) (sym (a ∙ ap (setOf (waitsAs awaitStart ts)) q)) ∙ ne-eqb starts start d)
+  moved-low : w * 2 < 2 ^ 17
+  moved-low = omega (arith, m .low, pow-mono {i = n} {j = 16} hn)
 
-  pub starts-agree : upTo (namesOther ts) k ≡ true → starts ≡ start → eqb ends end ≡ (eqb starts (setOf (waitsAs awaitStart ts) n) and eqb ends (setOf (waitsAs awaitEnd ts) n) and upTo (namesOther ts) n)
-  starts-agree u s =
-      let x : upTo (namesOther ts) n ≡ true = ap (upTo (namesOther ts)) (sym q) ∙ u in
-      let y : end ≡ setOf (waitsAs awaitEnd ts) n = b ∙ ap (setOf (waitsAs awaitEnd ts)) q in
-      let z : starts ≡ setOf (waitsAs awaitStart ts) n = s ∙ a ∙ ap (setOf (waitsAs awaitStart ts)) q in
-      and-true-left _ _ _ (eq-eqb starts (setOf (waitsAs awaitStart ts) n) z) (ap (eqb ends) y ∙ sym (last (eqb ends (setOf (waitsAs awaitEnd ts) n)) (upTo (namesOther ts) n) x))
+  moved-whole : w * 2 % 4294967296 ≡ w * 2
+  moved-whole = omega (arith, moved-low)
+
+  told-bit : (j : ℕ) → j < n → isSet w j ≡ test (suc j)
+  told-bit j h = one-same _ _ (sym (m .told j h))
+
+  bit-past : (j : ℕ) → n ≤ j → isSet w j ≡ false
+  bit-past j h = decide (isSet w j) (λ e. absurd (omega (arith, set-within n w j (m .low) e))) (λ e. e)
+
+  -- it is the set of those who pass
+  pub moved-set : w * 2 % 4294967296 ≡ setOf (λ (k : ℕ). f (taskAt ts k .state)) n
+  moved-set = moved-whole ∙ same-bits 17 (w * 2) (setOf test n) moved-low (set-below test n hn) (λ p. (λ h. sym (bit p) ∙ h, λ h. bit p ∙ h))
     where
-      last : (a u : Bool) → u ≡ true → (a and u) ≡ a
-      last true u e = e
-      last false u e = refl
+      bit : (p : ℕ) → isSet (w * 2) p ≡ isSet (setOf test n) p
+      bit zero = moved-none w ∙ sym (set-zero test n)
+      bit (suc j) = moved-next w j ∙ decide (leb (suc j) n)
+          (λ e. let h = leb-true (suc j) n e in told-bit j h ∙ sym (set-at test n (suc j) (omega arith) h))
+          (λ e. let h = leb-false (suc j) n e in bit-past j (omega arith) ∙ sym (set-over test n (suc j) h))
+
+  -- and with bit 0, where number 0, which names no task, passes as well
+  pub moved-bits : f (taskAt ts 0 .state) ≡ true → (k : ℕ) → k ≤ n → isSet (bitOr (w * 2 % 4294967296) 1) k ≡ f (taskAt ts k .state)
+  moved-bits e zero h = set-or 0 (w * 2 % 4294967296) 1 ∙ or-right (isSet (w * 2 % 4294967296) 0) _ (set-same 0) ∙ sym e
+  moved-bits e (suc j) h =
+      set-or (suc j) (w * 2 % 4294967296) 1
+      ∙ or-same (isSet (w * 2 % 4294967296) (suc j)) _ (bit-other 0 (suc j) (λ z. omega arith))
+      ∙ ap (λ (x : ℕ). isSet x (suc j)) moved-whole
+      ∙ moved-next w j
+      ∙ told-bit j h

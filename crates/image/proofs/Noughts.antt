@@ -1,19 +1,21 @@
 -- Bytes that are all zero: numbers, blocks and rows of blocks that are, as one test of their bytes.
-use Prim.Native.Nat.{ℕ, zero, suc, _+_, _-_, _*_, _≤_}
+use Prim.Native.Nat.{ℕ, zero, suc, _+_, _-_, _*_, _%_, _≤_, _<_}
 use mathlib.Core.Path.{_≡_, refl, sym, ap, _∙_}
-use mathlib.Core.Bool.{Bool, true, false, cond}
+use mathlib.Core.Bool.{Bool, true, false, not, cond}
 use mathlib.Core.List.{List, [], _∷_}
 use native.Mathlib.Omega.{arith}
-use native.Mathlib.Nat.{add-zero, suc-mul, zero-mul}
-use borrow.Author.Tests.{eqb-true, eqb-false, eq-eqb, ne-eqb}
-use lib.Dec.{eqb}
+use native.Mathlib.Nat.{add-zero, suc-mul, zero-mul, mod-eq-of-lt}
+use borrow.Author.Tests.{eqb-true, eqb-false, eq-eqb, ne-eqb, lt-ltb, le-ltb}
+use lib.Dec.{eqb, ltb}
+use lib.Bits.{bitOr, or-shifted-r}
 use lib.ListN.{length, getD, drop}
 use Rattle.records.specs.Numbers.{numberFrom, numberOf, part}
 use Rattle.executive.specs.Lists.{_and_, allOf}
+use Rattle.executive.proofs.Assured.{or-none}
 use Rattle.executive.specs.Check.{isNobody, isFree, isFreeSub, isNoMessage, isNoMail}
 use Rattle.image.specs.Blocks.{blocks}
 use Rattle.image.specs.Image.{placeFrom, lineFrom, requestFrom, subFrom, messageFrom, mailFrom, loadOf}
-use Rattle.image.specs.Sound.{noughts, poolIn, messagesIn, subsIn, mailIn}
+use Rattle.image.specs.Sound.{noughts, poolIn, messagesIn}
 use Rattle.image.proofs.Spans.{length-blocks}
 use Rattle.image.proofs.Rows.{blocks-from}
 
@@ -45,9 +47,33 @@ digit-nought n b = go (eqb n 0) (eqb b 0) refl refl
     go true false e f = ne-eqb (n * 256 + b) 0 (λ z. eqb-false b 0 f (omega (arith, z)))
     go false y e f = ne-eqb (n * 256 + b) 0 (λ z. eqb-false n 0 e (omega (arith, z)))
 
+-- ---- two numbers put together are zero where both are
+pub or-zero : (x y : ℕ) → eqb (bitOr x y) 0 ≡ cond (eqb x 0) (eqb y 0) false
+or-zero x y = or-none x y ∙ sym (cond-and (eqb x 0) (eqb y 0))
+
+-- ---- four bytes put together by shifts, the last the highest, and what the upper two are
+shifted-four : (a b c d : ℕ) → a < 256 → b < 256 → c < 256 → d < 256
+    → bitOr (bitOr (bitOr a (b * 256 % 4294967296)) (c * 65536 % 4294967296)) (d * 16777216 % 4294967296) ≡ numberOf (d ∷ c ∷ b ∷ a ∷ [])
+shifted-four a b c d ha hb hc hd =
+    let eb : b * 256 % 4294967296 ≡ b * 256 = mod-eq-of-lt (omega arith) in
+    let ec : c * 65536 % 4294967296 ≡ c * 65536 = mod-eq-of-lt (omega arith) in
+    let ed : d * 16777216 % 4294967296 ≡ d * 16777216 = mod-eq-of-lt (omega arith) in
+    rw (eb, ec, ed)
+    (ap (λ (x : ℕ). bitOr (bitOr x (c * 65536)) (d * 16777216)) (or-shifted-r b 8 a ha)
+    ∙ ap (λ (x : ℕ). bitOr x (d * 16777216)) (or-shifted-r c 16 (b * 256 + a) (omega arith))
+    ∙ or-shifted-r d 24 (c * 65536 + (b * 256 + a)) (omega arith)
+    ∙ omega arith)
+
+upper-two : (a b c d : ℕ) → a < 256 → b < 256 → ltb 65535 (numberOf (d ∷ c ∷ b ∷ a ∷ [])) ≡ not (eqb (d * 256 + c) 0)
+upper-two a b c d ha hb = go (eqb (d * 256 + c) 0) refl
+  where
+    go : (x : Bool) → eqb (d * 256 + c) 0 ≡ x → ltb 65535 (numberOf (d ∷ c ∷ b ∷ a ∷ [])) ≡ not x
+    go true e = le-ltb 65535 (numberOf (d ∷ c ∷ b ∷ a ∷ [])) (omega (arith, eqb-true (d * 256 + c) 0 e))
+    go false e = lt-ltb 65535 (numberOf (d ∷ c ∷ b ∷ a ∷ [])) (omega (arith, eqb-false (d * 256 + c) 0 e))
+
 module _ (s : List ℕ) where
   -- ---- so many bytes, and so many right behind them
-  noughts-join : (m n at : ℕ) → noughts s (m + n) at ≡ cond (noughts s m at) (noughts s n (at + m)) false
+  pub noughts-join : (m n at : ℕ) → noughts s (m + n) at ≡ cond (noughts s m at) (noughts s n (at + m)) false
   unfolding noughts
   noughts-join zero n at = let z : 0 + n ≡ n = omega arith in rw (z, add-zero at) refl
   noughts-join (suc m) n at =
@@ -55,28 +81,16 @@ module _ (s : List ℕ) where
       let y : at + suc m ≡ suc at + m = omega arith in
       rw (z, y) (ap (λ (x : Bool). cond (eqb (getD s at 0) 0) x false) (noughts-join m n (suc at)) ∙ cond-cond (eqb (getD s at 0) 0) (noughts s m (suc at)) (noughts s n (suc at + m)))
 
-  -- some bytes of which the first w are zero, or are not
-  pub noughts-not : (w n at : ℕ) → w ≤ n → noughts s w at ≡ false → noughts s n at ≡ false
-  noughts-not w n at h e =
-      let z : n ≡ w + (n - w) = omega arith in
-      ap (λ (m : ℕ). noughts s m at) z ∙ noughts-join w (n - w) at ∙ rw e refl
+  -- x tells of some bytes, y of those right behind them: put together they tell of all; the same of the bytes from a place up to
+  -- another, and on
+  pub or-noughts : (m n at x y : ℕ) → eqb x 0 ≡ noughts s m at → eqb y 0 ≡ noughts s n (at + m) → eqb (bitOr x y) 0 ≡ noughts s (m + n) at
+  or-noughts m n at x y e f = or-zero x y ∙ rw (e, f) (sym (noughts-join m n at))
 
-  pub noughts-on : (w n at : ℕ) → w ≤ n → noughts s w at ≡ true → noughts s (n - w) (at + w) ≡ noughts s n at
-  noughts-on w n at h e =
-      let z : n ≡ w + (n - w) = omega arith in
-      sym (ap (λ (m : ℕ). noughts s m at) z ∙ noughts-join w (n - w) at ∙ rw e refl)
-
-  -- the same of those from a place up to another
-  pub noughts-past : (w at to : ℕ) → w ≤ to - at → noughts s w at ≡ true → noughts s (to - (at + w)) (at + w) ≡ noughts s (to - at) at
-  noughts-past w at to h e = let z : to - (at + w) ≡ to - at - w = omega arith in ap (λ (n : ℕ). noughts s n (at + w)) z ∙ noughts-on w (to - at) at h e
-
-  -- not all are zero where the first w are not, as x tells, or others if they are
-  pub noughts-or : (w n at x : ℕ) → w ≤ n → eqb x 0 ≡ noughts s w at → (x ≡ 0 → noughts s n at ≡ false) → noughts s n at ≡ false
-  noughts-or w n at x h q k = go (eqb x 0) refl
-    where
-      go : (v : Bool) → eqb x 0 ≡ v → noughts s n at ≡ false
-      go true e = k (eqb-true x 0 e)
-      go false e = noughts-not w n at h (sym q ∙ e)
+  pub or-past : (w from at x y : ℕ) → from ≤ at → eqb x 0 ≡ noughts s (at - from) from → eqb y 0 ≡ noughts s w at → eqb (bitOr x y) 0 ≡ noughts s (at + w - from) from
+  or-past w from at x y h e f =
+      let z : at ≡ from + (at - from) = omega arith in
+      let n : at - from + w ≡ at + w - from = omega arith in
+      or-noughts (at - from) w from x y e (f ∙ ap (noughts s w) z) ∙ ap (λ (m : ℕ). noughts s m from) n
 
   pub noughts-none : (n at : ℕ) → n ≡ 0 → noughts s n at ≡ true
   unfolding noughts
@@ -87,17 +101,34 @@ module _ (s : List ℕ) where
   unfolding noughts
   byte-nought at = cond-true (eqb (getD s at 0) 0)
 
+  -- and one byte more
+  pub or-byte : (m at x y : ℕ) → eqb x 0 ≡ noughts s m at → y ≡ getD s (at + m) 0 → eqb (bitOr x y) 0 ≡ noughts s (m + 1) at
+  or-byte m at x y e f = or-noughts m 1 at x y e (ap (λ (n : ℕ). eqb n 0) f ∙ sym (byte-nought (at + m)))
+
   -- ---- a number of some bytes, the last the highest; that of four
   behind-nought : (w n at : ℕ) → eqb n 0 ≡ noughts s w (suc at) → eqb (n * 256 + getD s at 0) 0 ≡ noughts s (suc w) at
   unfolding noughts
   behind-nought w n at e = digit-nought n (getD s at 0) ∙ cond-swap (eqb n 0) (eqb (getD s at 0) 0) ∙ ap (λ (x : Bool). cond (eqb (getD s at 0) 0) x false) e
 
-  pub quad-nought : (at : ℕ) → eqb (numberOf (getD s (at + 3) 0 ∷ getD s (at + 2) 0 ∷ getD s (at + 1) 0 ∷ getD s at 0 ∷ [])) 0 ≡ noughts s 4 at
+  quad-nought : (at : ℕ) → eqb (numberOf (getD s (at + 3) 0 ∷ getD s (at + 2) 0 ∷ getD s (at + 1) 0 ∷ getD s at 0 ∷ [])) 0 ≡ noughts s 4 at
   quad-nought at =
       let e1 : at + 1 ≡ suc at = omega arith in
       let e2 : at + 2 ≡ suc (suc at) = omega arith in
       let e3 : at + 3 ≡ suc (suc (suc at)) = omega arith in
       rw (e1, e2, e3) (behind-nought 3 _ at (behind-nought 2 _ (suc at) (behind-nought 1 _ (suc (suc at)) (sym (byte-nought (suc (suc (suc at))))))))
+
+  -- the same of bytes that were read and put together, as `zeros::quad` does
+  pub quad-put : (at a b c d : ℕ) → a ≡ getD s at 0 → b ≡ getD s (at + 1) 0 → c ≡ getD s (at + 2) 0 → d ≡ getD s (at + 3) 0 → a < 256 → b < 256 → c < 256 → d < 256
+      → let r = bitOr (bitOr (bitOr a (b * 256 % 4294967296)) (c * 65536 % 4294967296)) (d * 16777216 % 4294967296) in
+      (eqb r 0 ≡ noughts s 4 at) × (ltb 65535 r ≡ not (noughts s 2 (at + 2)))
+  quad-put at a b c d ea eb ec ed ha hb hc hd =
+      let n = shifted-four a b c d ha hb hc hd in
+      let z : at + 3 ≡ suc (at + 2) = omega arith in
+      let u : eqb (d * 256 + c) 0 ≡ noughts s 2 (at + 2) =
+      rw (ec, ed, z) (behind-nought 1 (getD s (suc (at + 2)) 0) (at + 2) (sym (byte-nought (suc (at + 2))))) in (
+        ap (λ (x : ℕ). eqb x 0) n ∙ (λ j. eqb (numberOf (ed j ∷ ec j ∷ eb j ∷ ea j ∷ [])) 0) ∙ quad-nought at,
+        ap (ltb 65535) n ∙ upper-two a b c d ha hb ∙ ap not u,
+      )
 
   -- ---- a number of some bytes; some numbers one after the other
   from-nought : (w n at : ℕ) → eqb (numberFrom n (part w at s)) 0 ≡ cond (eqb n 0) (noughts s w at) false
@@ -105,7 +136,7 @@ module _ (s : List ℕ) where
   from-nought zero n at = sym (cond-true (eqb n 0))
   from-nought (suc w) n at = from-nought w (n * 256 + getD s at 0) (suc at) ∙ ap (λ (x : Bool). cond x (noughts s w (suc at)) false) (digit-nought n (getD s at 0)) ∙ sym (cond-cond (eqb n 0) (eqb (getD s at 0) 0) (noughts s w (suc at)))
 
-  number-nought : (w at : ℕ) → eqb (numberOf (part w at s)) 0 ≡ noughts s w at
+  pub number-nought : (w at : ℕ) → eqb (numberOf (part w at s)) 0 ≡ noughts s w at
   unfolding noughts
   number-nought zero at = refl
   number-nought (suc w) at = from-nought w (getD s at 0) (suc at)
@@ -114,7 +145,7 @@ module _ (s : List ℕ) where
   pub two-nought : (v w at : ℕ) → (eqb (numberOf (part v at s)) 0 and eqb (numberOf (part w (at + v) s)) 0) ≡ noughts s (v + w) at
   two-nought v w at = sym (cond-and (eqb (numberOf (part v at s)) 0) (eqb (numberOf (part w (at + v) s)) 0)) ∙ rw (number-nought v at, number-nought w (at + v)) (sym (noughts-join v w at))
 
-  more-nought : (v n at : ℕ) {x : Bool} → x ≡ noughts s n (at + v) → (eqb (numberOf (part v at s)) 0 and x) ≡ noughts s (v + n) at
+  pub more-nought : (v n at : ℕ) {x : Bool} → x ≡ noughts s n (at + v) → (eqb (numberOf (part v at s)) 0 and x) ≡ noughts s (v + n) at
   more-nought v n at {x} e = sym (cond-and (eqb (numberOf (part v at s)) 0) x) ∙ rw (number-nought v at, e) (sym (noughts-join v n at))
 
   -- ---- a free place of the pool, a free place of the messages, no mail, nobody at a place of a line, a free subprogram
@@ -124,7 +155,7 @@ module _ (s : List ℕ) where
   no-message-nought : (at : ℕ) → isNoMessage (messageFrom s at) ≡ noughts s 11 at
   no-message-nought at = more-nought 1 10 at (more-nought 1 9 (at + 1) (two-nought 1 8 (at + 1 + 1)))
 
-  no-mail-nought : (at : ℕ) → isNoMail (mailFrom s at) ≡ noughts s 9 at
+  pub no-mail-nought : (at : ℕ) → isNoMail (mailFrom s at) ≡ noughts s 9 at
   no-mail-nought at = two-nought 1 8 at
 
   nobody-nought : (at : ℕ) → isNobody (placeFrom s at) ≡ noughts s 1 at
@@ -163,12 +194,3 @@ module _ (s : List ℕ) where
       let z : (16 - k) * 1 ≡ at + 16 - (at + k) = omega arith in
       let y : at + k * 1 ≡ at + k = omega arith in
       ap (allOf isNobody) (blocks-from (placeFrom s) 1 16 at k h) ∙ row-nought isNobody (placeFrom s) 1 nobody-nought (16 - k) (at + k * 1) ∙ rw (z, y) refl
-
-  -- the subprograms, the mail
-  pub subs-nought : allOf isFreeSub (subsIn s) ≡ noughts s 144 914
-  unfolding loadOf
-  subs-nought = row-nought isFreeSub (subFrom s) 18 sub-nought 8 914
-
-  pub mail-nought : allOf isNoMail (mailIn s) ≡ noughts s 144 1411
-  unfolding loadOf
-  mail-nought = row-nought isNoMail (mailFrom s) 9 no-mail-nought 16 1411

@@ -2,13 +2,12 @@
 use Prim.Native.Nat.{ℕ, zero, suc, _+_, _-_, _*_, _^_, _≤_, _<_}
 use mathlib.Core.Path.{_≡_, refl, sym, ap, subst, _∙_}
 use mathlib.Core.Bool.{Bool, true, false, cond}
-use mathlib.Core.List.{List, [], _∷_, _++_, tail}
+use mathlib.Core.List.{List, [], _∷_, _++_}
 use native.Mathlib.Omega.{arith}
-use native.Mathlib.Nat.{add-assoc}
 use borrow.Author.Tests.{eq-eqb, ne-eqb, le-leb, lt-leb}
 use lib.Bits.{bitOr}
 use lib.ListN.{length, getD, take, drop, set, length-append, length-drop, length-set}
-use lib.Seq.{length-take-le, getD-set-same, set-set, set-getD, drop-append-add}
+use lib.Seq.{length-take-le, getD-set-same, getD-set-other, set-set, set-getD, drop-append-add}
 use Rattle.records.specs.declared.TaskNo.{TaskNo}
 use Rattle.records.specs.Numbers.{bytesIn}
 use Rattle.executive.specs.declared.Millis.{Millis}
@@ -20,25 +19,27 @@ use Rattle.executive.specs.declared.Rest.{Rest}
 use Rattle.executive.specs.declared.Table.{Table}
 use Rattle.executive.specs.Lists.{closedAt, each}
 use Rattle.executive.specs.Places.{nobody, never, noRequest, entryPlace}
-use Rattle.executive.specs.Rest.{remade, withSubs, withPost}
+use Rattle.executive.specs.Rest.{withSubs, withPost}
 use Rattle.executive.specs.Pool.{PoolInOrder, requests, removed, withRequests}
 use Rattle.executive.specs.Table.{withRest, slidOf, headOf}
 use Rattle.executive.specs.Clock.{isDue, rung, advanced, withAlarm, withClock}
 use Rattle.executive.specs.Flags.{withFlags}
-use Rattle.executive.specs.Subprograms.{noSub, subAt, lineOf, LineInOrder, entersIt, joinsLine, handedOn, withSub}
+use Rattle.executive.specs.Subprograms.{noSub, subAt, lineOf, LineInOrder, joinsLine, handedOn, withSub}
 use Rattle.executive.specs.Messages.{noMessage, letters, LettersInOrder, withLetters, putInAt, withMail}
 use Rattle.executive.specs.Decisions.{firstDue}
-use Rattle.executive.proofs.Assured.{slid-length, each-turn, each-end, ringing, ring-on, made-without, made-posted, mail-place, mail-no-place, take-le, made-removed, made-queued, head-taken, made-joined, made-handed, made-free}
+use Rattle.executive.proofs.Assured.{slid-length, each-turn, each-end, ring-on, made-without, made-posted, mail-place, mail-no-place, take-le, made-removed, made-queued, head-taken, made-joined, made-handed, made-free}
 use Rattle.executive.specs.WellFormed.{Sizes}
 use Rattle.image.specs.Blocks.{row, Each, written}
-use Rattle.image.specs.Image.{placeBytes, requestBytes, subBytes, messageBytes, mailBytes, subLength}
+use Rattle.image.specs.Image.{placeBytes, requestBytes, subBytes, messageBytes, mailBytes}
 use Rattle.image.specs.Laid.{Laid, withPool}
-use Rattle.image.proofs.Spans.{Wide, each-all, each-of, each-so, length-row, and-then}
+use Rattle.image.specs.Marks.{Next, Running}
+use Rattle.image.proofs.Spans.{Wide, each-of, each-so, length-row, and-then}
 use Rattle.image.proofs.Trips.{sub-length, image-length}
 use Rattle.image.proofs.Joined.{closed-length, written-past, row-closed, row-slid, row-put, row-read, row-slice}
 use Rattle.image.proofs.Shifts.{before-then}
-use Rattle.image.proofs.Parts.{partsOf, put-laid, read-laid, slice-laid, as-long, request-laid, mail-laid}
+use Rattle.image.proofs.Parts.{partsOf, put-laid, read-laid, slice-laid, as-long, mail-laid}
 use Rattle.image.proofs.QueueLaid.{line-closed, line-slid, closed-long, slid-long}
+use Rattle.image.proofs.RingLaid.{idle, each-skips}
 
 -- a sub put in its place keeps each line's length
 set-lines : (ss : List Sub) (m : ℕ) (x : Sub) → length (x .line) ≡ 16 → ((j : ℕ) → length (getD ss j noSub .line) ≡ 16) → (j : ℕ) → length (getD (set ss m x) j noSub .line) ≡ 16
@@ -322,26 +323,65 @@ rung-clock r i = go (isDue (r .clock .0) (getD (r .alarms) i never))
     go true = refl
     go false = refl
 
--- on the way: those alarms rang that are before i
+rung-not : (r : Rest) (i : ℕ) → isDue (r .clock .0) (getD (r .alarms) i never) ≡ false → rung r i ≡ r
+unfolding rung
+rung-not r i e = rw e refl
+
+rung-ahead : (r : Rest) (i j : ℕ) → i < j → getD (rung r i .alarms) j never ≡ getD (r .alarms) j never
+unfolding rung
+rung-ahead r i j h = go (isDue (r .clock .0) (getD (r .alarms) i never))
+  where
+    go : (b : Bool) → getD (cond b (withFlags (bitOr (r .flags) (2 ^ i)) (withAlarm i never r)) r .alarms) j never ≡ getD (r .alarms) j never
+    go true = getD-set-other (r .alarms) i j never never (omega arith)
+    go false = refl
+
+-- on the way: those alarms rang that are before i, and the others are as they were
 pub record Rung (b : List ℕ) (t : Table) (c first i : ℕ) : Type 0 where
   pub rest : Rest
   pub laid : Laid b (withRest rest t)
   pub clock : c ≡ rest .clock .0
+  pub ahead : (j : ℕ) → i ≤ j → getD (rest .alarms) j never ≡ getD (t .rest .alarms) j never
   pub left : each rung (32 - i) i rest ≡ each rung (32 - first) first (t .rest)
 
-pub rung-start : {b : List ℕ} (t : Table) (c first : ℕ) → Laid b t → c ≡ t .rest .clock .0 → Rung b t c first first
-rung-start t c first l e = record { rest = t .rest; laid = l; clock = e; left = refl }
+rung-start : {b : List ℕ} (t : Table) (c first : ℕ) → Laid b t → c ≡ t .rest .clock .0 → Rung b t c first first
+rung-start t c first l e = record { rest = t .rest; laid = l; clock = e; ahead = λ j h. refl; left = refl }
 
-pub rung-turn : {b d : List ℕ} (t : Table) (c first i : ℕ) → i < 32 → Rung b t c first i → ((u : Table) → Laid b u → c ≡ u .rest .clock .0 → Laid d (withRest (rung (u .rest) i) u)) → Rung d t c first (i + 1)
-rung-turn t c first i h g f = record {
-  rest = rung (g .rest) i;
-  laid = f (withRest (g .rest) t) (g .laid) (g .clock);
-  clock = g .clock ∙ ap (λ (m : Millis). m .0) (sym (rung-clock (g .rest) i));
-  left = sym (each-turn rung 32 i (g .rest) h) ∙ g .left;
-}
+-- those that are not running do not ring
+module _ {b : List ℕ} (t : Table) (c first : ℕ) {w : ℕ} (r : Running w (t .rest .alarms)) where
+  rung-skip : (i k : ℕ) → Next w i k → Rung b t c first i → Rung b t c first k
+  rung-skip i k n g =
+      let u : i ≤ k = n .least in
+      record {
+        rest = g .rest;
+        laid = g .laid;
+        clock = g .clock;
+        ahead = λ j h. g .ahead j (omega arith);
+        left =
+            sym (each-skips rung (g .rest) i k u (n .most)
+            (λ j h v. rung-not (g .rest) j (ap (λ (x : ℕ). isDue x (getD (g .rest .alarms) j never)) (sym (g .clock)) ∙ ap (isDue c) (g .ahead j h) ∙ idle r c n j h v)))
+            ∙ g .left;
+      }
+
+  pub rung-first : (k : ℕ) → Next w first k → Laid b t → c ≡ t .rest .clock .0 → Rung b t c first k
+  rung-first k n l e = rung-skip first k n (rung-start t c first l e)
+
+  pub rung-next : {d : List ℕ} (i k : ℕ) → i < 32 → Next w (i + 1) k → Rung d t c first i → ((u : Table) → Laid d u → c ≡ u .rest .clock .0 → Laid b (withRest (rung (u .rest) i) u)) → Rung b t c first k
+  rung-next i k h n g f =
+      rung-skip (i + 1) k n
+      (record {
+        rest = rung (g .rest) i;
+        laid = f (withRest (g .rest) t) (g .laid) (g .clock);
+        clock = g .clock ∙ ap (λ (m : Millis). m .0) (sym (rung-clock (g .rest) i));
+        ahead = λ j v. rung-ahead (g .rest) i j (omega arith) ∙ g .ahead j (omega arith);
+        left = sym (each-turn rung 32 i (g .rest) h) ∙ g .left;
+      })
 
 pub rung-end : {b : List ℕ} (t : Table) (c first i : ℕ) → 32 ≤ i → Rung b t c first i → Laid b (withRest (each rung (32 - first) first (t .rest)) t)
 rung-end {b} t c first i h g = subst (λ (r : Rest). Laid b (withRest r t)) (sym (each-end rung 32 i (g .rest) h) ∙ g .left) (g .laid)
+
+-- from the last place on nothing rings
+pub rung-none : {b : List ℕ} (t : Table) (first : ℕ) → 32 ≤ first → Laid b t → Laid b (withRest (each rung (32 - first) first (t .rest)) t)
+rung-none {b} t first h l = subst (λ (r : Rest). Laid b (withRest r t)) (sym (each-end rung 32 first (t .rest) h)) l
 
 pub sum-of : {a b c d : ℕ} → a ≡ b → c ≡ d → a + c ≡ b + d
 sum-of e f = λ j. e j + f j

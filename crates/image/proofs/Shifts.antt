@@ -1,5 +1,5 @@
 -- Bytes moved within a buffer some at a time, upwards from the front or downwards from the back; two writes that are one.
-use Prim.Native.Nat.{ℕ, zero, suc, _+_, _-_, _≤_, _<_}
+use Prim.Native.Nat.{ℕ, zero, suc, _+_, _-_, _*_, _≤_, _<_}
 use mathlib.Core.Path.{_≡_, refl, sym, ap, _∙_}
 use mathlib.Core.List.{List, _∷_, _++_, append-assoc}
 use native.Mathlib.Omega.{arith}
@@ -100,3 +100,51 @@ module _ (s : List ℕ) (to from n : ℕ) where
       let d : bs ++ drop i ys ≡ drop j ys = ap (λ m. bs ++ drop m ys) ei ∙ ap (λ l. bs ++ l) (sym (drop-drop w j ys)) ∙ take-append-drop w (drop j ys) in
       let z : to + i ≡ to + j + length bs = omega arith in
       before-then s (to + j) bs (drop i ys) (er ∙ ap (λ m. written s m (drop i ys)) z) (eq ∙ ap (written r (to + j)) e) (omega arith) ∙ ap (written s (to + j)) d
+
+-- ---- blocks of eleven bytes that move down by one block: one of them by eleven stores; those from place `at` up to place n of a
+-- row that begins at m, of which those from i on are moved
+pub block-down : (s : List ℕ) (at : ℕ) → at + 22 ≤ length s
+    → set (set (set (set (set (set (set (set (set (set (set s (at + 11) (getD s at 0)) (at + 12) (getD s (at + 1) 0)) (at + 13) (getD s (at + 2) 0)) (at + 14) (getD s (at + 3) 0)) (at + 15) (getD s (at + 4) 0)) (at + 16) (getD s (at + 5) 0)) (at + 17) (getD s (at + 6) 0)) (at + 18) (getD s (at + 7) 0)) (at + 19) (getD s (at + 8) 0)) (at + 20) (getD s (at + 9) 0)) (at + 21) (getD s (at + 10) 0) ≡ written s (at + 11) (take 11 (drop at s))
+block-down s at h =
+    let e1 : at + 1 ≡ suc at = omega arith in
+    let e2 : at + 2 ≡ suc (suc at) = omega arith in
+    let e3 : at + 3 ≡ suc (suc (suc at)) = omega arith in
+    let e4 : at + 4 ≡ suc (suc (suc (suc at))) = omega arith in
+    let e5 : at + 5 ≡ suc (suc (suc (suc (suc at)))) = omega arith in
+    let e6 : at + 6 ≡ suc (suc (suc (suc (suc (suc at))))) = omega arith in
+    let e7 : at + 7 ≡ suc (suc (suc (suc (suc (suc (suc at)))))) = omega arith in
+    let e8 : at + 8 ≡ suc (suc (suc (suc (suc (suc (suc (suc at))))))) = omega arith in
+    let e9 : at + 9 ≡ suc (suc (suc (suc (suc (suc (suc (suc (suc at)))))))) = omega arith in
+    let e10 : at + 10 ≡ suc (suc (suc (suc (suc (suc (suc (suc (suc (suc at))))))))) = omega arith in
+    let f1 : at + 12 ≡ suc (at + 11) = omega arith in
+    let f2 : at + 13 ≡ suc (suc (at + 11)) = omega arith in
+    let f3 : at + 14 ≡ suc (suc (suc (at + 11))) = omega arith in
+    let f4 : at + 15 ≡ suc (suc (suc (suc (at + 11)))) = omega arith in
+    let f5 : at + 16 ≡ suc (suc (suc (suc (suc (at + 11))))) = omega arith in
+    let f6 : at + 17 ≡ suc (suc (suc (suc (suc (suc (at + 11)))))) = omega arith in
+    let f7 : at + 18 ≡ suc (suc (suc (suc (suc (suc (suc (at + 11))))))) = omega arith in
+    let f8 : at + 19 ≡ suc (suc (suc (suc (suc (suc (suc (suc (at + 11)))))))) = omega arith in
+    let f9 : at + 20 ≡ suc (suc (suc (suc (suc (suc (suc (suc (suc (at + 11))))))))) = omega arith in
+    let f10 : at + 21 ≡ suc (suc (suc (suc (suc (suc (suc (suc (suc (suc (at + 11)))))))))) = omega arith in
+    rw (e1, e2, e3, e4, e5, e6, e7, e8, e9, e10, f1, f2, f3, f4, f5, f6, f7, f8, f9, f10) (stored s (at + 11) (part 11 at s) (omega arith) ∙ ap (written s (at + 11)) (part-taken s 11 at (omega arith)))
+
+abbrev pub Lowered : List ℕ → ℕ → ℕ → ℕ → List ℕ → ℕ → Type 0
+Lowered s m at n r i = r ≡ written s (m + at * 11 + 11 + (i - at) * 11) (drop ((i - at) * 11) (take ((n - at) * 11) (drop (m + at * 11) s)))
+
+module _ (s : List ℕ) (m at n : ℕ) (h : m + n * 11 + 11 ≤ length s) where
+  pub blocks-start : at ≤ n → Lowered s m at n s n
+  blocks-start g = down-start s (m + at * 11 + 11) (m + at * 11) ((n - at) * 11) (omega arith)
+
+  pub blocks-turn : (r q : List ℕ) (i : ℕ) → at < i → i ≤ n → Lowered s m at n r i → q ≡ written r (m + (i - 1) * 11 + 11) (take 11 (drop (m + (i - 1) * 11) r))
+      → Lowered s m at n q (i - 1)
+  blocks-turn r q i g k er eq =
+      let y : m + (i - 1) * 11 ≡ m + at * 11 + (i - 1 - at) * 11 = omega arith in
+      let z : m + (i - 1) * 11 + 11 ≡ m + at * 11 + 11 + (i - 1 - at) * 11 = omega arith in
+      down-turn s (m + at * 11 + 11) (m + at * 11) ((n - at) * 11) r q ((i - at) * 11) ((i - 1 - at) * 11) 11 (omega arith) (omega arith) (omega arith) (omega arith) er
+      (eq ∙ (λ j. written r (z j) (take 11 (drop (y j) r))))
+
+  pub blocks-end : (r : List ℕ) (i : ℕ) → i ≡ at → Lowered s m at n r i → r ≡ written s (m + at * 11 + 11) (take ((n - at) * 11) (drop (m + at * 11) s))
+  blocks-end r i e er =
+      let z : (i - at) * 11 ≡ 0 = omega arith in
+      let y : m + at * 11 + 11 + 0 ≡ m + at * 11 + 11 = omega arith in
+      rw (z, y) at er

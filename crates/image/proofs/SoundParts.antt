@@ -1,6 +1,6 @@
 -- The check's parts put together: the ready queue's rules from what was found of its line, and all rules from those of the
 -- parts.
-use Prim.Native.Nat.{ℕ, zero, suc, _≤_, _<_}
+use Prim.Native.Nat.{ℕ, zero, suc, _+_, _≤_, _<_}
 use mathlib.Core.Path.{_≡_, refl, sym, ap, ap₂, _∙_}
 use mathlib.Core.Bool.{Bool, true, false}
 use mathlib.Core.List.{List, [], _∷_}
@@ -12,12 +12,15 @@ use Rattle.records.specs.declared.TaskNo.{TaskNo}
 use Rattle.records.specs.Numbers.{numberOf, part}
 use Rattle.executive.specs.declared.Task.{Task}
 use Rattle.executive.specs.Lists.{_and_, upTo, allOf}
-use Rattle.executive.specs.States.{ready, isAs, isReady}
+use Rattle.executive.specs.Places.{taskAt}
+use Rattle.executive.specs.States.{awaitStart, awaitEnd, is, isReady}
 use Rattle.executive.specs.Table.{items, levelsOf}
 use Rattle.executive.specs.Check.{isNobody, falls, exactAt, lineRight, queueRight, isBlank, inBounds, alarmRight, entryRight}
-use Rattle.executive.specs.Check.{askedRight, heldRight, sentRight, mailRight, inPasses, isWellFormed}
-use Rattle.executive.proofs.Assured.{and-true, true-and, both, blank-is, ready-exact, sized}
+use Rattle.executive.specs.WellFormed.{startsOf, endsOf, runsOf}
+use Rattle.executive.specs.Check.{requestRight, waitersAt, askedRight, heldRight, sentRight, mailRight, inPasses, isWellFormed}
+use Rattle.executive.proofs.Assured.{and-true, true-and, both, all-get, all-make, blank-is, sized}
 use Rattle.image.specs.Image.{lineFrom, loadOf}
+use Rattle.image.specs.Sound.{namesOther}
 use Rattle.image.specs.Marks.{passed, Marked, Walks}
 use Rattle.image.proofs.Alike.{decide, never}
 use Rattle.image.proofs.Loaded.{tasks-size, queue-size, alarms-size, pool-size, subs-size, messages-size, mail-size}
@@ -81,13 +84,13 @@ module _ (s : List ℕ) where
         pub queue-unlit : (v : ℕ) → v ≡ numberOf (part 2 896 s) → (word ≡ v → ⊥) → false ≡ queueRight (loadOf s)
         queue-unlit v g h = not-right (λ z. h (w .good e .2 ∙ sym (z .lit) ∙ sym g))
 
-        exact-by : (v : ℕ) → Marked n v (passed (isAs ready 0) ts) → eqb seen v ≡ upTo (exactAt isReady ts (standing r)) n
-        exact-by v m = same-marks (isAs ready 0) ts (standing r) n seen v (w .good e .1) m ∙ ready-exact ts (standing r) n
+        exact-by : (v : ℕ) → Marked n v (passed isReady ts) → eqb seen v ≡ upTo (exactAt isReady ts (standing r)) n
+        exact-by v m = same-marks isReady ts (standing r) n seen v (w .good e .1) m
 
-        pub queue-other : (v : ℕ) → Marked n v (passed (isAs ready 0) ts) → (seen ≡ v → ⊥) → false ≡ queueRight (loadOf s)
+        pub queue-other : (v : ℕ) → Marked n v (passed isReady ts) → (seen ≡ v → ⊥) → false ≡ queueRight (loadOf s)
         queue-other v m h = not-right (λ z. never (sym (ne-eqb seen v h) ∙ exact-by v m ∙ z .exact))
 
-        pub queue-last : n ≤ 16 → r ≤ 16 → (v x : ℕ) → v ≡ numberOf (part 2 896 s) → word ≡ v → Marked n x (passed (isAs ready 0) ts) → seen ≡ x
+        pub queue-last : n ≤ 16 → r ≤ 16 → (v x : ℕ) → v ≡ numberOf (part 2 896 s) → word ≡ v → Marked n x (passed isReady ts) → seen ≡ x
             → (a : Bool) → a ≡ allOf isNobody (drop r (lineFrom s 416)) → a ≡ queueRight (loadOf s)
         queue-last hn hr v x g h m q a f =
             let i : eqb (numberOf (part 2 896 s)) (levelsOf (items ts (standing r))) ≡ true = eq-eqb _ _ (sym g ∙ sym h ∙ w .good e .2) in
@@ -155,7 +158,7 @@ module _ (s : List ℕ) where
       pub alarms : allOf (alarmRight c) (loadOf s .rest .alarms) ≡ true
       pub queue : queueRight (loadOf s) ≡ true
 
-    sound-get : isWellFormed (loadOf s) ≡ true → Sound
+    pub sound-get : isWellFormed (loadOf s) ≡ true → Sound
     sound-get e =
         let a = and-true (queueRight (loadOf s)) _ (sym sound-is ∙ e) in
         let b = and-true bounded _ (sym passes-are ∙ a .1) in
@@ -164,8 +167,23 @@ module _ (s : List ℕ) where
         let h = and-true (allOf (alarmRight c) (loadOf s .rest .alarms)) _ (f .1) in
         record { bounds = b .0; entries = all-first (entryRight n c fs) n (loadOf s .tasks) (d .0); blanks = f .0; alarms = h .0; queue = a .0 }
 
-    pub not-sound : (Sound → ⊥) → false ≡ isWellFormed (loadOf s)
-    not-sound h = sym (decide (isWellFormed (loadOf s)) (λ e. absurd (h (sound-get e))) (λ e. e))
+    -- and no run names itself
+    pub named-others : isWellFormed (loadOf s) ≡ true → upTo (namesOther (loadOf s .tasks)) n ≡ true
+    unfolding waitersAt
+    named-others e =
+        let a = and-true (queueRight (loadOf s)) _ (sym sound-is ∙ e) in
+        let b = and-true bounded _ (sym passes-are ∙ a .1) in
+        let d = and-true (allOf (entryRight n c fs) (loadOf s .tasks)) _ (b .1) in
+        let f = and-true (allOf isBlank (drop n (loadOf s .tasks))) _ (d .1) in
+        let h = and-true (allOf (alarmRight c) (loadOf s .rest .alarms)) _ (f .1) in
+        let l = and-true (askedRight (loadOf s .tasks) n k (loadOf s .rest .pool)) _ (h .1) in
+        let r = and-true (allOf (requestRight (loadOf s .tasks) n) (take k (loadOf s .rest .pool))) _ (l .0) in
+        let w = and-true (upTo (waitersAt (loadOf s .tasks) (take k (loadOf s .rest .pool))) n) _ (r .1) in
+        all-make (namesOther (loadOf s .tasks)) n
+        (λ j g m.
+        let x = all-get (waitersAt (loadOf s .tasks) (take k (loadOf s .rest .pool))) n j (w .0) g m in
+        let y = and-true (eqb (startsOf j (take k (loadOf s .rest .pool))) (is awaitStart (taskAt (loadOf s .tasks) j .state))) _ x in
+        and-true (eqb (endsOf j (take k (loadOf s .rest .pool)) + runsOf j (loadOf s .tasks)) (is awaitEnd (taskAt (loadOf s .tasks) j .state))) _ (y .1) .1)
 
     pub sound-last : Sound → (r : Bool) → r ≡ listsRight k m n → r ≡ isWellFormed (loadOf s)
     sound-last z r e =

@@ -1,12 +1,13 @@
 -- Kinds 09, 0B and 80: what their sheets decide, from what was read.
 use Prim.Native.Nat.{ℕ, _+_, _-_, _^_, _≤_, _<_}
-use mathlib.Core.Path.{_≡_, refl, sym, ap, ap₂, _∙_}
-use mathlib.Core.Bool.{Bool, true, false, not}
-use mathlib.Core.List.{List, _++_}
-use borrow.Author.Tests.{lt-ltb, le-ltb, eq-eqb, ne-eqb}
+use mathlib.Core.Path.{_≡_, refl, sym, ap, ap₂, subst, _∙_}
+use mathlib.Core.Bool.{Bool, true, false, not, cond}
+use mathlib.Core.List.{List, [], _++_}
+use native.Mathlib.Omega.{arith}
+use borrow.Author.Tests.{lt-ltb, le-ltb, eq-eqb, ne-eqb, eqb-true}
 use lib.Bits.{bitAnd}
 use lib.Dec.{eqb}
-use lib.ListN.{getD}
+use lib.ListN.{length, getD}
 use Rattle.records.specs.declared.TaskNo.{TaskNo}
 use Rattle.records.specs.declared.FlagNo.{FlagNo}
 use Rattle.records.specs.declared.Call.the-variants as call
@@ -15,19 +16,40 @@ use Rattle.executive.specs.declared.Rest.{Rest}
 use Rattle.executive.specs.declared.decisions.Leave.the-variants as leave
 use Rattle.executive.specs.declared.decisions.Change.the-variants as change
 use Rattle.executive.specs.declared.decisions.Deed.{Deed}
+use Rattle.executive.specs.declared.decisions.Entrant.{Entrant}
+use Rattle.executive.specs.declared.decisions.Entrants.{Entrants}
 use Rattle.executive.specs.Numbers.{lastUnit, endOfTime}
 use Rattle.executive.specs.Lists.{_and_, nextOf, each}
 use Rattle.executive.specs.Places.{never, noRequest}
 use Rattle.executive.specs.Clock.{interval, isDue}
 use Rattle.executive.specs.Flags.{isSet, flagSet}
 use Rattle.executive.specs.Plans.{holds, timed}
-use Rattle.executive.specs.Decisions.{raisedAll, rising, deed, alone, noDeed, rungIn, setDeed, flagDeed, alarmDeed, tickDeed, refusing, doing}
+use Rattle.executive.specs.States.{hasTime, hasMask}
+use Rattle.executive.specs.Decisions.{AllUnmet, listed, raisedAll, rising, deed, alone, noDeed, rungIn, setDeed, flagDeed, alarmDeed, tickDeed, refusing, doing}
 use Rattle.executive.specs.Sheet.{marks, flagMarks, decided}
-use Rattle.executive.proofs.Assured.{ticks}
+use Rattle.executive.proofs.Assured.{rising-few, ticks, woken-few}
+use Rattle.image.specs.Marks.{passed, Marked}
+use Rattle.image.specs.Waking.{Among}
+use Rattle.image.proofs.Chosen.{over-unmet, asked-all}
+use Rattle.image.proofs.Searches.{timed-asked, rising-none, rising-asked}
 
 pub set-is : (ts : List Task) (fs : ℕ) (f : FlagNo) (m : ℕ) → m ≡ flagSet fs (f .0) → deed leave.Stays (rising (holds m) 1 ts) noRequest (change.Flags m) ≡ setDeed ts fs f
 unfolding setDeed
 set-is ts fs f m e = ap (λ (x : ℕ). deed leave.Stays (rising (holds x) 1 ts) noRequest (change.Flags x)) e
+
+-- ---- those who wake, r, where of a set of those whose states hold a time and of a set of those whose states hold a mask all
+-- are asked for whose time has come by n, and whose condition holds by the flags m
+abbrev pub wakened : List Task → ℕ → ℕ → ℕ → ℕ → List Entrant
+wakened ts clocked n masked m = cond (eqb clocked 0) [] (raisedAll (timed n ts)) ++ cond (eqb masked 0) [] (rising (holds m) 1 ts)
+
+abbrev pub Woken : List Task → ℕ → ℕ → ℕ → ℕ → Entrants → Type 0
+Woken ts clocked n masked m r = Among clocked hasTime ts → Among masked hasMask ts → length (wakened ts clocked n masked m) ≤ 16 → r ≡ listed (wakened ts clocked n masked m)
+
+-- nobody is asked for by time, and by flags all are
+pub set-woken : (ts : List Task) (m w : ℕ) → length ts ≡ 16 → Marked 16 w (passed hasMask ts) → (r : Entrants) → Woken ts 0 0 w m r → r ≡ listed (rising (holds m) 1 ts)
+set-woken ts m w n k r f =
+    let e : wakened ts 0 0 w m ≡ rising (holds m) 1 ts = rising-asked ts m w n k in
+    f (λ z. absurd (z refl)) (λ z. k) (omega (arith, ap length e, rising-few ts (holds m))) ∙ ap listed e
 
 -- ---- kind 09
 module _ (ts : List Task) (r : Rest) (c : TaskNo) (o : ℕ) (f : FlagNo) where
@@ -140,3 +162,28 @@ pub tick-is : (ts : List Task) (r : Rest) (n fs more first : ℕ) → n ≡ r .c
 tick-is ts r n fs more first en ef ei em =
     let e : more ≡ each (rungIn n (r .alarms)) 32 0 (r .flags) = em ∙ ap (each (rungIn n (r .alarms)) 32 0) ef in
     (λ j. deed leave.Stays (raisedAll (timed n ts) ++ rising (holds (e j)) 1 ts) noRequest (change.Clock (ei j))) ∙ ticks ts r n en
+
+-- of those who wait for flags nobody is asked for where no flag has been set: then nobody's condition holds
+module _ (ts : List Task) (n : length ts ≡ 16) (fs more flagged held : ℕ) (k : Marked 16 flagged (passed hasMask ts)) (e : held ≡ cond (eqb more fs) 0 flagged) where
+  held-among : Among held hasMask ts
+  held-among z = go (eqb more fs) e
+    where
+      go : (b : Bool) → held ≡ cond b 0 flagged → Marked 16 held (passed hasMask ts)
+      go true q = absurd (z q)
+      go false q = subst (λ (w : ℕ). Marked 16 w (passed hasMask ts)) (sym q) k
+
+  held-rising : AllUnmet fs ts → cond (eqb held 0) [] (rising (holds more) 1 ts) ≡ rising (holds more) 1 ts
+  held-rising u = go (eqb more fs) refl e
+    where
+      go : (b : Bool) → eqb more fs ≡ b → held ≡ cond b 0 flagged → cond (eqb held 0) [] (rising (holds more) 1 ts) ≡ rising (holds more) 1 ts
+      go true p q =
+          asked-all held (rising (holds more) 1 ts)
+          (λ z. ap (λ (x : ℕ). rising (holds x) 1 ts) (eqb-true more fs p) ∙ rising-none ts fs n (over-unmet fs ts u))
+      go false p q = rising-asked ts more held n (subst (λ (w : ℕ). Marked 16 w (passed hasMask ts)) (sym q) k)
+
+  pub tick-woken : (c w : ℕ) → AllUnmet fs ts → Marked 16 w (passed hasTime ts) → (r : Entrants) → Woken ts w c held more r
+      → r ≡ listed (raisedAll (timed c ts) ++ rising (holds more) 1 ts)
+  tick-woken c w u m r f =
+      let e : wakened ts w c held more ≡ raisedAll (timed c ts) ++ rising (holds more) 1 ts =
+      ap₂ (λ (xs ys : List Entrant). xs ++ ys) (timed-asked ts c w n m) (held-rising u) in
+      f (λ z. m) held-among (omega (arith, ap length e, woken-few ts c more)) ∙ ap listed e

@@ -5,6 +5,7 @@ pub mod Image
 pub mod Coding
 pub mod Laid
 pub mod Waking
+pub mod Seen
 pub mod Sound
 pub mod Marks
 pub mod EntryPoints

@@ -1,11 +1,12 @@
 -- What the check on the lent bytes says on its way: the loaded lists, bytes that are all zero, sets of tasks as words, the
 -- rules on one entry part by part.
-use Prim.Native.Nat.{ℕ, zero, suc, _^_}
+use Prim.Native.Nat.{ℕ, zero, suc, _+_, _*_, _^_, _≤_, _<_}
 use mathlib.Core.Bool.{Bool, true, false, not, cond}
 use mathlib.Core.List.{List, [], _∷_}
 use lib.Dec.{eqb, leb, ltb}
 use lib.Bits.{bitOr}
 use lib.ListN.{getD}
+use Rattle.records.specs.Numbers.{numberOf, part}
 use Rattle.executive.specs.declared.State.{State}
 use Rattle.executive.specs.declared.Task.{Task}
 use Rattle.executive.specs.declared.Request.{Request}
@@ -14,12 +15,13 @@ use Rattle.executive.specs.declared.Message.{Message}
 use Rattle.executive.specs.declared.Mail.{Mail}
 use Rattle.executive.specs.Numbers.{highest}
 use Rattle.executive.specs.Lists.{_and_}
-use Rattle.executive.specs.Places.{taskAt}
+use Rattle.executive.specs.Places.{noTask, taskAt}
 use Rattle.executive.specs.States.{isOf}
 use Rattle.executive.specs.Flags.{isSet}
-use Rattle.executive.specs.Check.{awaitsInRange, isTimely, isUnmet}
+use Rattle.executive.specs.Check.{awaitsInRange, isTimely, isUnmet, entryRight}
 use Rattle.image.specs.Blocks.{blocks}
 use Rattle.image.specs.Image.{loadOf}
+use Rattle.image.specs.Coding.{isCode}
 
 -- ---- the lists that bytes load to
 abbrev pub tasksIn : List ℕ → List Task
@@ -68,12 +70,25 @@ abbrev pub namesOther : List Task → ℕ → Bool
 namesOther ts k = not (eqb k (taskAt ts k .«end_waiter» .0))
 
 -- ---- the rules on one entry, of n tasks, at the clock c with the flags fs: of its own priority o, its priority p, its waiter
--- w and its last scheduled start s; of its state. And four of its numbers are zero
+-- w and its last scheduled start s; of its state
 abbrev pub fieldsRight : ℕ → ℕ → ℕ → ℕ → ℕ → ℕ → Bool
 fieldsRight n c o p w s = leb o highest and leb p highest and leb w n and leb s c
 
 abbrev pub stateRight : ℕ → ℕ → ℕ → State → Bool
 stateRight n c fs s = awaitsInRange n s and isTimely c s and isUnmet fs s
 
-abbrev pub fieldsZero : ℕ → ℕ → ℕ → ℕ → Bool
-fieldsZero p a s w = eqb p 0 and eqb a 0 and eqb s 0 and eqb w 0
+-- ---- the i-th entry: its numbers are those of the state that they make; and it keeps the rules on one entry, and its run does
+-- not name itself. Its kind's byte is a kind
+abbrev pub codeAt : List ℕ → ℕ → Bool
+codeAt s i = isCode (getD s (i * 26 + 1) 0) (record { 0 = numberOf (part 8 (i * 26 + 2) s) }) (numberOf (part 4 (i * 26 + 10) s)) (getD s (898 + i) 0)
+
+abbrev pub soundAt : List ℕ → ℕ → ℕ → ℕ → ℕ → Bool
+soundAt s n c fs i = codeAt s i and entryRight n c fs (getD (tasksIn s) i noTask) and namesOther (tasksIn s) (suc i)
+
+abbrev pub KindsKnown : List ℕ → ℕ → Type 0
+KindsKnown s n = (i : ℕ) → i < n → getD s (i * 26 + 1) 0 ≤ 9
+
+-- a test at each number below n
+unfoldable pub below : (ℕ → Bool) → ℕ → Bool
+below f zero = true
+below f (suc n) = cond (below f n) (f n) false

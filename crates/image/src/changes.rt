@@ -5,6 +5,7 @@ use crate::POOL;
 use crate::SENT;
 use crate::SUBS;
 use crate::fields;
+use crate::members;
 use crate::moves;
 use crate::moving;
 use crate::numbers;
@@ -22,7 +23,7 @@ ghost use mathlib.Core.List.{[], _∷_, _++_};
 ghost use Prim.Native.Nat.{_+_, _-_, _<_, _≤_, _^_};
 ghost use lib.ListN.{length};
 ghost use Rattle.executive.specs.declared.Table.{Table};
-ghost use Rattle.executive.specs.Numbers.{subCount, mostSent, mostTasks, endOfTime};
+ghost use Rattle.executive.specs.Numbers.{subCount, mostTasks, endOfTime};
 ghost use Rattle.executive.specs.Lists.{each};
 ghost use Rattle.executive.specs.Pool.{PoolInOrder, requests, removed, withRequests};
 ghost use Rattle.executive.specs.Table.{withRest};
@@ -32,6 +33,7 @@ ghost use Rattle.executive.specs.Messages.{LettersInOrder, letters, withLetters
 ghost use Rattle.executive.specs.Decisions.{changed, firstDue, Able};
 ghost use Rattle.image.specs.Image.{imageLength};
 ghost use Rattle.image.specs.Laid.{Laid};
+ghost use Rattle.image.specs.Marks.{Running};
 
 // A request is queued behind the others.
 fn add_request(b: &mut [u8], q: Request)
@@ -80,7 +82,7 @@ fn post(b: &mut [u8], m: Message, at: usize)
         return;
     }
     let from = MESSAGES + at * 11;
-    moving::move_down(b, from + 11, from, ((n as usize) - at) * 11);
+    moving::letters_down(b, at as u8, n);
     storing::put_message(b, from, m);
     fields::set_sent(b, n + 1);
 }
@@ -183,15 +185,18 @@ fn ring(b: &mut [u8], i: usize, time: u64)
     fields::set_flags(b, flags | bit_of(i));
 }
 
-// The due alarms ring, from a place on.
-fn ring_from(b: &mut [u8], first: usize, time: u64)
+// The due alarms ring, of those that are running, from a place on.
+fn ring_from(b: &mut [u8], running: u32, first: usize, time: u64)
     requires { ⌜ length (now b) ≡ imageLength ⌝ }
-    ensures { λ _. ⌜ ((t : Table) → Laid (now (b .entry)) t → time ≡ t .rest .clock .0 → Laid (now (b .exit)) (withRest (each rung (32 - first) first (t .rest)) t)) ⌝ }
+    ensures { λ _. ⌜ ((t : Table) → Laid (now (b .entry)) t → Running running (t .rest .alarms) → time ≡ t .rest .clock .0 → Laid (now (b .exit)) (withRest (each rung (32 - first) first (t .rest)) t)) ⌝ }
 {
-    let mut i = first;
+    if 31 < first {
+        return;
+    }
+    let mut i = members::next_in(running, first as u8);
     while i < 32 {
-        ring(b, i, time);
-        i += 1;
+        ring(b, i as usize, time);
+        i = members::next_in(running, i + 1);
     }
 }
 
@@ -203,9 +208,9 @@ pub(crate) fn wide(x: u8) -> u64
 }
 
 // The clock gains a granule, and the due alarms ring, from the first of them on.
-fn advance(b: &mut [u8], first: usize)
+fn advance(b: &mut [u8], first: usize, running: u32)
     requires { ⌜ length (now b) ≡ imageLength ⌝ }
-    ensures { λ _. ⌜ ((t : Table) → Laid (now (b .entry)) t → t .rest .clock .0 + t .rest .granule ≤ endOfTime → first ≡ firstDue (t .rest)
+    ensures { λ _. ⌜ ((t : Table) → Laid (now (b .entry)) t → Running running (t .rest .alarms) → t .rest .clock .0 + t .rest .granule ≤ endOfTime → first ≡ firstDue (t .rest)
         → Laid (now (b .exit)) (withRest (advanced (t .rest)) t)) ⌝ }
 {
     let clock = numbers::long_in(b, fields::CLOCK);
@@ -214,13 +219,13 @@ fn advance(b: &mut [u8], first: usize)
     }
     let time = clock + wide(b[fields::GRANULE]);
     fields::set_clock(b, Millis(time));
-    ring_from(b, first, time);
+    ring_from(b, running, first, time);
 }
 
 // The rest after a change.
-pub(crate) fn change(b: &mut [u8], what: Change, q: Request)
+pub(crate) fn change(b: &mut [u8], what: Change, q: Request, running: u32)
     requires { ⌜ length (now b) ≡ imageLength ⌝ }
-    ensures { λ _. ⌜ ((t : Table) → Laid (now (b .entry)) t → PoolInOrder (t .rest) → Able what (t .rest)
+    ensures { λ _. ⌜ ((t : Table) → Laid (now (b .entry)) t → Running running (t .rest .alarms) → PoolInOrder (t .rest) → Able what (t .rest)
         → Laid (now (b .exit)) (withRest (changed what q (t .rest)) t)) ⌝ }
 {
     match what {
@@ -229,7 +234,7 @@ pub(crate) fn change(b: &mut [u8], what: Change, q: Request)
         Change::Alarm(f, at) => fields::set_alarm_of(b, f, at),
         Change::Put => add_request(b, q),
         Change::Taken(i) => take_request(b, i),
-        Change::Clock(first) => advance(b, first),
+        Change::Clock(first) => advance(b, first, running),
         Change::Held(m, k) => hold(b, m, k),
         Change::Lined(m, k, at) => line_up(b, m, k, at),
         Change::HandedOn(m) => hand_on(b, m),

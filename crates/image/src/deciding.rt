@@ -19,11 +19,12 @@ ghost use Rattle.executive.specs.Sheet.{decided, decisionOf};
 ghost use Rattle.executive.specs.Deciding.{decisionIn};
 ghost use Rattle.image.specs.Image.{imageLength};
 ghost use Rattle.image.specs.Laid.{Laid};
+ghost use Rattle.image.specs.Waking.{Learned};
 
 // Each kind's own decision.
-fn by_kind(b: &[u8], c: TaskNo, call: Call) -> Decision
+fn by_kind(b: &[u8], c: TaskNo, call: Call, timed: u16, flagged: u16, running: u32) -> Decision
     requires { ⌜ length (now b) ≡ imageLength ⌝ }
-    ensures { λ r. ⌜ ((t : Table) → Laid (now (b .entry)) t → WellFormed t → r ≡ decided (t .tasks) (t .rest) c call) ⌝ }
+    ensures { λ r. ⌜ ((t : Table) → Laid (now (b .entry)) t → WellFormed t → Learned timed flagged running t → r ≡ decided (t .tasks) (t .rest) c call) ⌝ }
 {
     match call {
         Call::Terminate => runs::terminate(b, c),
@@ -36,10 +37,10 @@ fn by_kind(b: &[u8], c: TaskNo, call: Call) -> Decision
             task,
             argument,
         } => runs::start_or_queue(b, c, option, task, argument),
-        Call::Flag { operation, flag } => timing::flag(b, operation, flag),
+        Call::Flag { operation, flag } => timing::flag(b, operation, flag, flagged),
         Call::Wait { mode, mask } => runs::wait(b, c, mode, mask),
-        Call::Alarm { unit, count, flag } => timing::alarm(b, unit, count, flag),
-        Call::Tick => timing::tick(b),
+        Call::Alarm { unit, count, flag } => timing::alarm(b, unit, count, flag, flagged),
+        Call::Tick => timing::tick(b, timed, flagged, running),
         Call::Granule { .. } => decisions::no_call(),
         Call::Task { .. } => decisions::no_call(),
         Call::End => decisions::no_call(),
@@ -51,20 +52,27 @@ fn by_kind(b: &[u8], c: TaskNo, call: Call) -> Decision
 }
 
 // A call's decision: 5 first, then its kind's.
-fn decide_call(b: &[u8], c: TaskNo, call: Call) -> Decision
+fn decide_call(b: &[u8], c: TaskNo, call: Call, timed: u16, flagged: u16, running: u32) -> Decision
     requires { ⌜ length (now b) ≡ imageLength ⌝ }
-    ensures { λ r. ⌜ ((t : Table) → Laid (now (b .entry)) t → WellFormed t → r ≡ decisionOf (t .tasks) (t .rest) c call) ⌝ }
+    ensures { λ r. ⌜ ((t : Table) → Laid (now (b .entry)) t → WellFormed t → Learned timed flagged running t → r ≡ decisionOf (t .tasks) (t .rest) c call) ⌝ }
 {
     if deciding::nobody_active(c, call) {
         return decisions::refused(5);
     }
-    by_kind(b, c, call)
+    by_kind(b, c, call, timed, flagged, running)
 }
 
 // A record's decision: 3, 4 and 3, then its call's.
-pub(crate) fn decide(b: &[u8], c: TaskNo, call: &[u8]) -> Decision
+pub(crate) fn decide(
+    b: &[u8],
+    c: TaskNo,
+    call: &[u8],
+    timed: u16,
+    flagged: u16,
+    running: u32,
+) -> Decision
     requires { ⌜ length (now b) ≡ imageLength ⌝ }
-    ensures { λ r. ⌜ ((t : Table) → Laid (now (b .entry)) t → WellFormed t → r ≡ decisionIn (t .tasks) (t .rest) c (now (call .entry))) ⌝ }
+    ensures { λ r. ⌜ ((t : Table) → Laid (now (b .entry)) t → WellFormed t → Learned timed flagged running t → r ≡ decisionIn (t .tasks) (t .rest) c (now (call .entry))) ⌝ }
 {
     if call.len() == 0 {
         return decisions::refused(3);
@@ -72,7 +80,7 @@ pub(crate) fn decide(b: &[u8], c: TaskNo, call: &[u8]) -> Decision
     let kind = kinds::kind_of(call[0]);
     if kinds::is_call(kind) {
         return match reading::read(call) {
-            Got::Call(asked) => decide_call(b, c, asked),
+            Got::Call(asked) => decide_call(b, c, asked, timed, flagged, running),
             Got::Refused(number) => decisions::refused(number),
         };
     }

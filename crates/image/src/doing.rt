@@ -15,12 +15,14 @@ use records::Text;
 ghost use mathlib.Core.Path.{_≡_};
 ghost use lib.ListN.{length};
 ghost use Rattle.executive.specs.declared.Table.{Table};
+ghost use Rattle.executive.specs.Queue.{Desc};
 ghost use Rattle.executive.specs.States.{isReady};
 ghost use Rattle.executive.specs.WellFormed.{Line};
 ghost use Rattle.executive.specs.Table.{ArraysInOrder, FindsRoom, InFlight, line, view, levelsOf, relit, depart, begin, enterAllInFlight, litInFlight, applyInFlight};
 ghost use Rattle.executive.specs.Decisions.{named, outFor, joinsFor, meant, Doable};
 ghost use Rattle.image.specs.Image.{imageLength};
 ghost use Rattle.image.specs.Laid.{Laid};
+ghost use Rattle.image.specs.Marks.{Running};
 
 const NO_MAIL: Mail = Mail {
     sender: TaskNo(0),
@@ -44,7 +46,7 @@ fn leave(b: &mut [u8], how: Leave)
 // Those who are listed enter, in order; how many they pass over, all together.
 fn enter_all(b: &mut [u8], list: Entrants, q: Request, time: Millis) -> u8
     requires { ⌜ length (now b) ≡ imageLength ⌝ }
-    ensures { λ r. ⌜ ((t : Table) → Laid (now (b .entry)) t → InFlight (list .count) (begin t) → FindsRoom (joinsFor q time (named list)) t
+    ensures { λ r. ⌜ ((t : Table) → Laid (now (b .entry)) t → InFlight (list .count) (begin t) → FindsRoom (joinsFor q time (named list)) t → Desc (view t)
         → Laid (now (b .exit)) (litInFlight (enterAllInFlight (joinsFor q time (named list)) (begin t)) .table)
         × (r ≡ litInFlight (enterAllInFlight (joinsFor q time (named list)) (begin t)) .walked)) ⌝ }
 {
@@ -65,9 +67,9 @@ fn enter_all(b: &mut [u8], list: Entrants, q: Request, time: Millis) -> u8
 }
 
 // What is to be done is done; how many ready tasks those who entered were put behind.
-pub(crate) fn execute(b: &mut [u8], d: Deed) -> u8
+pub(crate) fn execute(b: &mut [u8], d: Deed, running: u32) -> u8
     requires { ⌜ length (now b) ≡ imageLength ⌝ }
-    ensures { λ r. ⌜ ((t : Table) → Laid (now (b .entry)) t → Doable d t
+    ensures { λ r. ⌜ ((t : Table) → Laid (now (b .entry)) t → Running running (t .rest .alarms) → Doable d t
         → Laid (now (b .exit)) (applyInFlight (meant d t) t .table) × (r ≡ applyInFlight (meant d t) t .walked)) ⌝ }
 {
     let time = Millis(numbers::long_in(b, fields::CLOCK));
@@ -75,7 +77,7 @@ pub(crate) fn execute(b: &mut [u8], d: Deed) -> u8
     leave(b, how);
     let what = d.change;
     let q = d.request;
-    changes::change(b, what, q);
+    changes::change(b, what, q, running);
     let k = d.empties;
     fields::set_mail(b, k, NO_MAIL);
     let list = d.entrants;

@@ -115,13 +115,14 @@ pub(crate) fn set_sent(b: &mut [u8], n: u8)
 pub(crate) fn place(k: u8) -> usize
     ensures { λ r. ⌜ r ≡ entryPlace k ⌝ }
 {
-    if k == 0 {
+    let n = numbers::wide(k);
+    if n == 0 {
         return 16;
     }
-    if 16 < k {
+    if 16 < n {
         return 16;
     }
-    (k - 1) as usize
+    (n - 1) as usize
 }
 
 // A number of places that are taken, of so many that there are.
@@ -164,11 +165,14 @@ pub(crate) fn level(b: &[u8], k: u8) -> u8
     requires { ⌜ length (now b) ≡ imageLength ⌝ }
     ensures { λ r. ⌜ ((t : Table) → Laid (now (b .entry)) t → r ≡ taskAt (t .tasks) k .priority) ⌝ }
 {
-    let i = place(k);
-    if 15 < i {
+    let n = numbers::wide(k);
+    if n == 0 {
         return 0;
     }
-    b[i * 26 + 14]
+    if 16 < n {
+        return 0;
+    }
+    b[(n as usize) * 26 - 12]
 }
 
 // Its argument, its last scheduled start, who waits for its end.

@@ -20,6 +20,7 @@ mod intervals;
 mod letters;
 mod lines;
 pub mod loading;
+mod members;
 mod mending;
 mod moves;
 mod moving;
@@ -93,9 +94,6 @@ pub fn fresh(config: &[u8], image: &mut [u8]) -> u8
 pub fn check(image: &[u8]) -> u8
     ensures { λ r. ⌜ CheckedImage (now (image .entry)) r ⌝ }
 {
-    if !checking::is_image(image) {
-        return 1;
-    }
     if sound::is_sound(image) {
         return 0;
     }

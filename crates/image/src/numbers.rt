@@ -8,6 +8,13 @@ ghost use lib.ListN.{length};
 ghost use Rattle.records.specs.Numbers.{numberOf, part, bytesIn};
 ghost use Rattle.image.specs.Blocks.{written};
 
+// A byte as a longer number: whether it lies between two others is then told without a test of the byte's end.
+pub(crate) fn wide(x: u8) -> u32
+    ensures { λ r. ⌜ r ≡ x ⌝ }
+{
+    x as u32
+}
+
 // The number of two bytes, the first the higher.
 fn pair(a: u8, b: u8) -> u16
     ensures { λ r. ⌜ r ≡ numberOf (a ∷ b ∷ []) ⌝ }

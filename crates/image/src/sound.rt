@@ -1,5 +1,6 @@
-// The check in place: whether bytes of an image's length load to a well-formed table, held to its rules where they
-// lie. No table is loaded.
+// The check in place: whether bytes are the image of a well-formed table, held to its rules where they lie. No table is
+// loaded. What it learns of the tasks and the alarms on its way is handed on.
+use crate::IMAGE;
 use crate::SENT;
 use crate::fields;
 use crate::numbers;
@@ -11,55 +12,108 @@ use crate::sound_subs;
 use executive::Millis;
 use executive::rules;
 ghost use mathlib.Core.Path.{_≡_};
+ghost use mathlib.Core.Bool.{true};
 ghost use Prim.Native.Nat.{_≤_};
 ghost use lib.ListN.{length};
-ghost use Rattle.executive.specs.Lists.{_and_};
-ghost use Rattle.executive.specs.Check.{askedRight, heldRight, sentRight, mailRight, isWellFormed};
-ghost use Rattle.image.specs.Image.{imageLength, loadOf};
+ghost use Rattle.executive.specs.Lists.{_and_, upTo};
+ghost use Rattle.executive.specs.Check.{isWellFormed};
+ghost use Rattle.image.specs.Image.{imageLength, loadOf, isImage};
+ghost use Rattle.image.specs.Sound.{namesOther, KindsKnown};
+ghost use Rattle.image.specs.Marks.{Kinds};
+ghost use Rattle.image.specs.Seen.{listsRight, Begun, Sees};
+
+// What the check finds: whether all is right; those of each kind, bit i for the task whose entry is the i-th; the alarms
+// that are running.
+pub(crate) struct Seen {
+    pub(crate) sets: [u16; 10],
+    pub(crate) right: bool,
+    pub(crate) running: u32,
+}
+
+// Bytes that are not right.
+const BROKEN: Seen = Seen {
+    sets: [0, 0, 0, 0, 0, 0, 0, 0, 0, 0],
+    right: false,
+    running: 0,
+};
+
+// The entries, the alarms and the ready queue keep their rules.
+pub(crate) fn begin(b: &[u8]) -> Seen
+    ensures { λ r. ⌜ Begun (now (b .entry)) (r .right) (r .sets) (r .running) ⌝ }
+{
+    if b.len() != IMAGE {
+        return BROKEN;
+    }
+    let count = b[fields::COUNT];
+    let time = numbers::long_in(b, fields::CLOCK);
+    if !rules::in_bounds(count, b[fields::GRANULE], Millis(time), b[fields::QUEUED]) {
+        return BROKEN;
+    }
+    let flags = numbers::word_in(b, fields::FLAGS);
+    if !sound_entries::entries_right(b, count, Millis(time), flags) {
+        return BROKEN;
+    }
+    if !sound_entries::blank_past(b, count) {
+        return BROKEN;
+    }
+    let alarms = sound_entries::all_alarms(b, Millis(time));
+    if !alarms.right {
+        return BROKEN;
+    }
+    let sets = sound_entries::kind_sets(b, count);
+    if !sound_queue::queue_right(b, b[fields::READY], count, sets[1]) {
+        return BROKEN;
+    }
+    Seen {
+        sets,
+        right: true,
+        running: alarms.running,
+    }
+}
 
 // The requests, the subprograms, the messages and the mail keep their rules.
-fn lists_right(b: &[u8], queued: u8, sent: u8, count: u8) -> bool
-    requires { ⌜ (length (now b) ≡ imageLength) × (queued ≤ 32) × (count ≤ 16) ⌝ }
-    ensures { λ r. ⌜ r ≡ (askedRight (loadOf (now (b .entry)) .tasks) count queued (loadOf (now (b .entry)) .rest .pool)
-        and heldRight (loadOf (now (b .entry)) .tasks) count (loadOf (now (b .entry)) .rest .subs)
-        and sentRight (loadOf (now (b .entry)) .tasks) count sent (loadOf (now (b .entry)) .rest .messages)
-        and mailRight (loadOf (now (b .entry)) .tasks) count (loadOf (now (b .entry)) .rest .mail)) ⌝ }
+pub(crate) fn lists_right(b: &[u8], sets: [u16; 10]) -> bool
+    requires { ⌜ (length (now b) ≡ imageLength) × (loadOf (now b) .rest .queued ≤ 32) × (loadOf (now b) .rest .count ≤ 16)
+        × KindsKnown (now b) (loadOf (now b) .rest .count) × Kinds (loadOf (now b) .rest .count) sets (loadOf (now b) .tasks)
+        × (upTo (namesOther (loadOf (now b) .tasks)) (loadOf (now b) .rest .count) ≡ true) ⌝ }
+    ensures { λ r. ⌜ r ≡ listsRight (loadOf (now (b .entry))) ⌝ }
 {
-    if !sound_pool::pool_right(b, queued, count) {
+    let count = b[fields::COUNT];
+    if !sound_pool::pool_right(b, b[fields::QUEUED], count, sets[0], sets[6], sets[7]) {
         return false;
     }
-    if !sound_subs::subs_right(b, count) {
+    if !sound_subs::subs_right(b, count, sets[8]) {
         return false;
     }
-    if !sound_post::sent_right(b, sent, count) {
+    if !sound_post::sent_right(b, b[SENT], count, sets[9]) {
         return false;
     }
     sound_post::mail_right(b, count)
 }
 
-// Whether the bytes load to a well-formed table.
-pub(crate) fn is_sound(b: &[u8]) -> bool
-    requires { ⌜ length (now b) ≡ imageLength ⌝ }
-    ensures { λ r. ⌜ r ≡ isWellFormed (loadOf (now (b .entry))) ⌝ }
+// Whether the bytes are the image of a well-formed table, and what was learned of it.
+pub(crate) fn see(b: &[u8]) -> Seen
+    ensures { λ r. ⌜ Sees (now (b .entry)) (r .right) (r .sets) (r .running) ⌝ }
 {
-    let count = b[fields::COUNT];
-    let queued = b[fields::QUEUED];
-    let time = numbers::long_in(b, fields::CLOCK);
-    if !rules::in_bounds(count, b[fields::GRANULE], Millis(time), queued) {
+    let seen = begin(b);
+    if !seen.right {
+        return BROKEN;
+    }
+    let sets = seen.sets;
+    if !lists_right(b, sets) {
+        return BROKEN;
+    }
+    seen
+}
+
+// Whether they are, and no more.
+pub(crate) fn is_sound(b: &[u8]) -> bool
+    ensures { λ r. ⌜ r ≡ (isImage (now (b .entry)) and isWellFormed (loadOf (now (b .entry)))) ⌝ }
+{
+    let seen = begin(b);
+    if !seen.right {
         return false;
     }
-    let flags = numbers::word_in(b, fields::FLAGS);
-    if !sound_entries::entries_right(b, count, Millis(time), flags) {
-        return false;
-    }
-    if !sound_entries::blank_past(b, count) {
-        return false;
-    }
-    if !sound_entries::all_alarms(b, Millis(time)) {
-        return false;
-    }
-    if !sound_queue::queue_right(b, b[fields::READY], count) {
-        return false;
-    }
-    lists_right(b, queued, b[SENT], count)
+    let sets = seen.sets;
+    lists_right(b, sets)
 }

@@ -7,17 +7,17 @@ use crate::loading;
 use crate::zeros;
 use executive::rules;
 ghost use mathlib.Core.Path.{_≡_};
-ghost use mathlib.Core.Bool.{cond};
-ghost use Prim.Native.Nat.{ℕ, _+_, _*_, _^_, _≤_, _<_};
-ghost use lib.Bits.{bitOr};
-ghost use lib.Dec.{eqb};
+ghost use mathlib.Core.Bool.{true};
+ghost use Prim.Native.Nat.{ℕ, _+_, _*_, _≤_, _<_};
 ghost use lib.ListN.{length, take};
-ghost use Rattle.executive.specs.Lists.{upTo, allOf, _and_};
+ghost use Rattle.executive.specs.Lists.{upTo, allOf};
 ghost use Rattle.executive.specs.Places.{taskAt};
-ghost use Rattle.executive.specs.States.{awaitStart, awaitEnd, isDormant};
-ghost use Rattle.executive.specs.Check.{requestRight, waitersAt, askedRight};
+ghost use Rattle.executive.specs.States.{awaitStart, awaitEnd, isOf, isDormant};
+ghost use Rattle.executive.specs.Flags.{isSet};
+ghost use Rattle.executive.specs.Check.{requestRight, askedRight};
 ghost use Rattle.image.specs.Image.{imageLength, loadOf};
-ghost use Rattle.image.specs.Sound.{tasksIn, poolIn, naming, namings, namesIn, setOf, waitsAs, namesOther};
+ghost use Rattle.image.specs.Sound.{tasksIn, poolIn, naming, namings, namesIn, namesOther};
+ghost use Rattle.image.specs.Marks.{passed, Marked};
 
 // Whether task k is dormant; so is what a number reads that names no task.
 pub(crate) fn is_idle(b: &[u8], k: u8) -> bool
@@ -29,25 +29,6 @@ pub(crate) fn is_idle(b: &[u8], k: u8) -> bool
         return true;
     }
     0 == b[i * 26 + 1]
-}
-
-// All queued requests keep the rules on one request, and name busy tasks only.
-fn requests_right(b: &[u8], queued: u8, count: u8) -> bool
-    requires { ⌜ (length (now b) ≡ imageLength) × (queued ≤ 32) ⌝ }
-    ensures { λ r. ⌜ r ≡ allOf (requestRight (tasksIn (now (b .entry))) count) (take queued (poolIn (now (b .entry)))) ⌝ }
-{
-    let mut i: u8 = 0;
-    while i < queued {
-        let q = loading::request_in(b, POOL + (i as usize) * 6);
-        if !rules::request_fits(q, count) {
-            return false;
-        }
-        if is_idle(b, q.target.0) {
-            return false;
-        }
-        i += 1;
-    }
-    true
 }
 
 // A set of tasks with task k; with bit 0 where it has that task already. A number that names no task changes nothing.
@@ -82,61 +63,79 @@ pub(crate) fn named(b: &[u8], set: u32, at: usize, step: usize, n: u8, count: u8
     all
 }
 
-// A set with the task after number k where it passes a test.
-pub(crate) fn also(set: u32, passes: bool, k: u8) -> u32
-    requires { ⌜ k < 16 ⌝ }
-    ensures { λ r. ⌜ r ≡ bitOr set (cond passes (2 ^ (k + 1)) 0) ⌝ }
-{
-    if passes {
-        return set | changes::bit_of((k + 1) as usize);
-    }
-    set
+// What a look at the requests finds: whether they keep the rules on one request and name busy tasks only; whom they name as
+// waiters for a start, and, with those of the runs, for an end.
+struct Waiters {
+    right: bool,
+    starts: u32,
+    ends: u32,
 }
 
-// Those who wait for a start are these, those who wait for an end these; no run names itself.
-fn wait_as_named(b: &[u8], starts: u32, ends: u32, count: u8) -> bool
-    requires { ⌜ (length (now b) ≡ imageLength) × (count ≤ 16) ⌝ }
-    ensures { λ r. ⌜ r ≡ (eqb starts (setOf (waitsAs awaitStart (tasksIn (now (b .entry)))) count) and eqb ends (setOf (waitsAs awaitEnd (tasksIn (now (b .entry)))) count) and upTo (namesOther (tasksIn (now (b .entry)))) count) ⌝ }
+// Requests that are not right.
+const WRONG: Waiters = Waiters {
+    right: false,
+    starts: 0,
+    ends: 0,
+};
+
+// Looks at the queued requests; idle has bit k where task k is dormant, and bit 0, and ends those whom the runs name. Most
+// requests name no waiter: four bytes from the argument on tell that at once.
+fn requests_right(b: &[u8], queued: u8, count: u8, idle: u32, ends: u32) -> Waiters
+    requires { ⌜ (length (now b) ≡ imageLength) × (queued ≤ 32) × (count ≤ 16)
+        × ((k : ℕ) → k ≤ count → isSet idle k ≡ isDormant (taskAt (tasksIn (now b)) k .state)) ⌝ }
+    ensures { λ r. ⌜ r .right ≡ allOf (requestRight (tasksIn (now (b .entry))) count) (take queued (poolIn (now (b .entry)))) ⌝ }
+    ensures { λ r. ⌜ (r .right ≡ true → (r .starts ≡ namings count 0 (namesIn (now (b .entry)) 6 queued 708))
+        × (r .ends ≡ namings count ends (namesIn (now (b .entry)) 6 queued 709))) ⌝ }
 {
-    let mut start: u32 = 0;
-    let mut end: u32 = 0;
-    let mut k: u8 = 0;
-    while k < count {
-        let at = (k as usize) * 26;
-        let kind = b[at + 1];
-        if k + 1 == b[at + 25] {
-            return false;
+    let mut starts: u32 = 0;
+    let mut all_ends = ends;
+    let mut i: u8 = 0;
+    while i < queued {
+        let at = POOL + (i as usize) * 6;
+        let target = b[at];
+        if count < target {
+            return WRONG;
         }
-        start = also(start, 6 == kind, k);
-        end = also(end, 7 == kind, k);
-        k += 1;
+        if (idle >> (target as u32)) & 1 == 1 {
+            return WRONG;
+        }
+        if 15 < b[at + 1] {
+            return WRONG;
+        }
+        if 65535 < zeros::quad(b, at + 2) {
+            let q = loading::request_in(b, at);
+            if !rules::request_fits(q, count) {
+                return WRONG;
+            }
+            starts = with(starts, b[at + 4], count);
+            all_ends = with(all_ends, b[at + 5], count);
+        }
+        i += 1;
     }
-    if starts != start {
-        return false;
+    Waiters {
+        right: true,
+        starts,
+        ends: all_ends,
     }
-    ends == end
 }
 
-// Each task is named once in the way that it waits, else not at all.
-fn waiters_right(b: &[u8], queued: u8, count: u8) -> bool
-    requires { ⌜ (length (now b) ≡ imageLength) × (queued ≤ 32) × (count ≤ 16) ⌝ }
-    ensures { λ r. ⌜ r ≡ upTo (waitersAt (tasksIn (now (b .entry))) (take queued (poolIn (now (b .entry))))) count ⌝ }
-{
-    let starts = named(b, 0, POOL + 4, 6, queued, count);
-    let asked = named(b, 0, POOL + 5, 6, queued, count);
-    let ends = named(b, asked, 25, 26, 16, count);
-    wait_as_named(b, starts, ends, count)
-}
-
-// The requests, their waiters and those of the runs; the pool's free places are last and zero.
-pub(crate) fn pool_right(b: &[u8], queued: u8, count: u8) -> bool
-    requires { ⌜ (length (now b) ≡ imageLength) × (queued ≤ 32) × (count ≤ 16) ⌝ }
+// The requests, their waiters and those of the runs; the pool's free places are last and zero. The sets are of those who are
+// dormant, who wait for a start and who wait for an end, bit i for the task whose entry is the i-th; no run names itself.
+pub(crate) fn pool_right(b: &[u8], queued: u8, count: u8, idle: u16, starts: u16, ends: u16) -> bool
+    requires { ⌜ (length (now b) ≡ imageLength) × (queued ≤ 32) × (count ≤ 16) × Marked count idle (passed isDormant (tasksIn (now b)))
+        × Marked count starts (passed (isOf awaitStart) (tasksIn (now b))) × Marked count ends (passed (isOf awaitEnd) (tasksIn (now b)))
+        × (upTo (namesOther (tasksIn (now b))) count ≡ true) ⌝ }
     ensures { λ r. ⌜ r ≡ askedRight (loadOf (now (b .entry)) .tasks) count queued (loadOf (now (b .entry)) .rest .pool) ⌝ }
 {
-    if !requests_right(b, queued, count) {
+    let runs = named(b, 0, 25, 26, 16, count);
+    let w = requests_right(b, queued, count, ((idle as u32) << 1) | 1, runs);
+    if !w.right {
         return false;
     }
-    if !waiters_right(b, queued, count) {
+    if w.starts != (starts as u32) << 1 {
+        return false;
+    }
+    if w.ends != (ends as u32) << 1 {
         return false;
     }
     zeros::are_zero(b, POOL + (queued as usize) * 6, LEVELS)

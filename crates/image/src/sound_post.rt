@@ -1,21 +1,22 @@
 // The check of the messages on the lent bytes: those that wait, the free places, and the tasks' mail.
 use crate::AWAITED;
-use crate::IMAGE;
 use crate::MAIL;
 use crate::MESSAGES;
 use crate::SENT;
 use crate::fields;
-use crate::loading;
+use crate::numbers;
 use crate::zeros;
-use executive::rules;
 ghost use mathlib.Core.Path.{_≡_};
-ghost use Prim.Native.Nat.{_+_, _*_, _≤_, _<_};
+ghost use mathlib.Core.Bool.{true, false};
+ghost use Prim.Native.Nat.{ℕ, _+_, _≤_, _<_};
 ghost use lib.ListN.{length, take};
 ghost use Rattle.executive.specs.Places.{taskAt};
-ghost use Rattle.executive.specs.States.{takes};
+ghost use Rattle.executive.specs.States.{awaitMessage, isOf, takes};
+ghost use Rattle.executive.specs.Flags.{isSet};
 ghost use Rattle.executive.specs.Check.{lettersRight, sentRight, mailRight, mailRightAt};
 ghost use Rattle.image.specs.Image.{imageLength, loadOf};
 ghost use Rattle.image.specs.Sound.{tasksIn, messagesIn, mailIn};
+ghost use Rattle.image.specs.Marks.{passed, Marked};
 
 // Whether a task takes a message from this sender.
 fn is_taken(b: &[u8], to: u8, sender: u8) -> bool
@@ -36,67 +37,80 @@ fn is_taken(b: &[u8], to: u8, sender: u8) -> bool
     from == sender
 }
 
-// Those that wait are in range and descend, and no addressee waits for one of them.
-fn letters_right(b: &[u8], sent: u8, count: u8) -> bool
-    requires { ⌜ (length (now b) ≡ imageLength) × (sent ≤ 32) ⌝ }
+// Those that wait are in range and descend, and no addressee waits for one of them; free has bit k where task k waits for no
+// message.
+fn letters_right(b: &[u8], sent: u8, count: u8, free: u32) -> bool
+    requires { ⌜ (length (now b) ≡ imageLength) × (sent ≤ 32) × (count ≤ 16)
+        × ((k : ℕ) → k ≤ count → isSet free k ≡ true → (0 < k) × (isOf awaitMessage (taskAt (tasksIn (now b)) k .state) ≡ false)) ⌝ }
     ensures { λ r. ⌜ r ≡ lettersRight (tasksIn (now (b .entry))) count 15 (take sent (messagesIn (now (b .entry)))) ⌝ }
 {
     let mut p: u8 = 15;
     let mut i: u8 = 0;
     while i < sent {
-        let m = loading::message_in(b, MESSAGES + (i as usize) * 11);
-        if !rules::message_in_range(m, count) {
+        let at = MESSAGES + (i as usize) * 11;
+        let to = b[at];
+        let sender = b[at + 1];
+        let priority = b[at + 2];
+        if count < to {
             return false;
         }
-        if p < m.priority {
+        if (free >> (to as u32)) & 1 == 0 {
+            if to == 0 {
+                return false;
+            }
+            if is_taken(b, to, sender) {
+                return false;
+            }
+        }
+        if sender == 0 {
             return false;
         }
-        if is_taken(b, m.to.0, m.sender.0) {
+        if count < sender {
             return false;
         }
-        p = m.priority;
+        if p < priority {
+            return false;
+        }
+        p = priority;
         i += 1;
     }
     true
 }
 
-// The messages keep their rules. Where none waits, zeros are all that is looked at.
-pub(crate) fn sent_right(b: &[u8], sent: u8, count: u8) -> bool
-    requires { ⌜ length (now b) ≡ imageLength ⌝ }
+// The messages keep their rules. The set is of those who wait for a message, bit i for the task whose entry is the i-th.
+pub(crate) fn sent_right(b: &[u8], sent: u8, count: u8, receivers: u16) -> bool
+    requires { ⌜ (length (now b) ≡ imageLength) × (count ≤ 16) × Marked count receivers (passed (isOf awaitMessage) (tasksIn (now b))) ⌝ }
     ensures { λ r. ⌜ r ≡ sentRight (loadOf (now (b .entry)) .tasks) count sent (loadOf (now (b .entry)) .rest .messages) ⌝ }
 {
     if 32 < sent {
         return false;
     }
-    if !letters_right(b, sent, count) {
+    if !letters_right(b, sent, count, ((65535 - receivers) as u32) << 1) {
         return false;
     }
     zeros::are_zero(b, MESSAGES + (sent as usize) * 11, SENT)
 }
 
-// The mail of the task after number i is in range, and a dormant one has none.
+// The mail of the task after number i is in range, and a dormant one has none. Zeros are.
 fn one_mail(b: &[u8], i: usize, count: u8) -> bool
     requires { ⌜ (length (now b) ≡ imageLength) × (i < 16) ⌝ }
     ensures { λ r. ⌜ r ≡ mailRightAt (tasksIn (now (b .entry))) count (mailIn (now (b .entry))) (i + 1) ⌝ }
 {
-    let x = loading::mail_at(b, MAIL + i * 9);
-    if count < x.sender.0 {
+    let at = MAIL + i * 9;
+    if zeros::eight(b, at) | numbers::wide(b[at + 8]) == 0 {
+        return true;
+    }
+    if count < b[at] {
         return false;
     }
-    if 0 == b[i * 26 + 1] {
-        return rules::is_no_mail(x);
-    }
-    true
+    0 != b[i * 26 + 1]
 }
 
-// The mail of each task is in range, and a dormant one has none. Where there is none, zeros are all that is looked at.
+// The mail of each task is in range, and a dormant one has none.
 pub(crate) fn mail_right(b: &[u8], count: u8) -> bool
     requires { ⌜ length (now b) ≡ imageLength ⌝ }
     ensures { λ r. ⌜ r ≡ mailRight (loadOf (now (b .entry)) .tasks) count (loadOf (now (b .entry)) .rest .mail) ⌝ }
 {
-    if zeros::are_zero(b, MAIL, IMAGE) {
-        return true;
-    }
     let mut i: u8 = 0;
     while i < 16 {
         if !one_mail(b, i as usize, count) {

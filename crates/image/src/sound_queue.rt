@@ -5,18 +5,14 @@ use crate::QUEUE;
 use crate::changes;
 use crate::moves;
 use crate::numbers;
-use crate::sound_entries;
 use crate::zeros;
 use executive::places;
-use executive::states;
 use records::TaskNo;
 ghost use mathlib.Core.Path.{_≡_};
-ghost use mathlib.Core.Bool.{cond};
-ghost use Prim.Native.Nat.{_+_, _^_, _<_, _≤_};
-ghost use lib.Bits.{bitOr};
+ghost use Prim.Native.Nat.{_+_, _≤_};
 ghost use lib.ListN.{length, drop, take};
 ghost use Rattle.executive.specs.Lists.{allOf};
-ghost use Rattle.executive.specs.States.{isAs};
+ghost use Rattle.executive.specs.States.{isReady};
 ghost use Rattle.executive.specs.Check.{isNobody, queueRight};
 ghost use Rattle.image.specs.Image.{imageLength, lineFrom, loadOf};
 ghost use Rattle.image.specs.Marks.{passed, Marked, Walks};
@@ -70,32 +66,6 @@ pub(crate) fn walk(b: &[u8], at: usize, taken: u8, count: u8) -> Walked
     }
 }
 
-// A set, with one more where that is so.
-fn with_bit(set: u32, k: usize, more: bool) -> u32
-    requires { ⌜ k < 32 ⌝ }
-    ensures { λ r. ⌜ r ≡ cond more (bitOr set (2 ^ k)) set ⌝ }
-{
-    if more {
-        return set | changes::bit_of(k);
-    }
-    set
-}
-
-// Those whose state is of a kind and waits for a number, bit i for the task whose entry is the i-th.
-pub(crate) fn set_of(b: &[u8], count: u8, kind: u8, number: u8) -> u32
-    requires { ⌜ (length (now b) ≡ imageLength) × (count ≤ 16) ⌝ }
-    ensures { λ r. ⌜ Marked count r (passed (isAs kind number) (loadOf (now (b .entry)) .tasks)) ⌝ }
-{
-    let mut set: u32 = 0;
-    let mut k: u8 = 0;
-    while k < count {
-        let more = sound_entries::is_as(b, k as usize, kind, number);
-        set = with_bit(set, k as usize, more);
-        k += 1;
-    }
-    set
-}
-
 // The free places of a line are zero.
 pub(crate) fn blank_from(b: &[u8], at: usize, taken: u8) -> bool
     requires { ⌜ (length (now b) ≡ imageLength) × (at + 16 ≤ imageLength) × (taken ≤ 16) ⌝ }
@@ -104,10 +74,11 @@ pub(crate) fn blank_from(b: &[u8], at: usize, taken: u8) -> bool
     zeros::are_zero(b, at + taken as usize, at + 16)
 }
 
-// The ready queue holds exactly the ready tasks, once each, in descending priority; its free places are zero; the
-// word of the ready levels is theirs.
-pub(crate) fn queue_right(b: &[u8], ready: u8, count: u8) -> bool
-    requires { ⌜ (length (now b) ≡ imageLength) × (ready ≡ loadOf (now b) .ready) × (count ≡ loadOf (now b) .rest .count) ⌝ }
+// The ready queue holds exactly the ready tasks, whose set is given, once each, in descending priority; its free places are
+// zero; the word of the ready levels is theirs.
+pub(crate) fn queue_right(b: &[u8], ready: u8, count: u8, set: u16) -> bool
+    requires { ⌜ (length (now b) ≡ imageLength) × (ready ≡ loadOf (now b) .ready) × (count ≡ loadOf (now b) .rest .count)
+        × Marked count set (passed isReady (loadOf (now b) .tasks)) ⌝ }
     ensures { λ r. ⌜ r ≡ queueRight (loadOf (now (b .entry))) ⌝ }
 {
     if 16 < count {
@@ -123,7 +94,7 @@ pub(crate) fn queue_right(b: &[u8], ready: u8, count: u8) -> bool
     if line.word != numbers::pair_in(b, LEVELS) {
         return false;
     }
-    if line.seen != set_of(b, count, states::READY, 0) {
+    if line.seen != set as u32 {
         return false;
     }
     blank_from(b, QUEUE, ready)

@@ -1,66 +1,57 @@
 // The check of the subprograms on the lent bytes: their numbers, their holders, their lines.
 use crate::AWAITED;
-use crate::MESSAGES;
 use crate::SUBS;
+use crate::members;
 use crate::sound_pool;
 use crate::sound_queue;
 use crate::zeros;
 ghost use mathlib.Core.Path.{_≡_};
-ghost use Prim.Native.Nat.{ℕ, _+_, _≤_, _<_};
-ghost use lib.ListN.{length};
-ghost use Rattle.executive.specs.Lists.{upTo, _and_};
-ghost use Rattle.executive.specs.Places.{taskAt};
-ghost use Rattle.executive.specs.States.{waitsFor};
-ghost use Rattle.executive.specs.Check.{lineRight, holderRight, subInRange, subRight, awaitsAny, waitsForNone, heldRight};
+ghost use mathlib.Core.Bool.{not};
+ghost use Prim.Native.Nat.{ℕ, _+_, _*_, _≤_, _<_};
+ghost use lib.Dec.{eqb};
+ghost use lib.ListN.{length, getD};
+ghost use Rattle.executive.specs.Lists.{_and_};
+ghost use Rattle.executive.specs.States.{awaitSub, isOf, waitsFor};
+ghost use Rattle.executive.specs.Flags.{isSet};
+ghost use Rattle.executive.specs.Check.{lineRight, holderRight, subInRange, subRight, heldRight};
 ghost use Rattle.image.specs.Image.{imageLength, lineFrom, subFrom, loadOf};
-ghost use Rattle.image.specs.Sound.{tasksIn};
+ghost use Rattle.image.specs.Sound.{tasksIn, noughts, KindsKnown};
 ghost use Rattle.image.specs.Marks.{passed, Marked, Waiting};
 
-// Whether the task after number k waits for one of the subprograms.
-fn waits(b: &[u8], k: u8) -> bool
-    requires { ⌜ (length (now b) ≡ imageLength) × (k < 16) ⌝ }
-    ensures { λ r. ⌜ r ≡ awaitsAny (taskAt (tasksIn (now (b .entry))) (k + 1) .state) ⌝ }
-{
-    let i = k as usize;
-    if 8 != b[i * 26 + 1] {
-        return false;
-    }
-    b[AWAITED + i] <= 7
-}
-
-// None of the tasks waits for one.
-fn none_waits(b: &[u8], count: u8) -> bool
-    requires { ⌜ (length (now b) ≡ imageLength) × (count ≤ 16) ⌝ }
-    ensures { λ r. ⌜ r ≡ upTo (waitsForNone (tasksIn (now (b .entry)))) count ⌝ }
-{
-    let mut k: u8 = 0;
-    while k < count {
-        if waits(b, k) {
-            return false;
-        }
-        k += 1;
-    }
-    true
-}
-
-// Those who wait for each subprogram, bit i for the task whose entry is the i-th: sixteen bits for sixteen tasks.
-fn waiting_sets(b: &[u8], count: u8) -> [u16; 8]
-    requires { ⌜ (length (now b) ≡ imageLength) × (count ≤ 16) ⌝ }
+// Those who wait for each subprogram, of those who wait for any, bit i for the task whose entry is the i-th: sixteen bits for
+// sixteen tasks.
+fn waiting_sets(b: &[u8], count: u8, waiters: u16) -> [u16; 8]
+    requires { ⌜ (length (now b) ≡ imageLength) × (count ≤ 16) × KindsKnown (now b) count × Marked count waiters (passed (isOf awaitSub) (tasksIn (now b))) ⌝ }
     ensures { λ r. ⌜ Waiting count r (tasksIn (now (b .entry))) ⌝ }
 {
     let mut sets = [0u16; 8];
-    let mut k: u8 = 0;
+    let mut k = members::next_in(waiters as u32, 0);
     while k < count {
-        let i = k as usize;
-        if 8 == b[i * 26 + 1] {
-            let m = b[AWAITED + i];
-            if m < 8 {
-                sets[m as usize] = sets[m as usize] | (1u16 << (k as u32));
-            }
+        let m = b[AWAITED + k as usize];
+        if m < 8 {
+            sets[m as usize] = sets[m as usize] | (1u16 << (k as u32));
         }
-        k += 1;
+        k = members::next_in(waiters as u32, k + 1);
     }
     sets
+}
+
+// Those that are not free: held, with a line, or waited for.
+fn used_subs(b: &[u8], sets: [u16; 8]) -> u32
+    requires { ⌜ length (now b) ≡ imageLength ⌝ }
+    ensures { λ r. ⌜ ((m : ℕ) → m < 8 → isSet r m ≡ not (noughts (now (b .entry)) 18 (914 + m * 18) and eqb (getD sets m 0) 0)) ⌝ }
+{
+    let mut used: u32 = 0;
+    let mut m: u8 = 0;
+    while m < 8 {
+        let at = SUBS + (m as usize) * 18;
+        let set = sets[m as usize];
+        if zeros::sixteen(b, at) | zeros::quad(b, at + 14) | (set as u32) != 0 {
+            used = used | (1u32 << (m as u32));
+        }
+        m += 1;
+    }
+    used
 }
 
 // A line holds exactly those in a set, once each, in descending priority; its free places are zero. So it holds
@@ -107,22 +98,20 @@ fn sub_right(b: &[u8], at: usize, set: u16, count: u8) -> bool
     line_right(b, at + 2, b[at + 1], set, count)
 }
 
-// The subprograms keep their rules. Where all are free and nobody waits there is nothing to count.
-pub(crate) fn subs_right(b: &[u8], count: u8) -> bool
-    requires { ⌜ (length (now b) ≡ imageLength) × (count ≤ 16) ⌝ }
+// The subprograms keep their rules. Only those that are not free are looked at one by one.
+pub(crate) fn subs_right(b: &[u8], count: u8, waiters: u16) -> bool
+    requires { ⌜ (length (now b) ≡ imageLength) × (count ≤ 16) × KindsKnown (now b) count × Marked count waiters (passed (isOf awaitSub) (tasksIn (now b))) ⌝ }
     ensures { λ r. ⌜ r ≡ heldRight (loadOf (now (b .entry)) .tasks) count (loadOf (now (b .entry)) .rest .subs) ⌝ }
 {
-    if zeros::are_zero(b, SUBS, MESSAGES) {
-        return none_waits(b, count);
-    }
-    let sets = waiting_sets(b, count);
-    let mut m: u8 = 0;
+    let sets = waiting_sets(b, count, waiters);
+    let used = used_subs(b, sets);
+    let mut m = members::next_in(used, 0);
     while m < 8 {
         let i = m as usize;
         if !sub_right(b, SUBS + i * 18, sets[i], count) {
             return false;
         }
-        m += 1;
+        m = members::next_in(used, m + 1);
     }
     true
 }

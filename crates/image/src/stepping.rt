@@ -1,6 +1,5 @@
 // A step on the lent bytes of an image: checked, decided and done in place. No table is loaded.
 use crate::QUEUE;
-use crate::checking;
 use crate::deciding;
 use crate::doing;
 use crate::fields;
@@ -14,10 +13,12 @@ ghost use mathlib.Core.Bool.{true};
 ghost use lib.ListN.{length};
 ghost use Rattle.executive.specs.declared.Table.{Table};
 ghost use Rattle.executive.specs.Plans.{caller};
+ghost use Rattle.executive.specs.Check.{isWellFormed};
 ghost use Rattle.executive.specs.Step.{answerOf, refused, stepOf};
 ghost use Rattle.image.specs.Image.{imageLength, loadOf, isImage};
 ghost use Rattle.image.specs.EntryPoints.{imageAfter, Holds};
 ghost use Rattle.image.specs.Laid.{Laid};
+ghost use Rattle.image.specs.Waking.{Learned};
 ghost use Rattle.image.specs.Acting.{Acts};
 
 // The active task; 0 when idle.
@@ -67,34 +68,35 @@ fn refusal(b: &[u8], number: u8) -> Answer
     answer(b, number, m, 0)
 }
 
-// A step at an image: refused, no byte is written; accepted, the deed is done in place.
-fn step(b: &mut [u8], call: &[u8]) -> Answer
-    requires { ⌜ isImage (now b) ≡ true ⌝ }
+// A step at the image of a well-formed table, with what the check has learned of it: refused, no byte is written; accepted,
+// the deed is done in place.
+fn step(b: &mut [u8], call: &[u8], timed: u16, flagged: u16, running: u32) -> Answer
+    requires { ⌜ (isImage (now b) ≡ true) × (isWellFormed (loadOf (now b)) ≡ true) × Learned timed flagged running (loadOf (now b)) ⌝ }
     ensures { λ r. ⌜ (r ≡ stepOf (loadOf (now (b .entry))) (now (call .entry)) .answer)
         × ((now (b .exit) ≡ imageAfter (now (b .entry)) (now (call .entry)))
         × (r .number ≡ 0 → Holds (now (b .exit)) (stepOf (loadOf (now (b .entry))) (now (call .entry)) .table))) ⌝ }
 {
-    if !sound::is_sound(b) {
-        return answers::no_table();
-    }
     let c = active(b);
-    let d = deciding::decide(b, c, call);
+    let d = deciding::decide(b, c, call, timed, flagged, running);
     if d.number != 0 {
         return refusal(b, d.number);
     }
     let deed = d.deed;
-    let walked = doing::execute(b, deed);
+    let walked = doing::execute(b, deed, running);
     let m = d.marks;
     answer(b, 0, m, walked)
 }
 
-// A step, whatever the bytes are, and its answer. Accepted, the image is rewritten; refused, none of its bytes is
-// changed.
+// A step, whatever the bytes are, and its answer. Accepted, the image is rewritten; refused, none of its bytes is changed.
 pub fn act(image: &mut [u8], call: &[u8]) -> Answer
     ensures { λ r. ⌜ Acts (now (image .entry)) (now (call .entry)) (now (image .exit)) r ⌝ }
 {
-    if !checking::is_image(image) {
+    let seen = sound::see(image);
+    if !seen.right {
         return answers::no_table();
     }
-    step(image, call)
+    let sets = seen.sets;
+    let timed = sets[2] | sets[3];
+    let flagged = sets[4] | sets[5];
+    step(image, call, timed, flagged, seen.running)
 }

@@ -1,13 +1,11 @@
-use Rattle.image.proofs.RingLaid.{due-none, due-by}
+-- Of an alarm that is running the time alone is read: it is due where that has come.
+use Rattle.image.proofs.RingLaid.{due-by}
 use borrow.Author.Needs.{needs}
 use Rattle.image.proofs.ringing.is_due.Statement.{statement}
 use Rattle.image.proofs.ringing.is_due.Tie as tie
 
 returns : tie.Need-returns
-returns c = λ t l. due-none t l (c .before .before .before .args .i) (c .before .before .before .pre .1) (c .before .before .before .args .time) _ (c .before .long-in .ensures) (c .if1 .taken)
-
-returns-2 : tie.Need-returns-2
-returns-2 c = λ t l. due-by t l (c .before .before .before .args .i) (c .before .before .before .pre .1) (c .before .before .before .args .time) _ (c .before .long-in .ensures) (c .if1 .left)
+returns c = λ t l z. due-by t l (c .before .before .args .i) (c .before .before .pre .1) (c .before .before .args .time) _ (c .long-in .ensures) z
 
 pub is-due-spec : {M : Type 1} → statement M
-is-due-spec = tie.close (tie.spec (λ c. search needs) (λ c. search needs) (λ c κs. search needs) returns returns-2)
+is-due-spec = tie.close (tie.spec (λ c. search needs) (λ c. search needs) (λ c κs. search needs) returns)

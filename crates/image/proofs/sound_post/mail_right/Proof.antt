@@ -10,7 +10,6 @@ use Rattle.executive.specs.Lists.{upTo}
 use Rattle.executive.specs.Check.{mailRightAt}
 use Rattle.executive.proofs.Assured.{all-none, all-more, all-not}
 use Rattle.image.specs.Sound.{tasksIn, mailIn}
-use Rattle.image.proofs.PostRead.{no-mail-right}
 use Rattle.image.proofs.sound_post.mail_right.Statement.{statement}
 use Rattle.image.proofs.sound_post.mail_right.Tie as tie
 
@@ -20,20 +19,19 @@ Inv-loop b count i₀ i = (i ≤ 16) × (upTo (mailRightAt (tasksIn b) count (ma
 abbrev μ-loop : tie.MeasureT-loop
 μ-loop b count i₀ i = 16 - i
 
-are-zero-requires : tie.Need-are-zero-requires Inv-loop μ-loop
-are-zero-requires c κs = (omega arith, omega (arith, c .before .pre))
-
-returns : tie.Need-returns Inv-loop μ-loop
-returns c = sym (no-mail-right (now (c .before .before .before .args .b)) (c .before .before .before .args .count) (sym (c .before .are-zero .ensures) ∙ c .if1 .taken))
-
 loop-holds : tie.Need-loop-holds Inv-loop μ-loop
-loop-holds c = (omega arith, all-none (mailRightAt (tasksIn (now (c .before .before .before .args .b))) (c .before .before .before .args .count) (mailIn (now (c .before .before .before .args .b)))))
+loop-holds c =
+    let s = now (c .before .args .b) in
+    (omega arith, all-none (mailRightAt (tasksIn s) (c .before .args .count) (mailIn s)))
 
 one-mail-requires : tie.Need-one-mail-requires Inv-loop μ-loop
-one-mail-requires c κs = (c .before .before .before .before .before .pre, c .loop-test .taken)
+one-mail-requires c κs = (c .before .before .before .pre, c .loop-test .taken)
 
-returns-2 : tie.Need-returns-2 Inv-loop μ-loop
-returns-2 c = sym (all-not (mailRightAt (tasksIn (now (c .before .before .before .before .before .before .before .args .b))) (c .before .before .before .before .before .before .before .args .count) (mailIn (now (c .before .before .before .before .before .before .before .args .b)))) 16 (c .before .before .before .loop .i) (c .before .before .loop-test .taken) (sym (c .before .one-mail .ensures) ∙ not-true _ (c .if2 .taken)))
+returns : tie.Need-returns Inv-loop μ-loop
+returns c =
+    let s = now (c .before .before .before .before .before .args .b) in
+    let v = c .before .before .before .loop in
+    sym (all-not (mailRightAt (tasksIn s) (c .before .before .before .before .before .args .count) (mailIn s)) 16 (v .i) (c .before .before .loop-test .taken) (sym (c .before .one-mail .ensures) ∙ not-true _ (c .if1 .taken)))
 
 add-i : tie.Need-add-i Inv-loop μ-loop
 add-i c = omega (arith, c .before .before .loop-test .taken)
@@ -42,10 +40,13 @@ loop-less : tie.Need-loop-less Inv-loop μ-loop
 loop-less c = omega (arith, c .before .before .loop-test .taken)
 
 loop-again : tie.Need-loop-again Inv-loop μ-loop
-loop-again c = (omega (arith, c .before .before .loop-test .taken), all-more (mailRightAt (tasksIn (now (c .before .before .before .before .before .before .before .args .b))) (c .before .before .before .before .before .before .before .args .count) (mailIn (now (c .before .before .before .before .before .before .before .args .b)))) (c .before .before .before .loop .i) (c .before .before .before .loop .inv .1) (sym (c .before .one-mail .ensures) ∙ not-false _ (c .if2 .left)))
+loop-again c =
+    let s = now (c .before .before .before .before .before .args .b) in
+    let v = c .before .before .before .loop in
+    (omega (arith, c .before .before .loop-test .taken), all-more (mailRightAt (tasksIn s) (c .before .before .before .before .before .args .count) (mailIn s)) (v .i) (v .inv .1) (sym (c .before .one-mail .ensures) ∙ not-false _ (c .if1 .left)))
 
-returns-3 : tie.Need-returns-3 Inv-loop μ-loop
-returns-3 c =
+returns-2 : tie.Need-returns-2 Inv-loop μ-loop
+returns-2 c =
     let v = c .before .loop in
     let e : v .i ≡ 16 = omega (arith, v .inv .0, c .loop-test .left) in
     sym (rw e at (v .inv .1))
@@ -56,13 +57,11 @@ mail-right-spec =
     (tie.spec
     Inv-loop
     μ-loop
-    are-zero-requires
-    returns
     loop-holds
     (λ c. search needs)
     one-mail-requires
-    returns-2
+    returns
     add-i
     loop-less
     loop-again
-    returns-3)
+    returns-2)

@@ -8,7 +8,7 @@ use Rattle.image.proofs.sound_queue.blank_from.Statement.{statement}
 use Rattle.image.proofs.sound_queue.blank_from.Tie as tie
 
 are-zero-requires : tie.Need-are-zero-requires
-are-zero-requires c κs = (omega (arith, c .before .pre .2), omega (arith, c .before .pre .0, c .before .pre .1))
+are-zero-requires c κs = (omega (arith, c .before .pre .2), omega (arith, c .before .pre .0, c .before .pre .1), c .before .pre .1)
 
 returns : tie.Need-returns
 returns c = c .are-zero .ensures ∙ sym (line-nought (now (c .before .before .args .b)) (c .before .before .args .at) (c .before .before .args .taken) (c .before .before .pre .2))

@@ -1,28 +1,35 @@
--- `stepping::act` meets its contract: bytes that are no image are refused and kept, and at an image it is the step.
+-- `stepping::act` meets its contract: bytes that are no image of a well-formed table are refused and kept; else it is the step.
 use mathlib.Core.Path.{sym, _∙_}
-use borrow.Author.Tests.{not-true, not-false}
 use denote.Ref.{now}
+use borrow.Author.Tests.{not-true, not-false}
+use Rattle.executive.proofs.Assured.{and-true}
+use Rattle.image.specs.Image.{isImage}
+use Rattle.image.proofs.Answered.{act-said}
+use Rattle.image.proofs.Learnt.{learned, act-refused}
 use borrow.Author.Needs.{needs}
-use Rattle.image.proofs.Answered.{act-none, act-said}
 use Rattle.image.proofs.stepping.act.Statement.{statement}
 use Rattle.image.proofs.stepping.act.Tie as tie
 
 returns : tie.Need-returns
-returns c =
-    let i = c .before .before in
-    let a = i .before .before .before .before .args in
-    rw (c .no-table .ensures) (act-none (now (a .image)) (now (a .call)) (sym (i .is-image .ensures) ∙ not-true (i .is-image .result) (c .before .if1 .taken)))
+returns c = rw (c .no-table .ensures) (act-refused (now (c .before .before .before .before .before .before .before .args .image)) (now (c .before .before .before .before .before .before .before .args .call)) (sym (c .before .before .before .see .ensures .told) ∙ not-true _ (c .before .if1 .taken)))
 
 step-requires : tie.Need-step-requires
-step-requires c κs = sym (c .before .before .is-image .ensures) ∙ not-false (c .before .before .is-image .result) (c .before .if1 .left)
+step-requires c κs =
+    let x = c .before .before .before .before in
+    let s = now (x .before .before .before .before .args .image) in
+    let e = x .see .ensures in
+    let r = not-false _ (c .before .before .if1 .left) in
+    let b = and-true (isImage s) _ (sym (e .told) ∙ r) in
+    (b .0, b .1, learned s (b .1) _ _ (e .kinds r) (e .alarms r))
 
 returns-2 : tie.Need-returns-2
 returns-2 c =
-    let x = c .before .before in
-    let i = x .before .before .before in
-    let a = i .before .before .before .before .args in
-    let e = x .step .ensures in
-    act-said (now (a .image)) (now (a .call)) (x .step .result) (sym (i .is-image .ensures) ∙ not-false (i .is-image .result) (x .before .before .if1 .left)) (e .0) (e .1 .0) (e .1 .1)
+    let x = c .before .before .before .before .before in
+    let y = x .before .before .before .before .before .before in
+    let s = now (y .args .image) in
+    let b = and-true (isImage s) _ (sym (x .before .before .see .ensures .told) ∙ not-false _ (x .if1 .left)) in
+    let e = c .before .before .step .ensures in
+    act-said s (now (y .args .call)) (c .before .before .step .result) (b .0) (e .0) (e .1 .0) (e .1 .1)
 
 pub act-spec : {M : Type 1} → statement M
 act-spec =
@@ -32,6 +39,10 @@ act-spec =
     (λ c κs. search needs)
     (λ c. search needs)
     returns
+    (λ c. search needs)
+    (λ c. search needs)
+    (λ c. search needs)
+    (λ c. search needs)
     step-requires
     (λ c. search needs)
     returns-2)

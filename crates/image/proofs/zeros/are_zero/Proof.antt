@@ -1,135 +1,111 @@
--- `zeros::are_zero` meets its contract. The invariant of the loop: where x is zero, what is left decides.
-use Prim.Native.Nat.{_+_, _-_, _≤_}
-use mathlib.Core.Path.{_≡_, refl, sym, _∙_}
-use mathlib.Core.Bool.{false}
-use mathlib.Core.Logic.{⊎-elim}
+-- `zeros::are_zero` meets its contract. The invariant of each of the three loops: what is put together is zero where the bytes passed are.
+use Prim.Native.Nat.{ℕ, _-_, _≤_}
+use mathlib.Core.Path.{_≡_, refl, sym, ap, _∙_}
 use native.Mathlib.Omega.{arith}
 use denote.Ref.{now}
-use borrow.Author.Tests.{not-true, not-false}
+use borrow.Author.Needs.{needs}
+use borrow.Author.Tests.{eq-eqb}
+use lib.Dec.{eqb}
 use Rattle.image.specs.Sound.{noughts}
-use Rattle.image.proofs.Noughts.{noughts-not, noughts-on, noughts-past, noughts-or}
+use Rattle.image.proofs.Noughts.{noughts-none, byte-nought, or-past}
 use Rattle.image.proofs.zeros.are_zero.Statement.{statement}
 use Rattle.image.proofs.zeros.are_zero.Tie as tie
 
 abbrev Inv-loop : tie.InvT-loop
-Inv-loop b from to at₀ x at = (at ≤ to) × (x ≡ 0 → noughts b (to - at) at ≡ noughts b (to - from) from)
+Inv-loop b from to end at₀ all₀ at all = (from ≤ at) × (at ≤ to) × (eqb all 0 ≡ noughts b (at - from) from)
 
 abbrev μ-loop : tie.MeasureT-loop
-μ-loop b from to at₀ x at = to - at
+μ-loop b from to end at₀ all₀ at all = to - at
 
--- once x is known: not all are zero where, with x zero, they are not
-unlike : (q : tie.After-quad Inv-loop μ-loop) → let a = q .before .before .before .args in
-    (q .quad .result ≡ 0 → noughts (now (a .b)) (a .to - a .from) (a .from) ≡ false) → false ≡ noughts (now (a .b)) (a .to - a .from) (a .from)
-unlike q k =
-    let a = q .before .before .before .args in
-    sym (noughts-or (now (a .b)) 4 (a .to - a .from) (a .from) (q .quad .result) (omega (arith, q .before .if1 .taken)) (q .quad .ensures) k)
+abbrev Inv-loop2 : tie.InvT-loop2
+Inv-loop2 b from to end at₀ all₀ at all = (from ≤ at) × (at ≤ to) × (eqb all 0 ≡ noughts b (at - from) from)
 
-sub-if1 : tie.Need-sub-if1 Inv-loop μ-loop
-sub-if1 c = c .before .pre .0
+abbrev μ-loop2 : tie.MeasureT-loop2
+μ-loop2 b from to end at₀ all₀ at all = to - at
 
-quad-requires : tie.Need-quad-requires Inv-loop μ-loop
-quad-requires c κs = omega (arith, c .before .before .pre .1, c .if1 .taken)
+abbrev Inv-loop3 : tie.InvT-loop3
+Inv-loop3 b from to end at₀ all₀ at all = (from ≤ at) × (at ≤ to) × (eqb all 0 ≡ noughts b (at - from) from)
 
-loop-holds : tie.Need-loop-holds Inv-loop μ-loop
-loop-holds c = (c .before .before .before .pre .0, λ e. refl)
+abbrev μ-loop3 : tie.MeasureT-loop3
+μ-loop3 b from to end at₀ all₀ at all = to - at
 
-sub-loop : tie.Need-sub-loop Inv-loop μ-loop
-sub-loop c = c .loop .inv .0
+cast-end : tie.Need-cast-end Inv-loop μ-loop Inv-loop2 μ-loop2 Inv-loop3 μ-loop3
+cast-end c = omega (arith, c .before .pre .2)
 
-sixteen-requires : tie.Need-sixteen-requires Inv-loop μ-loop
-sixteen-requires c κs = omega (arith, c .before .before .before .before .before .pre .1, c .loop-test .taken, c .before .loop .inv .0)
+cast-at : tie.Need-cast-at Inv-loop μ-loop Inv-loop2 μ-loop2 Inv-loop3 μ-loop3
+cast-at c = omega (arith, c .before .pre .0, c .before .pre .2)
 
-returns : tie.Need-returns Inv-loop μ-loop
-returns c =
-    let q = c .before .before .before .before in
-    let a = q .before .before .before .args in
-    let v = c .before .before .before .loop in
-    unlike q
-    (λ e. sym (v .inv .1 e) ∙ noughts-not (now (a .b)) 16 (a .to - v .at) (v .at) (omega (arith, c .before .before .loop-test .taken)) (sym (c .before .sixteen .ensures e) ∙ not-true _ (c .if2 .taken)))
+loop-holds : tie.Need-loop-holds Inv-loop μ-loop Inv-loop2 μ-loop2 Inv-loop3 μ-loop3
+loop-holds c =
+    let a = c .before .args in
+    (omega arith, c .before .pre .0, eq-eqb 0 0 refl ∙ sym (noughts-none (now (a .b)) (a .from - a .from) (a .from) (omega arith)))
 
-add-sixteen : tie.Need-add-sixteen Inv-loop μ-loop
-add-sixteen c = omega (arith, c .before .before .loop-test .taken, c .before .before .before .loop .inv .0)
+sub-loop : tie.Need-sub-loop Inv-loop μ-loop Inv-loop2 μ-loop2 Inv-loop3 μ-loop3
+sub-loop c = c .loop .inv .1
 
-sixteen-requires-2 : tie.Need-sixteen-requires-2 Inv-loop μ-loop
-sixteen-requires-2 c κs = omega (arith, c .before .before .before .before .before .before .before .pre .1, c .before .before .loop-test .taken, c .before .before .before .loop .inv .0)
+thirty-two-requires : tie.Need-thirty-two-requires Inv-loop μ-loop Inv-loop2 μ-loop2 Inv-loop3 μ-loop3
+thirty-two-requires c κs = omega (arith, c .before .before .before .pre .1, c .before .loop .inv .1, c .loop-test .taken)
 
-returns-2 : tie.Need-returns-2 Inv-loop μ-loop
-returns-2 c =
-    let q = c .before .before .before .before .before .before in
-    let a = q .before .before .before .args in
-    let t = c .before .before .before .before in
-    let v = t .before .loop in
-    unlike q
-    (λ e. sym (v .inv .1 e) ∙ sym (noughts-past (now (a .b)) 16 (v .at) (a .to) (omega (arith, t .loop-test .taken)) (sym (c .before .before .before .sixteen .ensures e) ∙ not-false _ (c .before .before .if2 .left)))
-    ∙ noughts-not (now (a .b)) 16 (a .to - (v .at + 16)) (v .at + 16) (omega (arith, t .loop-test .taken)) (sym (c .before .sixteen2 .ensures e) ∙ not-true _ (c .if3 .taken)))
+add-at : tie.Need-add-at Inv-loop μ-loop Inv-loop2 μ-loop2 Inv-loop3 μ-loop3
+add-at c = omega (arith, c .before .before .before .before .pre .2, c .before .before .loop .inv .1, c .before .loop-test .taken)
 
-add-at : tie.Need-add-at Inv-loop μ-loop
-add-at c = omega (arith, c .before .before .before .before .loop-test .taken, c .before .before .before .before .before .loop .inv .0)
+loop-less : tie.Need-loop-less Inv-loop μ-loop Inv-loop2 μ-loop2 Inv-loop3 μ-loop3
+loop-less c = omega (arith, c .before .before .loop .inv .1, c .before .loop-test .taken)
 
-loop-less : tie.Need-loop-less Inv-loop μ-loop
-loop-less c = omega (arith, c .before .before .before .before .loop-test .taken, c .before .before .before .before .before .loop .inv .0)
-
-loop-again : tie.Need-loop-again Inv-loop μ-loop
+loop-again : tie.Need-loop-again Inv-loop μ-loop Inv-loop2 μ-loop2 Inv-loop3 μ-loop3
 loop-again c =
-    let t = c .before .before .before .before in
-    let a = t .before .before .before .before .before .args in
-    let v = t .before .loop in (
-      omega (arith, t .loop-test .taken, v .inv .0),
-      λ e. noughts-past (now (a .b)) 32 (v .at) (a .to) (t .loop-test .taken)
-          (sym (noughts-on (now (a .b)) 16 32 (v .at) (omega arith) (sym (c .before .before .before .sixteen .ensures e) ∙ not-false _ (c .before .before .if2 .left)))
-          ∙ sym (c .before .sixteen2 .ensures e) ∙ not-false _ (c .if3 .left)) ∙ v .inv .1 e,
-    )
-
-sub-if4 : tie.Need-sub-if4 Inv-loop μ-loop
-sub-if4 c = c .before .loop .inv .0
-
-sixteen-requires-3 : tie.Need-sixteen-requires-3 Inv-loop μ-loop
-sixteen-requires-3 c κs = omega (arith, c .before .before .before .before .before .before .pre .1, c .if4 .taken, c .before .before .loop .inv .0)
-
-returns-3 : tie.Need-returns-3 Inv-loop μ-loop
-returns-3 c =
-    let q = c .before .before .before .before .before in
-    let a = q .before .before .before .args in
-    let v = c .before .before .before .before .loop in
-    unlike q
-    (λ e. sym (v .inv .1 e) ∙ noughts-not (now (a .b)) 16 (a .to - v .at) (v .at) (c .before .before .if4 .taken) (sym (c .before .sixteen3 .ensures e) ∙ not-true _ (c .if5 .taken)))
-
-add-at-2 : tie.Need-add-at-2 Inv-loop μ-loop
-add-at-2 c = omega (arith, c .before .before .if4 .taken, c .before .before .before .before .loop .inv .0)
-
--- past the last sixteen, which is tested or not
-sixteens : (c : tie.Joined4 Inv-loop μ-loop)
-    → let a = c .before .before .before .before .before .before .args in
-    (c .if4 .at ≤ a .to) × (c .before .before .before .quad .result ≡ 0 → noughts (now (a .b)) (a .to - c .if4 .at) (c .if4 .at) ≡ noughts (now (a .b)) (a .to - a .from) (a .from))
-sixteens c =
-    let a = c .before .before .before .before .before .before .args in
+    let a = c .before .before .before .before .args in
     let v = c .before .before .loop in
-    ⊎-elim
-    (λ w. rw (w .3) (
-      omega (arith, w .0 .taken, v .inv .0),
-      λ e. noughts-past (now (a .b)) 16 (v .at) (a .to) (w .0 .taken) (sym (w .1 .ensures e) ∙ not-false _ (w .2 .left)) ∙ v .inv .1 e,
-    ))
-    (λ w. rw (w .1) (v .inv))
-    (c .if4 .came)
+    let t = c .before .loop-test .taken in
+    (omega (arith, v .inv .0), omega (arith, v .inv .1, t), or-past (now (a .b)) 32 (a .from) (v .at) (v .all) (c .thirty-two .result) (v .inv .0) (v .inv .2) (c .thirty-two .ensures))
 
-returns-4 : tie.Need-returns-4 Inv-loop μ-loop
-returns-4 c = unlike (c .before .before .before .before) (λ e. absurd (c .if6 .taken e))
+loop2-holds : tie.Need-loop2-holds Inv-loop μ-loop Inv-loop2 μ-loop2 Inv-loop3 μ-loop3
+loop2-holds c = c .before .loop .inv
 
--- past all that is not tested one by one
-rest : (c : tie.Joined1 Inv-loop μ-loop) → let a = c .before .before .args in
-    (c .if1 .at ≤ a .to) × (noughts (now (a .b)) (a .to - c .if1 .at) (c .if1 .at) ≡ noughts (now (a .b)) (a .to - a .from) (a .from))
-rest c =
-    ⊎-elim
-    (λ w. let r = sixteens record { before = record { before = record { before = record { before = record { before = c .before; if1 = w .0 }; quad = w .1 }; loop = w .2 }; loop-test = w .3 }; if4 = w .4 } in
-    rw (w .6) (r .0, r .1 (w .5 .left)))
-    (λ w. rw (w .1) (c .before .before .pre .0, refl))
-    (c .if1 .came)
+sub-loop2 : tie.Need-sub-loop2 Inv-loop μ-loop Inv-loop2 μ-loop2 Inv-loop3 μ-loop3
+sub-loop2 c = c .loop2 .inv .1
 
-each-zero-requires : tie.Need-each-zero-requires Inv-loop μ-loop
-each-zero-requires c κs = (rest c .0, c .before .before .pre .1)
+quad-requires : tie.Need-quad-requires Inv-loop μ-loop Inv-loop2 μ-loop2 Inv-loop3 μ-loop3
+quad-requires c κs = omega (arith, c .before .before .before .before .before .pre .1, c .before .loop2 .inv .1, c .loop2-test .taken)
 
-returns-5 : tie.Need-returns-5 Inv-loop μ-loop
-returns-5 c = c .each-zero .ensures ∙ rest (c .before) .1
+add-at-2 : tie.Need-add-at-2 Inv-loop μ-loop Inv-loop2 μ-loop2 Inv-loop3 μ-loop3
+add-at-2 c = omega (arith, c .before .before .before .before .before .before .pre .2, c .before .before .loop2 .inv .1, c .before .loop2-test .taken)
+
+loop2-less : tie.Need-loop2-less Inv-loop μ-loop Inv-loop2 μ-loop2 Inv-loop3 μ-loop3
+loop2-less c = omega (arith, c .before .before .loop2 .inv .1, c .before .loop2-test .taken)
+
+loop2-again : tie.Need-loop2-again Inv-loop μ-loop Inv-loop2 μ-loop2 Inv-loop3 μ-loop3
+loop2-again c =
+    let a = c .before .before .before .before .before .before .args in
+    let v = c .before .before .loop2 in
+    let t = c .before .loop2-test .taken in
+    (omega (arith, v .inv .0), omega (arith, v .inv .1, t), or-past (now (a .b)) 4 (a .from) (v .at) (v .all) (c .quad .result) (v .inv .0) (v .inv .2) (c .quad .ensures .0))
+
+loop3-holds : tie.Need-loop3-holds Inv-loop μ-loop Inv-loop2 μ-loop2 Inv-loop3 μ-loop3
+loop3-holds c = c .before .loop2 .inv
+
+shared-slice-read-wide : tie.Need-shared-slice-read-wide Inv-loop μ-loop Inv-loop2 μ-loop2 Inv-loop3 μ-loop3
+shared-slice-read-wide c = omega (arith, c .before .before .before .before .before .before .before .before .pre .1, c .before .loop3-test .taken)
+
+add-at-3 : tie.Need-add-at-3 Inv-loop μ-loop Inv-loop2 μ-loop2 Inv-loop3 μ-loop3
+add-at-3 c = omega (arith, c .before .before .before .before .before .before .before .before .before .pre .2, c .before .before .loop3-test .taken)
+
+loop3-less : tie.Need-loop3-less Inv-loop μ-loop Inv-loop2 μ-loop2 Inv-loop3 μ-loop3
+loop3-less c = omega (arith, c .before .before .loop3-test .taken)
+
+loop3-again : tie.Need-loop3-again Inv-loop μ-loop Inv-loop2 μ-loop2 Inv-loop3 μ-loop3
+loop3-again c =
+    let a = c .before .before .before .before .before .before .before .before .before .args in
+    let v = c .before .before .before .loop3 in
+    let t = c .before .before .loop3-test .taken in
+    (omega (arith, v .inv .0), omega (arith, v .inv .1, t), or-past (now (a .b)) 1 (a .from) (v .at) (v .all) (c .wide .result) (v .inv .0) (v .inv .2) (ap (λ (x : ℕ). eqb x 0) (c .wide .ensures) ∙ sym (byte-nought (now (a .b)) (v .at))))
+
+returns : tie.Need-returns Inv-loop μ-loop Inv-loop2 μ-loop2 Inv-loop3 μ-loop3
+returns c =
+    let a = c .before .before .before .before .before .before .before .args in
+    let v = c .before .loop3 in
+    let e : v .at ≡ a .to = omega (arith, v .inv .1, c .loop3-test .left) in
+    v .inv .2 ∙ ap (λ (n : ℕ). noughts (now (a .b)) (n - a .from) (a .from)) e
 
 pub are-zero-spec : {M : Type 1} → statement M
 are-zero-spec =
@@ -137,22 +113,31 @@ are-zero-spec =
     (tie.spec
     Inv-loop
     μ-loop
-    sub-if1
-    quad-requires
+    Inv-loop2
+    μ-loop2
+    Inv-loop3
+    μ-loop3
+    cast-end
+    cast-at
     loop-holds
     sub-loop
-    sixteen-requires
-    returns
-    add-sixteen
-    sixteen-requires-2
-    returns-2
+    (λ c. search needs)
+    thirty-two-requires
     add-at
     loop-less
     loop-again
-    sub-if4
-    sixteen-requires-3
-    returns-3
+    loop2-holds
+    sub-loop2
+    (λ c. search needs)
+    quad-requires
     add-at-2
-    returns-4
-    each-zero-requires
-    returns-5)
+    loop2-less
+    loop2-again
+    loop3-holds
+    (λ c. search needs)
+    shared-slice-read-wide
+    (λ c κs. search needs)
+    add-at-3
+    loop3-less
+    loop3-again
+    returns)
