@@ -56,6 +56,7 @@ pub use Rattle.executive.proofs.queue.ArraysAreLists.{take-le, head-tak
 pub use Rattle.executive.proofs.queue.ArraysAreLists.{queue-length, line-length, slid-queue, closed-queue, tail-length, head-line, ahead-ready}
 pub use Rattle.executive.proofs.queue.ArraysAreLists.{departed-idle, departed-fit, entered-fit, entered-ready, made-departed, made-entered}
 pub use Rattle.executive.proofs.queue.ArraysAreLists.{pool-length, requests-length, made-removed, removed-neat, made-queued, queued-neat}
+pub use Rattle.executive.proofs.configuration.Loops.{marked-short, start-more, nobody-in, start-vacant, dormant-more, dormant-fit}
 pub use Rattle.executive.proofs.queue.InFlight.{relit-fit, begin-flying, fewer-flying, enter-flying, enters-flying, lit-flying, lit-on-the-way, depart-fit}
 pub use Rattle.executive.proofs.queue.InFlight.{admits-append, admits-rest, rest-same, beside, finds-beside, enters-beside, carry-still}
 pub use Rattle.executive.proofs.executing.Leaving.{left-gone, left-stays, depart-rest, unaltered, changed-neat, done-is}

@@ -48,7 +48,7 @@ fn mark_in(s: &[u8], k: TaskNo) -> u8
 }
 
 // How many 41 follow the 40, one after the other; 16 at most.
-fn tasks_in(s: &[u8]) -> u8
+pub fn tasks_in(s: &[u8]) -> u8
     ensures { λ r. ⌜ (r ≡ tasksIn (now (s .entry))) × (r ≤ 16) ⌝ }
 {
     let mut n: u8 = 0;
@@ -102,7 +102,7 @@ fn tasks_right(s: &[u8], n: u8) -> bool
 }
 
 // Whether the bytes are a configuration.
-fn is_configuration(s: &[u8]) -> bool
+pub fn is_configuration(s: &[u8]) -> bool
     ensures { λ r. ⌜ r ≡ isConfiguration (now (s .entry)) ⌝ }
 {
     let n = tasks_in(s);

@@ -8,21 +8,22 @@ use lib.Dec.{ltb}
 use lib.ListN.{length}
 use borrow.Author.Tests.{eq-eqb, ne-eqb, lt-ltb, le-ltb}
 use Rattle.executive.specs.declared.Table.{Table}
-use Rattle.executive.specs.declared.Fresh.{Fresh}
 use Rattle.executive.specs.declared.Answer.{Answer}
 use Rattle.executive.specs.Check.{isWellFormed}
 use Rattle.executive.specs.Lists.{_and_}
-use Rattle.executive.proofs.Assured.{decided, and-true, true-and}
+use Rattle.executive.proofs.Assured.{decided, fresh-law, and-true, true-and}
 use Rattle.executive.specs.Step.{noTable, stepOf}
-use Rattle.executive.specs.Configuration.{freshOf}
+use Rattle.executive.specs.Configuration.{isConfiguration, freshTable}
 use Rattle.records.specs.declared.TaskNo.{TaskNo}
 use Rattle.why.specs.declared.Reasons.{Reasons}
 use Rattle.image.specs.Blocks.{written}
 use Rattle.image.specs.Image.{noRoom, imageLength, imageOf, loadOf, isImage, FitsTable}
-use Rattle.image.specs.EntryPoints.{checkNumber, CheckedImage, Holds, freshNumber, freshImage, answerLength, answerBytes, answerTo, imageAfter, stepNumber, stepImage, stepAnswer}
+use Rattle.image.specs.EntryPoints.{checkNumber, CheckedImage, Holds, freshNumber, freshImage, MakesImage, answerLength, answerBytes, answerTo, imageAfter, stepNumber, stepImage, stepAnswer}
 use Rattle.image.specs.Acting.{Acts}
+use Rattle.image.specs.Laid.{Laid}
 use Rattle.image.specs.Reasons.{reasonsLength, reasonsBytes, reasonsTo, whyNumber, whyAnswer}
 use Rattle.image.proofs.Alike.{decide, never}
+use Rattle.image.proofs.LoadLaid.{laid-holds}
 use Rattle.image.proofs.Trips.{load-store, stored}
 
 -- ---- a stored table
@@ -35,14 +36,17 @@ module _ (g o : List ℕ) where
   unfolding freshNumber freshImage
   fresh-length h = let e = ne-eqb (length o) imageLength h in (rw e, rw e)
 
-  module _ (f : Fresh) (ef : f ≡ freshOf g) (n : length o ≡ imageLength) where
-    pub fresh-refused : (f .answer .number ≡ 0 → ⊥) → (f .answer .number ≡ freshNumber g o) × (o ≡ freshImage g o)
+  module _ (n : length o ≡ imageLength) where
+    pub fresh-refused : isConfiguration g ≡ false → (2 ≡ freshNumber g o) × (o ≡ freshImage g o)
     unfolding freshNumber freshImage
-    fresh-refused h = let e = eq-eqb (length o) imageLength n in let k = ne-eqb (f .answer .number) 0 h in rw (e, ← ef) (refl, rw k)
+    fresh-refused h = let e = eq-eqb (length o) imageLength n in rw (e, fresh-law .refused g h) (refl, refl)
 
-    pub fresh-made : {u : List ℕ} → f .answer .number ≡ 0 → u ≡ imageOf (f .table) → (0 ≡ freshNumber g o) × (u ≡ freshImage g o)
+    pub fresh-made : {u : List ℕ} → isConfiguration g ≡ true → Laid u (freshTable g) → MakesImage g o u 0
     unfolding freshNumber freshImage
-    fresh-made h eu = let e = eq-eqb (length o) imageLength n in let k = eq-eqb (f .answer .number) 0 h in rw (e, ← ef) (sym h, rw k eu)
+    fresh-made {u} h l =
+        let e = eq-eqb (length o) imageLength n in
+        let m = fresh-law .made g h in
+        record { number = rw (e, m); image = rw (e, m) (l .image); holds = λ z. rw m (laid-holds (freshTable g) l) }
 
 -- ---- the check of some bytes
 module _ (s : List ℕ) where

@@ -40,6 +40,7 @@ pub mod KindsRead
 pub mod EntriesRead
 pub mod Beheld
 pub mod FirstPart
+pub mod FreshLaid
 pub mod Learnt
 pub mod LinesRead
 pub mod PoolRead

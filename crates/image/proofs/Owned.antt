@@ -33,8 +33,6 @@ use Rattle.executive.proofs.Rest.{the-type as rest-type}
 use Rattle.executive.proofs.Rest.Laws.{the-laws as rest-laws}
 use Rattle.executive.proofs.Table.{the-type as table-type}
 use Rattle.executive.proofs.Table.Laws.{the-laws as table-laws}
-use Rattle.executive.proofs.Fresh.{the-type as fresh-type}
-use Rattle.executive.proofs.Fresh.Laws.{the-laws as fresh-laws}
 use Rattle.mender.proofs.Mended.{the-type as mended-type}
 use Rattle.mender.proofs.Mended.Laws.{the-laws as mended-laws}
 use Rattle.records.specs.declared.TaskNo.{TaskNo}
@@ -49,7 +47,6 @@ use Rattle.executive.specs.declared.Sub.{Sub}
 use Rattle.executive.specs.declared.Message.{Message}
 use Rattle.executive.specs.declared.Mail.{Mail}
 use Rattle.executive.specs.declared.Table.{Table}
-use Rattle.executive.specs.declared.Fresh.{Fresh}
 use Rattle.mender.specs.declared.Mended.{Mended}
 use Rattle.image.specs.Blocks.{Each}
 use Rattle.image.specs.Image.{taskWidths, placeWidths, alarmWidths, requestWidths, awaitedWidths, taskNumbers, placeNumbers, alarmNumbers, requestNumbers, awaitedNumbers, FitsSub, FitsTable}
@@ -143,9 +140,6 @@ table-owned t vs q =
       sent = (omega arith, tt);
       mail = ml .1;
     }
-
-pub fresh-owned : (f : Fresh) (vs : List Val) → Is (row fresh-type) f vs → FitsTable (f .table)
-fresh-owned f vs q = let g = owed fresh-type fresh-laws f vs q in table-owned (f .table) _ (g .1 .0)
 
 pub mended-owned : (x : Mended) (vs : List Val) → Is (row mended-type) x vs → FitsTable (x .table)
 mended-owned x vs q = let f = owed mended-type mended-laws x vs q in table-owned (x .table) _ (f .1 .0)

@@ -20,6 +20,7 @@ mod intervals;
 mod letters;
 mod lines;
 pub mod loading;
+mod making;
 mod members;
 mod mending;
 mod moves;
@@ -44,6 +45,9 @@ mod zeros;
 // The board's own number: a buffer that is to be written to has not the length it needs. It is judged before any
 // other number.
 pub const NO_ROOM: u8 = 30;
+
+// 01's number for bytes that are no configuration.
+const NO_CONFIGURATION: u8 = 2;
 
 // Where the parts of an image begin: the tasks' entries at 0, then the queue, the numbers that stand alone from 432 on, the
 // alarms, the pool, the word of the ready levels, the numbers that the tasks' states wait for, the subprograms, the
@@ -80,13 +84,10 @@ pub fn fresh(config: &[u8], image: &mut [u8]) -> u8
     if image.len() != IMAGE {
         return NO_ROOM;
     }
-    let fresh = configuration::fresh(config);
-    let number = fresh.answer.number;
-    if number != 0 {
-        return number;
+    if !configuration::is_configuration(config) {
+        return NO_CONFIGURATION;
     }
-    let table = fresh.table;
-    storing::put_table(image, table);
+    making::make(image, config);
     0
 }
 
