@@ -1,7 +1,6 @@
 // What a step answers: Z, V and C of an accepted call, the active task and its run's argument.
 use crate::Answer;
 use crate::Marks;
-use crate::Millis;
 use crate::Outcome;
 use crate::Table;
 use crate::clock;
@@ -10,8 +9,9 @@ use records::TaskNo;
 use records::Text;
 ghost use mathlib.Core.Path.{_≡_};
 ghost use mathlib.Core.Bool.{false};
-ghost use Prim.Native.Nat.{_≤_};
-ghost use Rattle.executive.specs.Numbers.{endOfTime};
+ghost use Prim.Native.Nat.{ℕ};
+ghost use Rattle.executive.specs.declared.Millis.{Millis};
+ghost use Rattle.executive.specs.Clock.{skippedOf};
 ghost use Rattle.executive.specs.Sheet.{marks, flagMarks, restartMarks};
 ghost use Rattle.executive.specs.Step.{IsNoTable, answerOf, hasV, refused};
 
@@ -80,11 +80,10 @@ pub fn has_v(number: u8) -> bool
 }
 
 // Kind 01: V where there is no such unit, and the grid times that are passed over.
-pub(crate) fn restart_marks(start: Millis, now: Millis, parameter: u8, count: u8) -> Marks
-    requires { ⌜ (start .0 ≤ now .0) × (now .0 ≤ endOfTime) ⌝ }
-    ensures { λ r. ⌜ r ≡ restartMarks start now parameter count ⌝ }
+pub(crate) fn restart_marks(parameter: u8, skipped: u64) -> Marks
+    ensures { λ r. ⌜ ((start now : Millis) → (n : ℕ) → skipped ≡ skippedOf start now parameter n
+        → r ≡ restartMarks start now parameter n) ⌝ }
 {
-    let skipped = clock::skipped_of(start, now, parameter, count);
     Marks {
         z: false,
         v: clock::LAST_UNIT < parameter % 8,

@@ -107,12 +107,13 @@ pub fn restart(old: Task, now: Millis, c: TaskNo, holding: bool, param: u8, coun
     if holding {
         return decisions::refused(15);
     }
-    let aim = clock::aim_at(start, now, param, count);
-    let marks = answers::restart_marks(start, now, param, count);
+    let aim = clock::aim_of(start, now, param, count);
+    let at = aim.at;
+    let marks = answers::restart_marks(param, aim.skipped);
     let l1 = decisions::only_woken(old.end_waiter);
-    let entrants = l1.raised(aim.0 <= now.0, c);
+    let entrants = l1.raised(at.0 <= now.0, c);
     let deed = Deed {
-        leave: Leave::DueAt(aim),
+        leave: Leave::DueAt(at),
         entrants,
         request: pool::NO_REQUEST,
         change: Change::Same,

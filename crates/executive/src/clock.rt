@@ -5,18 +5,18 @@ use crate::Rest;
 use records::FlagNo;
 ghost use mathlib.Core.Path.{_≡_};
 ghost use Prim.Native.Nat.{_<_, _≤_, _+_, _*_, _/_, _%_, _^_};
-ghost use Rattle.executive.specs.Numbers.{lastUnit, endOfTime, longest};
-ghost use Rattle.executive.specs.Clock.{units, interval, nextOnGrid, skipsMissed, aimAt, skippedOf, isDue, advanced};
+ghost use Rattle.executive.specs.Numbers.{endOfTime, longest};
+ghost use Rattle.executive.specs.Clock.{units, interval, missed, nextOnGrid, skipsMissed, aimAt, skippedOf, isDue, advanced};
 ghost use lib.ListN.{drop, getD};
 ghost use Rattle.executive.specs.Lists.{nextOf, each};
 ghost use Rattle.executive.specs.Decisions.{firstDue, rungIn};
 
 // The last unit of an interval, and the longest interval in ms; the last time that the clock may show.
-pub(crate) const LAST_UNIT: u8 = 5;
+pub const LAST_UNIT: u8 = 5;
 
 pub(crate) const LONGEST: u64 = 22032000000;
 
-pub(crate) const END_OF_TIME: u64 = 1099511627776;
+pub const END_OF_TIME: u64 = 1099511627776;
 
 // The word with a flag's bit alone.
 pub(crate) fn bit_of(f: FlagNo) -> u32
@@ -33,9 +33,8 @@ pub(crate) fn granule_of(granule: u8) -> Millis
     Millis(granule as u64)
 }
 
-// The milliseconds of one of a unit.
+// The milliseconds of one of a unit; none where there is no such unit.
 fn unit_of(unit: u8) -> u64
-    requires { ⌜ unit ≤ lastUnit ⌝ }
     ensures { λ r. ⌜ r ≡ getD units unit 0 ⌝ }
 {
     match unit {
@@ -44,7 +43,8 @@ fn unit_of(unit: u8) -> u64
         2 => 1000,
         3 => 60000,
         4 => 3600000,
-        _ => 86400000,
+        5 => 86400000,
+        _ => 0,
     }
 }
 
@@ -69,8 +69,7 @@ fn added_up(unit: u64, count: u8) -> u64
 }
 
 // The milliseconds of a count of units.
-pub(crate) fn millis_of(unit: u8, count: u8) -> Millis
-    requires { ⌜ unit ≤ lastUnit ⌝ }
+pub fn millis_of(unit: u8, count: u8) -> Millis
     ensures { λ r. ⌜ r ≡ interval unit count ⌝ }
 {
     let one = unit_of(unit);
@@ -116,51 +115,50 @@ fn skips_missed(param: u8, count: u8) -> bool
     false
 }
 
-// The first time on a restart's grid that is after now.
-fn next_on_grid(start: Millis, now: Millis, every: Millis) -> Millis
+// The time that a restart aims at, and how many grid times it passes over.
+pub(crate) struct Aim {
+    pub at: Millis,
+    pub skipped: u64,
+}
+
+// The first time on a restart's grid that is after now, and those that were missed.
+fn next_on_grid(start: Millis, now: Millis, every: Millis) -> Aim
     requires { ⌜ (start .0 ≤ now .0) × (now .0 ≤ endOfTime) × (0 < every .0) × (every .0 ≤ longest) ⌝ }
-    ensures { λ r. ⌜ r ≡ nextOnGrid start now every ⌝ }
+    ensures { λ r. ⌜ (r .at ≡ nextOnGrid start now every) × (r .skipped ≡ missed start now every) ⌝ }
 {
     let length = Millis(now.0 - start.0);
     let parts = split(length, every);
-    Millis(now.0 + (every.0 - parts.rest))
+    let at = Millis(now.0 + (every.0 - parts.rest));
+    Aim {
+        at,
+        skipped: parts.times,
+    }
 }
 
-// How many grid times a restart passes over.
-pub(crate) fn skipped_of(start: Millis, now: Millis, param: u8, count: u8) -> u64
+// The time, where none is passed over.
+fn straight(at: Millis) -> Aim
+    ensures { λ r. ⌜ (r .at ≡ at) × (r .skipped ≡ 0) ⌝ }
+{
+    Aim { at, skipped: 0 }
+}
+
+// What a restart aims at. One division tells both parts of it.
+pub(crate) fn aim_of(start: Millis, now: Millis, param: u8, count: u8) -> Aim
     requires { ⌜ (start .0 ≤ now .0) × (now .0 ≤ endOfTime) ⌝ }
-    ensures { λ r. ⌜ r ≡ skippedOf start now param count ⌝ }
+    ensures { λ r. ⌜ (r .at ≡ aimAt start now param count) × (r .skipped ≡ skippedOf start now param count) ⌝ }
 {
     let unit = param % 8;
     if LAST_UNIT < unit {
-        return 0;
-    }
-    if skips_missed(param, count) {
-        let every = millis_of(unit, count);
-        let length = Millis(now.0 - start.0);
-        let parts = split(length, every);
-        return parts.times;
-    }
-    0
-}
-
-// The time that a restart aims at.
-pub(crate) fn aim_at(start: Millis, now: Millis, param: u8, count: u8) -> Millis
-    requires { ⌜ (start .0 ≤ now .0) × (now .0 ≤ endOfTime) ⌝ }
-    ensures { λ r. ⌜ r ≡ aimAt start now param count ⌝ }
-{
-    let unit = param % 8;
-    if LAST_UNIT < unit {
-        return now;
+        return straight(now);
     }
     let wait = millis_of(unit, count);
     if skips_missed(param, count) {
         return next_on_grid(start, now, wait);
     }
     if param < 128 {
-        return Millis(start.0 + wait.0);
+        return straight(Millis(start.0 + wait.0));
     }
-    Millis(now.0 + wait.0)
+    straight(Millis(now.0 + wait.0))
 }
 
 // Whether an alarm is due: it is running, and its time has come.
@@ -205,8 +203,7 @@ pub(crate) fn rings(alarms: [Millis; 32], flags: u32, first: usize, now: Millis)
 
 impl Rest {
     // The clock gains a granule, and the due alarms ring: each sets its flag and is cleared. Only they are touched,
-    // from
-    // the first of them on.
+    // from the first of them on.
     pub(crate) fn advance(mut self, first: usize) -> Rest
         requires { ⌜ (self .clock .0 + self .granule ≤ endOfTime) × (first ≡ firstDue self) ⌝ }
         ensures { λ r. ⌜ r ≡ advanced self ⌝ }

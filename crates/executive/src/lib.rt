@@ -6,7 +6,7 @@ use records::Text;
 pub mod answers;
 pub mod calls;
 pub mod check;
-mod clock;
+pub mod clock;
 pub mod configuration;
 pub mod deciding;
 pub mod decisions;
@@ -75,8 +75,8 @@ pub struct Request {
     pub end_waiter: TaskNo,
 }
 
-// A controlled subprogram (02): the task inside it, its holder, 0 where it is free; and those who wait to enter, first to
-// last. The first `waiting` places of the line are taken.
+// A controlled subprogram (02): the task inside it, its holder, 0 where it is free; and those who wait to enter, first
+// to last. The first `waiting` places of the line are taken.
 pub struct Sub {
     pub holder: TaskNo,
     pub line: [TaskNo; 16],
@@ -92,15 +92,15 @@ pub struct Message {
     pub text: Text,
 }
 
-// The message that stands in a task's entry (02), put there while the task waited for it: its sender and its text, zeros
-// where there is none.
+// The message that stands in a task's entry (02), put there while the task waited for it: its sender and its text,
+// zeros where there is none.
 pub struct Mail {
     pub sender: TaskNo,
     pub text: Text,
 }
 
-// What no task's entering or departing touches. An alarm at 0 is not running. The first `sent` places of the messages are
-// taken; the mail of task k is at place k - 1.
+// What no task's entering or departing touches. An alarm at 0 is not running. The first `sent` places of the messages
+// are taken; the mail of task k is at place k - 1.
 pub struct Rest {
     pub count: u8,
     pub granule: u8,
@@ -139,8 +139,8 @@ enum AwaitedMoment {
     ForEnd,
 }
 
-// What an accepted call says of itself: Z, V and C, how many grid times it passed over (docs/CALLS.md, 2), and the sender
-// and the text of the message that it hands out (02), zeros where it hands out none.
+// What an accepted call says of itself: Z, V and C, how many grid times it passed over (docs/CALLS.md, 2), and the
+// sender and the text of the message that it hands out (02), zeros where it hands out none.
 pub struct Marks {
     pub z: bool,
     pub v: bool,
@@ -151,8 +151,8 @@ pub struct Marks {
 }
 
 // What a step answers: its number, Z, V and C, the active task (0 when idle) and its run's argument; how many grid
-// times a restart passed over; how many ready tasks were passed over by those that entered; the sender and the text of the
-// message that a receive hands out.
+// times a restart passed over; how many ready tasks were passed over by those that entered; the sender and the text of
+// the message that a receive hands out.
 pub struct Answer {
     pub number: u8,
     pub z: bool,

@@ -16,7 +16,6 @@ mod deeds;
 mod doing;
 mod entries;
 mod fields;
-mod intervals;
 mod letters;
 mod lines;
 pub mod loading;
@@ -49,8 +48,8 @@ pub const NO_ROOM: u8 = 30;
 // 01's number for bytes that are no configuration.
 const NO_CONFIGURATION: u8 = 2;
 
-// Where the parts of an image begin: the tasks' entries at 0, then the queue, the numbers that stand alone from 432 on, the
-// alarms, the pool, the word of the ready levels, the numbers that the tasks' states wait for, the subprograms, the
+// Where the parts of an image begin: the tasks' entries at 0, then the queue, the numbers that stand alone from 432 on,
+// the alarms, the pool, the word of the ready levels, the numbers that the tasks' states wait for, the subprograms, the
 // messages, how many of them wait, the tasks' mail.
 pub(crate) const QUEUE: usize = 416;
 
@@ -143,9 +142,9 @@ pub fn why(image: &[u8], task: u8, out: &mut [u8]) -> u8
     told.number
 }
 
-// Mends an image: 0 and the mended image, with the list of what changed at the start of its buffer. Where that is shorter
-// than 33 bytes: 30; where the bytes have not an image's length: 1; where clock, granule or task count is out of range: 17;
-// and then no byte of any buffer is changed.
+// Mends an image: 0 and the mended image, with the list of what changed at the start of its buffer. Where that is
+// shorter than 33 bytes: 30; where the bytes have not an image's length: 1; where clock, granule or task count is out
+// of range: 17; and then no byte of any buffer is changed.
 pub fn mend(image: &mut [u8], list: &mut [u8]) -> u8
     ensures { λ r. ⌜ MendsImage (now (image .entry)) (now (list .entry)) (now (image .exit)) (now (list .exit)) r ⌝ }
 {

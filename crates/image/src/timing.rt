@@ -3,12 +3,12 @@ use crate::ALARMS;
 use crate::changes;
 use crate::deeds;
 use crate::fields;
-use crate::intervals;
 use crate::numbers;
 use crate::ringing;
 use crate::waking;
 use executive::Millis;
 use executive::answers;
+use executive::clock;
 use executive::decisions;
 use executive::decisions::Change;
 use executive::decisions::Decision;
@@ -35,7 +35,8 @@ ghost use Rattle.image.specs.Waking.{Learned};
 // Kind 09, operation 1, and kind 0B with count 0: all tasks whose condition now holds enter.
 fn set(b: &[u8], flags: u32, f: FlagNo, flagged: u16) -> Deed
     requires { ⌜ (length (now b) ≡ imageLength) × (f .0 < 32) ⌝ }
-    ensures { λ r. ⌜ ((t : Table) → Laid (now (b .entry)) t → Marked 16 flagged (passed hasMask (t .tasks)) → r ≡ setDeed (t .tasks) flags f) ⌝ }
+    ensures { λ r. ⌜ ((t : Table) → Laid (now (b .entry)) t → Marked 16 flagged (passed hasMask (t .tasks))
+        → r ≡ setDeed (t .tasks) flags f) ⌝ }
 {
     let more = flags | changes::bit_of(f.0 as usize);
     let entrants = waking::woken(b, 0, 0, flagged, more);
@@ -45,7 +46,9 @@ fn set(b: &[u8], flags: u32, f: FlagNo, flagged: u16) -> Deed
 // Kind 09: operation 0 resets, 1 sets, 2 tests.
 pub(crate) fn flag(b: &[u8], operation: u8, f: FlagNo, flagged: u16) -> Decision
     requires { ⌜ length (now b) ≡ imageLength ⌝ }
-    ensures { λ r. ⌜ ((t : Table) → Laid (now (b .entry)) t → WellFormed t → Marked 16 flagged (passed hasMask (t .tasks)) → (c : TaskNo) → r ≡ decided (t .tasks) (t .rest) c (call.Flag operation f)) ⌝ }
+    ensures { λ r. ⌜ ((t : Table) → Laid (now (b .entry)) t → WellFormed t
+        → Marked 16 flagged (passed hasMask (t .tasks)) → (c : TaskNo)
+        → r ≡ decided (t .tasks) (t .rest) c (call.Flag operation f)) ⌝ }
 {
     if 31 < f.0 {
         return decisions::refused(6);
@@ -72,9 +75,11 @@ pub(crate) fn flag(b: &[u8], operation: u8, f: FlagNo, flagged: u16) -> Decision
 // well-formed table.
 pub(crate) fn alarm(b: &[u8], unit: u8, count: u8, f: FlagNo, flagged: u16) -> Decision
     requires { ⌜ length (now b) ≡ imageLength ⌝ }
-    ensures { λ r. ⌜ ((t : Table) → Laid (now (b .entry)) t → WellFormed t → Marked 16 flagged (passed hasMask (t .tasks)) → (c : TaskNo) → r ≡ decided (t .tasks) (t .rest) c (call.Alarm unit count f)) ⌝ }
+    ensures { λ r. ⌜ ((t : Table) → Laid (now (b .entry)) t → WellFormed t
+        → Marked 16 flagged (passed hasMask (t .tasks)) → (c : TaskNo)
+        → r ≡ decided (t .tasks) (t .rest) c (call.Alarm unit count f)) ⌝ }
 {
-    if intervals::LAST_UNIT < unit {
+    if clock::LAST_UNIT < unit {
         return decisions::refused(6);
     }
     if 31 < f.0 {
@@ -89,11 +94,12 @@ pub(crate) fn alarm(b: &[u8], unit: u8, count: u8, f: FlagNo, flagged: u16) -> D
         let deed = set(b, flags, f, flagged);
         return decisions::accepted(answers::marked(old, false, old), deed);
     }
-    let clock = numbers::long_in(b, fields::CLOCK);
-    if intervals::END_OF_TIME < clock {
+    let now = numbers::long_in(b, fields::CLOCK);
+    if clock::END_OF_TIME < now {
         return decisions::refused(1);
     }
-    let at = Millis(clock + intervals::millis_of(unit, count));
+    let wait = clock::millis_of(unit, count);
+    let at = Millis(now + wait.0);
     let stored = decisions::alone(Leave::Stays, Change::Alarm(f, at));
     decisions::accepted(answers::marked(false, false, old), stored)
 }
@@ -111,14 +117,15 @@ fn held_by(flags: u32, more: u32, flagged: u16) -> u16
 // Kind 80: the first alarm that is due is looked for once, and told with the deed.
 pub(crate) fn tick(b: &[u8], timed: u16, flagged: u16, running: u32) -> Decision
     requires { ⌜ length (now b) ≡ imageLength ⌝ }
-    ensures { λ r. ⌜ ((t : Table) → Laid (now (b .entry)) t → WellFormed t → Learned timed flagged running t → (c : TaskNo) → r ≡ decided (t .tasks) (t .rest) c call.Tick) ⌝ }
+    ensures { λ r. ⌜ ((t : Table) → Laid (now (b .entry)) t → WellFormed t → Learned timed flagged running t
+        → (c : TaskNo) → r ≡ decided (t .tasks) (t .rest) c call.Tick) ⌝ }
 {
-    let clock = numbers::long_in(b, fields::CLOCK);
-    if intervals::END_OF_TIME < clock {
+    let now = numbers::long_in(b, fields::CLOCK);
+    if clock::END_OF_TIME < now {
         return decisions::refused(10);
     }
-    let time = clock + changes::wide(b[fields::GRANULE]);
-    if intervals::END_OF_TIME < time {
+    let time = now + changes::wide(b[fields::GRANULE]);
+    if clock::END_OF_TIME < time {
         return decisions::refused(10);
     }
     let flags = numbers::word_in(b, fields::FLAGS);

@@ -1,5 +1,5 @@
 -- Intervals: how they are added up, and the largest.
-use Prim.Native.Nat.{ℕ, zero, suc, _+_, _-_, _*_, _/_, _%_, _≤_, _<_, zero-le}
+use Prim.Native.Nat.{ℕ, zero, suc, _+_, _-_, _*_, _/_, _%_, _≤_, _<_}
 use mathlib.Core.Path.{_≡_, refl, sym, ap, _∙_}
 use native.Mathlib.Nat.{mul-le-mul, mul-le-mul-right, le-trans, div-add-mod', mod-lt, add-mul, mul-assoc, mul-comm}
 use native.Mathlib.Omega.{arith}
@@ -24,6 +24,16 @@ unit-most (suc (suc (suc (suc (suc (suc u)))))) = lit≤ tt
 pub interval-most : (u n : ℕ) → n < 256 → interval u n .0 ≤ longest
 unfolding interval
 interval-most u n h = le-trans (mul-le-mul-right (getD units u 0) (omega arith)) (unit-most u)
+
+-- there is no other unit
+pub unit-none : (u : ℕ) → lastUnit < u → getD units u 0 ≡ 0
+unit-none zero h = absurd (omega arith)
+unit-none (suc zero) h = absurd (omega arith)
+unit-none (suc (suc zero)) h = absurd (omega arith)
+unit-none (suc (suc (suc zero))) h = absurd (omega arith)
+unit-none (suc (suc (suc (suc zero)))) h = absurd (omega arith)
+unit-none (suc (suc (suc (suc (suc zero))))) h = absurd (omega arith)
+unit-none (suc (suc (suc (suc (suc (suc u)))))) h = refl
 
 unit-least : (u : ℕ) → u ≤ lastUnit → 1 ≤ getD units u 0
 unit-least zero h = lit≤ tt

@@ -1,5 +1,5 @@
 -- A call that nothing refuses has what its decision asks.
-use Prim.Native.Nat.{ℕ, _≤_, _<_}
+use Prim.Native.Nat.{ℕ, _<_}
 use mathlib.Core.Path.{_≡_, refl, sym}
 use mathlib.Core.Bool.{Bool, true, false, _||_}
 use mathlib.Core.List.{List, _∷_}
@@ -9,7 +9,6 @@ use lib.Dec.{ltb}
 use Rattle.records.specs.Firsts.{Refusal, when, firstOf}
 use Rattle.records.specs.declared.Call.{Call}
 use Rattle.records.specs.declared.Call.the-variants as call
-use Rattle.executive.specs.Numbers.{lastUnit}
 use Rattle.executive.specs.declared.Table.{Table}
 use Rattle.executive.specs.Table.{ArraysInOrder, TimesInOrder}
 use Rattle.executive.specs.WellFormed.{WellFormed}
@@ -71,6 +70,3 @@ low-first a b h = let l = ltb-false 31 a (or-none (ltb 31 a) b h .0) in omega ar
 
 pub low-second : (b : Bool) (a : ℕ) → (b || ltb 31 a) ≡ false → a < 32
 low-second b a h = let l = ltb-false 31 a (or-none b (ltb 31 a) h .1) in omega arith
-
-pub low-unit : (u : ℕ) (b : Bool) → (ltb lastUnit u || b) ≡ false → u ≤ lastUnit
-low-unit u b h = let l = ltb-false lastUnit u (or-none (ltb lastUnit u) b h .0) in omega arith

@@ -1,4 +1,4 @@
-use mathlib.Core.Path.{_≡_, refl, ap, sym, _∙_}
+use mathlib.Core.Path.{refl}
 use native.Mathlib.Omega.{arith}
 use borrow.Author.Tests.{lt-ltb, le-ltb, eq-eqb, ne-eqb}
 use lib.Dec.{leb}
@@ -23,14 +23,19 @@ returns-4 c = rw (c .refused4 .ensures, le-ltb _ _ (c .before .before .before .b
 
 raised-requires : tie.Need-raised-requires
 raised-requires c κs =
-    let w = c .before .before .before .before .before .before .before .before .before .before .before .before .before .args .old .«end_waiter» in
-    rw (c .before .before .only-woken .ensures) (listed-well (wakes w) (omega (arith, woken-short w)), omega (arith, woken-short w, one-le (leb (c .before .before .before .before .aim-at .result .0) (c .before .before .before .before .before .before .before .before .before .before .before .before .before .args .now .0))))
+    let a = c .before .before .before .before .before .before .before .before .before .before .before .before .before .before .args in
+    let w = a .old .«end_waiter» in
+    let r = one-le (leb (c .before .before .before .before .before .aim-of .result .at .0) (a .now .0)) in
+    rw (c .before .before .only-woken .ensures) (listed-well (wakes w) (omega (arith, woken-short w)), omega (arith, woken-short w, r))
 
 returns-5 : tie.Need-returns-5
 unfolding restartDeed
 returns-5 c =
-    let w = c .before .before .before .before .before .before .before .before .before .before .before .before .before .before .before .args .old .«end_waiter» in
-    rw (c .accepted .ensures, c .before .raised .ensures, c .before .before .before .before .only-woken .ensures, c .before .before .before .before .before .restart-marks .ensures, c .before .before .before .before .before .before .aim-at .ensures, le-ltb _ _ (c .before .before .before .before .before .before .before .before .before .before .before .before .before .if1 .left), le-ltb _ _ (c .before .before .before .before .before .before .before .before .before .if2 .left), ne-eqb _ _ (c .before .before .before .before .before .before .before .before .if3 .left), c .before .before .before .before .before .before .before .if4 .left, named-listed (wakes w)) refl
+    let s = c .before .before .before .before .before .before .before .before .before .before .before .before .before .before .before .before in
+    let a = c .before .before .before .before .before .before .before .aim-of .ensures in
+    let w = s .args .old .«end_waiter» in
+    let m = c .before .before .before .before .before .restart-marks .ensures (s .args .old .start) (s .args .now) (s .args .count) (a .1) in
+    rw (c .accepted .ensures, c .before .raised .ensures, c .before .before .before .before .only-woken .ensures, m, a .0, le-ltb _ _ (c .before .before .before .before .before .before .before .before .before .before .before .before .before .before .if1 .left), le-ltb _ _ (c .before .before .before .before .before .before .before .before .before .before .if2 .left), ne-eqb _ _ (c .before .before .before .before .before .before .before .before .before .if3 .left), c .before .before .before .before .before .before .before .before .if4 .left, named-listed (wakes w)) refl
 
 pub restart-spec : {M : Type 1} → statement M
 restart-spec =

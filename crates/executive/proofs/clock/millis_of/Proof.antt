@@ -6,9 +6,6 @@ use borrow.Author.Needs.{needs}
 use Rattle.executive.proofs.clock.millis_of.Statement.{statement}
 use Rattle.executive.proofs.clock.millis_of.Tie as tie
 
-unit-of-requires : tie.Need-unit-of-requires
-unit-of-requires c κs = search needs
-
 added-up-requires : tie.Need-added-up-requires
 unfolding interval
 added-up-requires c κs = rw (c .unit-of .ensures) (interval-most (c .before .args .unit) (c .before .args .count) (omega arith))
@@ -18,4 +15,4 @@ unfolding interval
 returns c = rw (c .added-up .ensures, c .before .unit-of .ensures) refl
 
 pub millis-of-spec : {M : Type 1} → statement M
-millis-of-spec = tie.close (tie.spec unit-of-requires added-up-requires returns)
+millis-of-spec = tie.close (tie.spec (λ c κs. search needs) added-up-requires returns)

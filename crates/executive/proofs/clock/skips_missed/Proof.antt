@@ -2,8 +2,6 @@ use mathlib.Core.Path.{refl}
 use borrow.Author.Tests.{eq-eqb, ne-eqb}
 use Rattle.executive.proofs.clock.skips_missed.Statement.{statement}
 use Rattle.executive.proofs.clock.skips_missed.Tie as tie
-use Rattle.executive.proofs.clock.skips_missed.Reads as reads
-use Rattle.executive.proofs.clock.skips_missed.Lts as lts
 
 -- src/clock.rt:101:9
 returns : tie.Need-returns

@@ -1,28 +1,12 @@
-use mathlib.Core.Path.{_≡_}
+use mathlib.Core.Path.{sym}
 use native.Mathlib.Omega.{arith}
 use borrow.Author.Needs.{needs}
+use Rattle.executive.proofs.clock.Interval.{unit-none}
 use Rattle.executive.proofs.clock.unit_of.Statement.{statement}
 use Rattle.executive.proofs.clock.unit_of.Tie as tie
 
-returns : tie.Need-returns
-returns c = search needs
-
-returns-2 : tie.Need-returns-2
-returns-2 c = search needs
-
-returns-3 : tie.Need-returns-3
-returns-3 c = search needs
-
-returns-4 : tie.Need-returns-4
-returns-4 c = search needs
-
-returns-5 : tie.Need-returns-5
-returns-5 c = search needs
-
-returns-6 : tie.Need-returns-6
-returns-6 c =
-    let e : c .before .args .unit ≡ 5 = omega arith in
-    simp e
+returns-7 : tie.Need-returns-7
+returns-7 c = sym (unit-none (c .before .args .unit) (omega arith))
 
 pub unit-of-spec : {M : Type 1} → statement M
-unit-of-spec = tie.close (tie.spec returns returns-2 returns-3 returns-4 returns-5 returns-6)
+unit-of-spec = tie.close (tie.spec (λ c. search needs) (λ c. search needs) (λ c. search needs) (λ c. search needs) (λ c. search needs) (λ c. search needs) returns-7)

@@ -1,11 +1,11 @@
 use lib.Dec.{ltb}
-use mathlib.Core.Path.{_≡_, refl, ap, sym, _∙_}
-use borrow.Author.Tests.{lt-ltb, le-ltb, le-leb, lt-leb, eq-eqb, ne-eqb}
+use mathlib.Core.Path.{refl, sym, _∙_}
+use borrow.Author.Tests.{ne-eqb}
 use native.Mathlib.Omega.{arith}
 use Prim.Native.Nat.{_≤_}
 use Rattle.executive.specs.Numbers.{lastUnit, longest}
 use Rattle.executive.specs.Decisions.{alarmDeed}
-use Rattle.executive.proofs.refusals.NothingRefuses.{low-second, low-unit}
+use Rattle.executive.proofs.refusals.NothingRefuses.{low-second}
 use Rattle.executive.proofs.clock.Interval.{interval-most}
 use borrow.Author.Needs.{needs}
 use Rattle.executive.proofs.flags.alarm.Statement.{statement}
@@ -26,9 +26,6 @@ set-requires c κs = low-second (ltb lastUnit (c .before .before .before .before
 returns-3 : tie.Need-returns-3
 unfolding alarmDeed
 returns-3 c = rw (c .accepted .ensures, c .before .set .ensures, c .before .before .flag-marks .ensures, c .before .before .before .before .is-set .ensures, ← c .before .before .before .before .before .before .before .before .bad-alarm .ensures, c .before .before .before .before .before .before .before .if1 .left, c .before .before .before .before .before .if2 .left, c .before .before .before .if3 .taken) refl
-
-millis-of-requires : tie.Need-millis-of-requires
-millis-of-requires c κs = low-unit _ _ (sym (c .before .before .before .before .before .bad-alarm .ensures) ∙ c .before .before .before .before .if1 .left)
 
 add-t17 : tie.Need-add-t17
 add-t17 c =
@@ -54,7 +51,7 @@ alarm-spec =
     set-requires
     (λ c κs. search needs)
     returns-3
-    millis-of-requires
+    (λ c κs. search needs)
     add-t17
     (λ c κs. search needs)
     (λ c κs. search needs)

@@ -1,9 +1,11 @@
 -- `timing::alarm` meets its contract: each outcome is that of the sheet.
-use mathlib.Core.Path.{refl, ap₂, _∙_}
+use mathlib.Core.Path.{refl, ap, ap₂, _∙_}
 use native.Mathlib.Omega.{arith}
 use Rattle.executive.specs.declared.Marks.{Marks}
+use Rattle.executive.specs.declared.Millis.{Millis}
 use Rattle.executive.specs.declared.decisions.Deed.{Deed}
 use Rattle.executive.specs.Decisions.{doing}
+use Rattle.executive.proofs.Assured.{interval-most}
 use Prim.Native.Nat.{ℕ, _+_}
 use Rattle.image.proofs.ReadOff.{alarm-read, clock-read, flags-read}
 use Rattle.image.proofs.Timings.{alarm-unit, alarm-high, alarm-running, alarm-set, alarm-stored}
@@ -52,20 +54,20 @@ long-in-requires-2 c κs = omega (arith, c .before .before .before .before .befo
 returns-5 : tie.Need-returns-5
 returns-5 c = λ t l w m k. absurd (omega (arith, c .before .before .long-in2 .ensures ∙ clock-read t l, w .numbers .clock, c .before .if5 .taken))
 
-millis-of-requires : tie.Need-millis-of-requires
-millis-of-requires c κs = c .before .before .before .before .before .before .before .before .before .before .before .if1 .left
-
-add-t20 : tie.Need-add-t20
-add-t20 c = omega (arith, c .millis-of .ensures .1, c .before .if5 .left)
+add-t14 : tie.Need-add-t14
+add-t14 c =
+    let s = c .before .before .before .before .before .before .before .before .before .before .before .before .before .before .before .args in
+    let e = interval-most (s .unit) (s .count) (omega arith) in
+    omega (arith, rw (← c .before .millis-of .ensures) at e, c .before .before .if5 .left)
 
 returns-6 : tie.Need-returns-6
 returns-6 c =
     λ t l w m k.
     c .accepted2 .ensures ∙ ap₂ (λ (m : Marks) (d : Deed). doing m d) (c .before .marked2 .ensures) (c .before .before .alone .ensures)
-    ∙ alarm-stored (t .tasks) (t .rest) k (c .before .before .before .before .before .before .before .before .before .before .before .before .before .before .before .before .before .args .unit) (c .before .before .before .before .before .before .before .before .before .before .before .before .before .before .before .before .before .args .count) (c .before .before .before .before .before .before .before .before .before .before .before .before .before .before .before .before .before .args .f)
-    (c .before .before .before .before .before .before .before .before .before .before .before .before .before .before .before .if1 .left) (c .before .before .before .before .before .before .before .before .before .before .before .before .before .if2 .left) _ (c .before .before .before .before .before .before .before .before .before .before .before .long-in .ensures ∙ alarm-read t l (c .before .before .before .before .before .before .before .before .before .before .before .before .before .before .before .before .before .args .f .0) (omega (arith, c .before .before .before .before .before .before .before .before .before .before .before .before .before .if2 .left))) (c .before .before .before .before .before .before .before .before .before .before .if3 .left)
-    _ _ (c .before .before .before .before .before .before .before .before .before .word-in .ensures ∙ flags-read t l) (c .before .before .before .before .before .before .before .bit-of .ensures) (c .before .before .before .before .before .before .if4 .left) _
-    (ap₂ (λ (x y : ℕ). x + y) (c .before .before .before .before .before .long-in2 .ensures ∙ clock-read t l) (c .before .before .before .millis-of .ensures .0))
+    ∙ alarm-stored (t .tasks) (t .rest) k (c .before .before .before .before .before .before .before .before .before .before .before .before .before .before .before .before .before .before .args .unit) (c .before .before .before .before .before .before .before .before .before .before .before .before .before .before .before .before .before .before .args .count) (c .before .before .before .before .before .before .before .before .before .before .before .before .before .before .before .before .before .before .args .f)
+    (c .before .before .before .before .before .before .before .before .before .before .before .before .before .before .before .before .if1 .left) (c .before .before .before .before .before .before .before .before .before .before .before .before .before .before .if2 .left) _ (c .before .before .before .before .before .before .before .before .before .before .before .before .long-in .ensures ∙ alarm-read t l (c .before .before .before .before .before .before .before .before .before .before .before .before .before .before .before .before .before .before .args .f .0) (omega (arith, c .before .before .before .before .before .before .before .before .before .before .before .before .before .before .if2 .left))) (c .before .before .before .before .before .before .before .before .before .before .before .if3 .left)
+    _ _ (c .before .before .before .before .before .before .before .before .before .before .word-in .ensures ∙ flags-read t l) (c .before .before .before .before .before .before .before .before .bit-of .ensures) (c .before .before .before .before .before .before .before .if4 .left) _
+    (ap₂ (λ (x y : ℕ). x + y) (c .before .before .before .before .before .before .long-in2 .ensures ∙ clock-read t l) (ap (λ (m : Millis). m .0) (c .before .before .before .before .millis-of .ensures)))
 
 pub alarm-spec : {M : Type 1} → statement M
 alarm-spec =
@@ -91,8 +93,8 @@ alarm-spec =
     long-in-requires-2
     (λ c κs. search needs)
     returns-5
-    millis-of-requires
-    add-t20
+    (λ c κs. search needs)
+    add-t14
     (λ c κs. search needs)
     (λ c κs. search needs)
     (λ c κs. search needs)
