@@ -1,12 +1,12 @@
 // A fresh table made in the lent bytes of its image, from a configuration: all zero, then the tasks dormant, then those
 // that are marked start.
 use crate::IMAGE;
+use crate::entries;
 use crate::fields;
 use crate::moves;
 use crate::numbers;
 use executive::Millis;
 use executive::configuration;
-use executive::decisions::How;
 use executive::pool;
 use records::TaskNo;
 use records::reading::byte_at;
@@ -38,7 +38,8 @@ fn clear(b: &mut [u8])
 // How many tasks there are, and the granule.
 fn set_sizes(b: &mut [u8], n: u8, granule: u8)
     requires { ⌜ length (now b) ≡ imageLength ⌝ }
-    ensures { λ _. ⌜ (Laid (now (b .entry)) zeroTable → Laid (now (b .exit)) (withRest (blankRest n granule) zeroTable)) ⌝ }
+    ensures { λ _. ⌜ (Laid (now (b .entry)) zeroTable
+        → Laid (now (b .exit)) (withRest (blankRest n granule) zeroTable)) ⌝ }
 {
     numbers::put_byte(b, fields::COUNT, n);
     numbers::put_byte(b, fields::GRANULE, granule);
@@ -61,9 +62,12 @@ fn set_own(b: &mut [u8], config: &[u8], n: u8)
 // Task k, which is not ready yet, starts if it is marked: at its own priority, with argument 0 and scheduled start 0.
 fn start_at(b: &mut [u8], config: &[u8], k: TaskNo)
     requires { ⌜ (length (now b) ≡ imageLength) × (0 < k .0) ⌝ }
-    ensures { λ _. ⌜ ((t : Table) → (n : ℕ) → Laid (now (b .entry)) t → InFlight 1 (record { table = t; walked = n }) → Desc (view t) → count (k .0) (view t) ≡ 0
-        → Laid (now (b .exit)) (litInFlight (enterAllInFlight (markedStart (now (config .entry)) (k .0)) (record { table = t; walked = n })) .table)
-        × Desc (view (enterAllInFlight (markedStart (now (config .entry)) (k .0)) (record { table = t; walked = n }) .table))) ⌝ }
+    ensures { λ _. ⌜ ((t : Table) → (n : ℕ) → Laid (now (b .entry)) t → InFlight 1 (record { table = t; walked = n })
+        → Desc (view t) → count (k .0) (view t) ≡ 0
+        → Laid (now (b .exit)) (litInFlight (enterAllInFlight (markedStart (now (config .entry)) (k .0))
+        (record { table = t; walked = n })) .table)
+        × Desc (view (enterAllInFlight (markedStart (now (config .entry)) (k .0))
+        (record { table = t; walked = n }) .table))) ⌝ }
 {
     let at = (k.0 as usize) * 3;
     if byte_at(config, at + 1) != 1 {
@@ -73,14 +77,16 @@ fn start_at(b: &mut [u8], config: &[u8], k: TaskNo)
     let mut q = pool::NO_REQUEST;
     q.target = k;
     q.priority = own;
-    moves::enter(b, k, How::Begun, q, Millis(0));
+    entries::beginning(b, k, q, Millis(0));
+    moves::line_up(b, k);
 }
 
 // The marked tasks of 1 to n start, in ascending number, where nobody is ready.
 fn start_marked(b: &mut [u8], config: &[u8], n: u8)
     requires { ⌜ (length (now b) ≡ imageLength) × (n ≤ 16) ⌝ }
     ensures { λ _. ⌜ ((t : Table) → Laid (now (b .entry)) t → InFlight n (begin t) → t .ready ≡ 0
-        → Laid (now (b .exit)) (litInFlight (enterAllInFlight (starters (now (config .entry)) n 1) (begin t)) .table)) ⌝ }
+        → Laid (now (b .exit)) (litInFlight (enterAllInFlight (starters (now (config .entry)) n 1)
+        (begin t)) .table)) ⌝ }
 {
     let mut k: u8 = 0;
     while k < n {

@@ -11,10 +11,11 @@ returns c = let p = c .before .before .before .before .before .pre in λ t n l f
 
 returns-2 : tie.Need-returns-2
 returns-2 c =
-    let p = c .before .before .before .before .before .before .before .before .before .before .pre in
+    let p = c .before .before .before .before .before .before .before .before .before .before .before .before .before .before .pre in
     λ t n l f d a.
-    start-one _ _ (p .1) t n l f d _ _ _ (c .before .before .before .before .before .before .byte-at .ensures) (c .before .before .before .before .before .if1 .left) (c .before .before .before .before .byte-at2 .ensures) a refl
-    (c .before .before .enter .ensures .1 t l (f .fit) (omega (arith, f .room)) (f .lit) d a .0)
+    let e = c .before .before .before .before .before .before .beginning .ensures t l in
+    start-one _ _ (p .1) t n l f d _ _ _ (c .before .before .before .before .before .before .before .before .before .before .byte-at .ensures) (c .before .before .before .before .before .before .before .before .before .if1 .left) (c .before .before .before .before .before .before .before .before .byte-at2 .ensures) a refl
+    (c .before .before .line-up .ensures .1 t _ e (f .fit) (omega (arith, f .room)) (f .lit) d a .0)
 
 pub start-at-spec : {M : Type 1} → statement M
 start-at-spec =
@@ -25,6 +26,7 @@ start-at-spec =
     (λ c. omega arith)
     (λ c κs. search needs)
     returns
+    (λ c κs. search needs)
     (λ c κs. search needs)
     (λ c κs. search needs)
     (λ c. search needs)
