@@ -38,57 +38,44 @@ use Rattle.executive.proofs.promises.EveryStart as asked
 use Rattle.executive.proofs.promises.MailLaw as posted
 -- the laws of tests, sums, lines in arrays and loops, of the entries, the queue, the clock, the subprograms, the messages,
 -- a step in flight and the working form, which the proofs of the crates above cite
-pub use Rattle.executive.proofs.Lists.Tests.{false-not-true, Le, le-yes, le-no, leb-is, Lt, lt-yes, lt-no, ltb-is, eqb-self, eqb-no, not-zero, eqb-swap}
-pub use Rattle.executive.proofs.Lists.Tests.{and-true, true-and, and-false-left, and-false-right, and-true-left, one-none, none-one, not-of, of-not, leb-none, in-reach, sum-none, none-all}
+pub use Rattle.executive.proofs.Lists.Tests.{false-not-true, Le, le-yes, le-no, leb-is, Lt, lt-yes, lt-no, ltb-is, eqb-self, not-zero, eqb-swap}
+pub use Rattle.executive.proofs.Lists.Tests.{and-true, true-and, and-false-left, and-false-right, and-true-left, one-none, none-one, not-of, of-not, leb-none, sum-none, none-all}
 pub use Rattle.executive.proofs.Lists.Sums.{sum-set, sum-snoc, sum-append}
-pub use Rattle.executive.proofs.Lists.Pad.{line-pad, length-pad, pad-at, pad-more, pad-close, pad-slid}
-pub use Rattle.executive.proofs.Lists.Slid.{slid-length, slid-start, slid-here, slid-carried, slid-turn, slid-done}
+pub use Rattle.executive.proofs.Lists.Pad.{line-pad, length-pad, pad-at, pad-more}
+pub use Rattle.executive.proofs.Lists.Slid.{slid-length}
 pub use Rattle.executive.proofs.Lists.Arrays.{fill-turn, fill-end, getD-within}
-pub use Rattle.executive.proofs.Lists.Search.{next-hit, next-pass, next-end, next-bounds, next-is, each-next}
-pub use Rattle.executive.proofs.Lists.Loops.{one-le, every-get, every-make, every-turn, every-not, every-end, first-turn, first-not, first-end, each-turn, each-end}
+pub use Rattle.executive.proofs.Lists.Search.{next-hit, next-pass, next-end, next-bounds, next-is}
+pub use Rattle.executive.proofs.Lists.Loops.{one-le, every-make, every-turn, every-not, every-end, first-turn, first-not, first-end, each-turn, each-end}
 pub use Rattle.executive.proofs.Lists.Loops.{both, all-none, all-more, all-not, all-get, all-make}
-pub use Rattle.executive.proofs.places.TaskAt.{place-none, place-past, place-task, place-low, read-place, set-place, put-place, put-no-place}
-pub use Rattle.executive.proofs.places.TaskAt.{at-none, at-task, at-place, at-no-place, at-same, at-other, sum-put}
-pub use Rattle.executive.proofs.states.Laws.{dormant-is, dormant-named, dormant-kind, ready-named, ready-kind, ready-as}
-pub use Rattle.executive.proofs.queue.Law.{one-zero, one-true, insert-desc, insert-count}
-pub use Rattle.executive.proofs.queue.Insertion.{ahead-le, ahead-pass, ahead-stop}
-pub use Rattle.executive.proofs.queue.ArraysAreLists.{take-le, head-taken, slid-count, tail-count, slid-places, closed-places, enter-ahead, enter-length}
-pub use Rattle.executive.proofs.queue.ArraysAreLists.{queue-length, line-length, slid-queue, closed-queue, tail-length, head-line, ahead-ready}
-pub use Rattle.executive.proofs.queue.ArraysAreLists.{departed-idle, departed-fit, entered-fit, entered-ready, made-departed, made-entered}
-pub use Rattle.executive.proofs.queue.ArraysAreLists.{pool-length, requests-length, made-removed, removed-neat, made-queued, queued-neat}
+pub use Rattle.executive.proofs.places.TaskAt.{place-none, place-past, place-task, read-place, set-place, put-place, put-no-place, at-none, at-task, at-place, at-no-place}
+pub use Rattle.executive.proofs.states.Laws.{dormant-is, dormant-named, dormant-kind, ready-as}
+pub use Rattle.executive.proofs.queue.Law.{one-zero, one-true, insert-desc}
+pub use Rattle.executive.proofs.queue.Insertion.{ahead-pass, ahead-stop}
+pub use Rattle.executive.proofs.queue.ArraysAreLists.{take-le, head-taken, head-line, departed-idle, made-removed, made-queued}
 pub use Rattle.executive.proofs.configuration.Loops.{marked-short, start-more, nobody-in, start-vacant, dormant-more, dormant-fit}
-pub use Rattle.executive.proofs.queue.InFlight.{relit-fit, begin-flying, fewer-flying, enter-flying, enters-flying, lit-flying, lit-on-the-way, depart-fit}
-pub use Rattle.executive.proofs.queue.InFlight.{admits-append, admits-rest, rest-same, beside, finds-beside, enters-beside, carry-still}
-pub use Rattle.executive.proofs.executing.Leaving.{left-gone, left-stays, depart-rest, unaltered, changed-neat, done-is}
+pub use Rattle.executive.proofs.queue.InFlight.{begin-flying, fewer-flying, enter-flying, enters-flying, lit-flying, lit-on-the-way, depart-fit, finds-beside}
+pub use Rattle.executive.proofs.executing.Leaving.{depart-rest, changed-neat, done-is}
 pub use Rattle.executive.proofs.Plans.Moves.{items-put}
 pub use Rattle.executive.proofs.levels.OnTheWay.{lit-same, lit-departed, lit-entered}
 pub use Rattle.executive.proofs.decisions.Listing.{blank, all-length, named-listed, listed-well, made-also, made-at, enter-turn, find-turn, enter-end}
-pub use Rattle.executive.proofs.decisions.ByTime.{quiet, woken-few, rising-few, sorted-length}
-pub use Rattle.executive.proofs.clock.Alarms.{due-on, ringing, ring-on, ring-turn, in-on, in-turn, flags-rung}
-pub use Rattle.executive.proofs.Plans.Tick.{advanced-alone}
+pub use Rattle.executive.proofs.decisions.ByTime.{woken-few, rising-few}
+pub use Rattle.executive.proofs.clock.Alarms.{ring-on, in-on, in-turn}
 pub use Rattle.executive.proofs.calls.Ticking.{ticks}
-pub use Rattle.executive.proofs.clock.Interval.{interval-most, interval-some, next-by-rest, next-ahead, skips-some, every-some, aim-most, turned, step-within}
-pub use Rattle.executive.proofs.flags.Bits.{set-none, set-or, or-assoc, set-same, set-only, set-within, same-bits}
-pub use Rattle.executive.proofs.messages.Lines.{put-is-at, put-length, put-sum, stay-le, stay-stop, stay-pass, stay-end, noted-post, post-sorted}
-pub use Rattle.executive.proofs.messages.Arrays.{removed-length, letters-with, messages-length, letters-length, made-without, made-posted, without-in-order, posted-in-order}
-pub use Rattle.executive.proofs.messages.Arrays.{mail-place, mail-no-place, mail-same, mail-other, mail-length, mail-letters}
-pub use Rattle.executive.proofs.Letters.Lists.{all-append}
-pub use Rattle.executive.proofs.messages.Unmet.{NoneFits}
+pub use Rattle.executive.proofs.clock.Interval.{interval-most}
+pub use Rattle.executive.proofs.flags.Bits.{set-none, set-or, set-same, set-only, set-within, same-bits}
+pub use Rattle.executive.proofs.messages.Lines.{put-is-at, put-length, put-sum, stay-le, stay-stop, stay-pass, stay-end, post-sorted}
+pub use Rattle.executive.proofs.messages.Arrays.{letters-with, made-without, made-posted, mail-place, mail-no-place}
 pub use Rattle.executive.proofs.messages.Kept.{MailOk}
 pub use Rattle.executive.proofs.subprograms.InLine.{made-joined, made-handed, made-free}
-pub use Rattle.executive.proofs.Plans.Enter.{held-neat}
 pub use Rattle.executive.proofs.check.Blanks.{blank-pad, nobody-is, zero-is, is-zero, blank-is, free-is}
-pub use Rattle.executive.proofs.check.Messages.{no-message-is, no-mail-is, astray-get, low-get, right-over, right-out, right-high, right-taken, right-on, mail-next}
-pub use Rattle.executive.proofs.check.Passes.{same, at-next, fits-not, ready-exact, sized}
+pub use Rattle.executive.proofs.check.Messages.{no-mail-is, astray-get, right-over, right-out, right-high, right-taken, right-on, mail-next}
+pub use Rattle.executive.proofs.check.Passes.{same, at-next, fits-not, sized}
 pub use Rattle.executive.proofs.check.Descent.{falls-turn, falls-off, falls-over, falls-end, word-on, word-end}
-pub use Rattle.executive.proofs.check.PutTogether.{every-put, every-done, or-none}
-pub use Rattle.executive.proofs.check.Subprograms.{placeless, heldFrom, held-first, held-turn, held-not, held-end, free-right}
-pub use Rattle.executive.proofs.check.Levels.{levels-get}
-pub use Rattle.executive.proofs.check.RuleByRule.{Bounds, bounds-get, awaits-make, timely-get, timely-make, alarm-get, alarm-make, unmet-get, unmet-make}
-pub use Rattle.executive.proofs.Plans.WorkingForm.{StateOk, EntryOk, LinksOk, RestOk, SubOk, SubsOk, EntriesOk, WellFormedByPart, well-formed, line-waiting}
+pub use Rattle.executive.proofs.check.PutTogether.{or-none}
+pub use Rattle.executive.proofs.check.Subprograms.{placeless, heldFrom, held-first, held-turn, held-not, held-end}
+pub use Rattle.executive.proofs.check.RuleByRule.{bounds-get, awaits-make, timely-get, timely-make, unmet-get, unmet-make}
+pub use Rattle.executive.proofs.Plans.WorkingForm.{EntryOk, LinksOk, SubOk, SubsOk, WellFormedByPart, well-formed}
 pub use Rattle.executive.proofs.decisions.OfBytes.{in-empty, in-no-call, in-read, in-refused}
--- the type of a step in flight
-pub use Rattle.executive.specs.declared.Work.{Work}
 
 pub demands : Demands
 demands = theorems.demands

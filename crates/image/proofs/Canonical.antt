@@ -3,7 +3,7 @@
 use Prim.Native.Nat.{ℕ, zero, suc, _+_, _*_, _≤_, _<_}
 use mathlib.Core.Path.{_≡_, refl, sym, ap, _∙_}
 use mathlib.Core.Bool.{true, false}
-use mathlib.Core.List.{List, [], _∷_, _++_, append-nil}
+use mathlib.Core.List.{List, _∷_, _++_, append-nil}
 use native.Mathlib.Omega.{arith}
 use native.Mathlib.Nat.{suc-mul, zero-mul}
 use lib.Dec.{eqb}
@@ -14,7 +14,6 @@ use Rattle.records.specs.Numbers.{Bytes, numberOf, part, cut}
 use Rattle.records.proofs.Assured.{promises}
 use Rattle.executive.specs.declared.Millis.{Millis}
 use Rattle.executive.specs.declared.State.{State}
-use Rattle.executive.specs.declared.Task.{Task}
 use Rattle.executive.specs.States.{stateKind, timeOf, maskOf, awaitedOf}
 use Rattle.executive.specs.Places.{noTask}
 use Rattle.image.specs.Blocks.{row, blocks}

@@ -14,7 +14,6 @@ use Rattle.executive.specs.declared.decisions.Leave.the-variants as leave
 use Rattle.executive.specs.declared.decisions.Entrant.{Entrant}
 use Rattle.executive.specs.declared.decisions.Deed.{Deed}
 use Rattle.executive.specs.Places.{nobody, taskAt, putAt}
-use Rattle.executive.specs.Plans.{caller}
 use Rattle.executive.specs.Queue.{Desc, count}
 use Rattle.executive.specs.States.{isReady}
 use Rattle.executive.specs.WellFormed.{Line}

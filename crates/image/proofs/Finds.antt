@@ -14,7 +14,7 @@ use Rattle.executive.specs.declared.Request.{Request}
 use Rattle.executive.specs.declared.Sub.{Sub}
 use Rattle.executive.specs.declared.Message.{Message}
 use Rattle.executive.specs.declared.Table.{Table}
-use Rattle.executive.specs.Lists.{nextOf, allOf, _and_}
+use Rattle.executive.specs.Lists.{nextOf, allOf}
 use Rattle.executive.specs.Places.{nobody, noRequest}
 use Rattle.executive.specs.Pool.{placeOf}
 use Rattle.executive.specs.Table.{headOf}

@@ -46,13 +46,6 @@ Sized [] (p ∷ ps) = ⊥
 Sized (n ∷ ns) [] = ⊥
 Sized (n ∷ ns) (p ∷ ps) = (length p ≡ n) × Sized ns ps
 
-pub sized-at : (ns : List ℕ) (ps : List (List ℕ)) → Sized ns ps → (d : ℕ) → length (getD ps d []) ≡ getD ns d 0
-sized-at [] [] z d = refl
-sized-at [] (p ∷ ps) z d = absurd z
-sized-at (n ∷ ns) [] z d = absurd z
-sized-at (n ∷ ns) (p ∷ ps) z zero = z .0
-sized-at (n ∷ ns) (p ∷ ps) z (suc d) = sized-at ns ps (z .1) d
-
 -- bytes written into part d
 pub join-put : (ns : List ℕ) (ps : List (List ℕ)) → Sized ns ps → (d at : ℕ) (bs : List ℕ) → d < length ns → at + length bs ≤ getD ns d 0
     → written (joined ps) (offset ns d + at) bs ≡ joined (set ps d (written (getD ps d []) at bs))

@@ -3,20 +3,17 @@ use Prim.Native.Nat.{ℕ, suc, _+_, _*_, _≤_, _<_}
 use mathlib.Core.Path.{_≡_, refl, sym, ap, ap₂, subst, _∙_}
 use mathlib.Core.Logic.{_⊎_, inl, inr}
 use mathlib.Core.Bool.{Bool, true, false, cond, _&&_}
-use mathlib.Core.List.{List, [], _∷_, _++_}
+use mathlib.Core.List.{List, [], _++_}
 use native.Mathlib.Omega.{arith}
 use lib.Dec.{eqb, ltb}
-use lib.ListN.{length, getD, take}
+use lib.ListN.{length, getD}
 use lib.Seq.{getD-take}
 use borrow.Author.Tests.{eq-eqb, ne-eqb, lt-ltb, le-ltb, eqb-true, eqb-false}
-use Rattle.records.specs.Numbers.{Bytes, numberOf, part, total, lay, cut, Wide}
+use Rattle.records.specs.Numbers.{Bytes, part, total, cut, Wide}
 use Rattle.records.proofs.Assured.{promises as records-promises}
 use Rattle.executive.specs.declared.Task.{Task}
-use Rattle.executive.specs.declared.Mail.{Mail}
-use Rattle.executive.specs.declared.State.{State}
 use Rattle.executive.specs.declared.Table.{Table}
 use Rattle.executive.specs.Numbers.{mostTasks}
-use Rattle.executive.specs.Lists.{pad}
 use Rattle.executive.specs.Places.{noTask, taskAt}
 use Rattle.executive.specs.States.{stateKind, timeOf, maskOf, awaitedOf}
 use Rattle.executive.specs.Messages.{noMail, mailAt}
@@ -25,19 +22,19 @@ use Rattle.mender.specs.declared.Note.{Note}
 use Rattle.mender.specs.declared.Mended.{Mended}
 use Rattle.mender.specs.Rules.{Breaks, own-over, level-over, sub-over, awaited-over, sender-over, past, time, start, mask, zeros, met}
 use Rattle.mender.specs.Listing.{noNote, noteOf}
-use Rattle.mender.specs.Mending.{answered, mendOf, Typed}
-use Rattle.mender.specs.Promises.{OutOfRange, Same, Listed, Slept, Unlinked, Lost, RuleRight, notesIn, timesNoted}
+use Rattle.mender.specs.Mending.{mendOf, Typed}
+use Rattle.mender.specs.Promises.{OutOfRange, Same, Listed, RuleRight, notesIn, timesNoted}
 use Rattle.mender.proofs.Assured.{promises as mender-promises}
 use Rattle.image.specs.Blocks.{written, same}
 use Rattle.image.specs.Image.{taskWidths, awaitedWidths, mailWidths, taskOf, mailOf, taskBytes, awaitedBytes, mailBytes, taskFrom, mailFrom}
 use Rattle.image.specs.Image.{awaitedAt, mailsAt, taskLength, mailLength, noRoom, imageLength, imageOf, loadOf, isImage, FitsTable}
 use Rattle.image.specs.EntryPoints.{WellFormedImage}
-use Rattle.image.specs.Mending.{isPlain, strayRule, noRule, ruleFor, bytesRule, listRule, notesFrom, listOf, listLength, listBytes, mendNumber, mendImage, mendList, MendsImage, MendNumbers, sameBytes, ListedBytes, Stray}
+use Rattle.image.specs.Mending.{isPlain, noRule, ruleFor, bytesRule, listRule, notesFrom, listOf, listLength, listBytes, mendNumber, mendImage, mendList, MendsImage, MendNumbers, sameBytes, ListedBytes, Stray}
 use Rattle.image.proofs.Alike.{decide, never, same-self, same-true}
 use Rattle.image.proofs.Spans.{block-at}
 use Rattle.image.proofs.Trips.{image-parts, load-fits}
 use Rattle.image.proofs.Answered.{holds}
-use Rattle.image.proofs.Canonical.{Are, are, are-told, Canonical, task-again, awaited-again, image-canonical}
+use Rattle.image.proofs.Canonical.{are, are-told, Canonical, task-again, awaited-again, image-canonical}
 use Rattle.image.proofs.Noted.{times-from, none-from, ascends-from, each-note, Found, unnoted, noted-at, find, unnoted-rule, rule-pad}
 
 -- ---- the numbers of a block are those of its bytes, so equal bytes are equal numbers

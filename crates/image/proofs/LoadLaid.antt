@@ -1,38 +1,30 @@
 -- Bytes that are a table's image load to it, whatever its numbers are: so they are an image, and hold it.
-use Prim.Native.Nat.{ℕ, _+_, _*_, _≤_, _<_}
-use mathlib.Core.Path.{_≡_, refl, sym, ap, ap₂, subst, _∙_}
-use mathlib.Core.Bool.{true}
+use Prim.Native.Nat.{ℕ, _+_, _*_, _<_}
+use mathlib.Core.Path.{_≡_, refl, sym, ap, _∙_}
 use mathlib.Core.List.{List, [], _∷_}
 use native.Mathlib.Omega.{arith}
 use borrow.Author.Tests.{eq-eqb}
 use lib.ListN.{length, getD}
 use lib.Seq.{getD-append-add}
-use Rattle.records.specs.declared.TaskNo.{TaskNo}
-use Rattle.records.specs.Numbers.{numberOf, part, cut, total}
+use Rattle.records.specs.Numbers.{cut}
 use Rattle.records.proofs.Numbers.{number-back}
-use Rattle.executive.specs.declared.Millis.{Millis}
-use Rattle.executive.specs.declared.Task.{Task}
-use Rattle.executive.specs.declared.Request.{Request}
-use Rattle.executive.specs.declared.Sub.{Sub}
-use Rattle.executive.specs.declared.Message.{Message}
-use Rattle.executive.specs.declared.Mail.{Mail}
 use Rattle.executive.specs.declared.Table.{Table}
 use Rattle.executive.specs.Places.{nobody, never, noTask, noRequest}
 use Rattle.executive.specs.Subprograms.{noSub}
 use Rattle.executive.specs.Messages.{noMessage, noMail}
-use Rattle.image.specs.Blocks.{row, blocks, Each, same}
-use Rattle.image.specs.Image.{headWidths, requestWidths, levelsWidths, subWidths, messageWidths, sentWidths, mailWidths}
-use Rattle.image.specs.Image.{headNumbers, requestNumbers, levelsNumbers, subNumbers, messageNumbers, sentNumbers, mailNumbers}
-use Rattle.image.specs.Image.{placeBytes, headBytes, requestBytes, levelsBytes, subBytes, messageBytes, sentBytes, mailBytes}
-use Rattle.image.specs.Image.{requestOf, subOf, messageOf, mailOf, tableOf, taskFrom, placeFrom, lineFrom, alarmFrom, requestFrom, subFrom, messageFrom, mailFrom}
-use Rattle.image.specs.Image.{imageLength, imageOf, loadOf, isImageOf, isImage}
+use Rattle.image.specs.Blocks.{row, blocks}
+use Rattle.image.specs.Image.{headWidths, requestWidths, levelsWidths, messageWidths, sentWidths, mailWidths}
+use Rattle.image.specs.Image.{headNumbers, levelsNumbers, sentNumbers}
+use Rattle.image.specs.Image.{placeBytes, headBytes, requestBytes, levelsBytes, messageBytes, mailBytes}
+use Rattle.image.specs.Image.{requestOf, messageOf, mailOf, tableOf, taskFrom, placeFrom, lineFrom, alarmFrom, requestFrom, subFrom, messageFrom, mailFrom}
+use Rattle.image.specs.Image.{imageLength, imageOf, loadOf, isImageOf}
 use Rattle.image.specs.EntryPoints.{Holds}
 use Rattle.image.specs.Laid.{Laid}
 use Rattle.image.proofs.Alike.{same-self}
-use Rattle.image.proofs.Spans.{Wide, each-all, each-of, each-so, blocks-are}
-use Rattle.image.proofs.Trips.{sub-length, image-length}
+use Rattle.image.proofs.Spans.{Wide, each-all, blocks-are}
+use Rattle.image.proofs.Trips.{image-length}
 use Rattle.image.proofs.Joined.{row-read}
-use Rattle.image.proofs.Parts.{partsOf, lengths, read-laid}
+use Rattle.image.proofs.Parts.{read-laid}
 use Rattle.image.proofs.ReadOff.{cut-agree, place-read, alarm-read, task-read}
 use Rattle.image.proofs.RestLaid.{sub-read}
 

@@ -1,23 +1,23 @@
 -- The list of a mended image: how its rules are found, how it is made note by note, and who stands in it.
 use Prim.Native.Nat.{ℕ, zero, suc, _+_, _-_, _≤_, _<_}
 use mathlib.Core.Path.{_≡_, refl, sym, ap, subst, _∙_}
-use mathlib.Core.Bool.{Bool, true, false, cond}
+use mathlib.Core.Bool.{true, false, cond}
 use mathlib.Core.List.{List, [], _∷_, _++_, append-nil, append-assoc}
 use native.Mathlib.Omega.{arith}
 use native.Mathlib.Numerals.{add-one}
 use lib.Dec.{eqb}
-use lib.ListN.{length, getD, take, drop, set, length-append, drop-of-length-le}
+use lib.ListN.{length, getD, take, drop, length-append, drop-of-length-le}
 use lib.Seq.{drop-cons}
 use borrow.Author.Tests.{eq-eqb, ne-eqb, eqb-true, eqb-false}
 use Rattle.executive.specs.Numbers.{mostTasks}
-use Rattle.executive.specs.Lists.{one, pad, sumOf}
+use Rattle.executive.specs.Lists.{pad, sumOf}
 use Rattle.executive.proofs.Assured.{line-pad, pad-more}
 use Rattle.mender.specs.declared.Note.{Note}
 use Rattle.mender.specs.Listing.{noNote, noteOf}
 use Rattle.mender.specs.Promises.{timesNoted, Ascends}
 use Rattle.image.specs.declared.mending.Notes.{Notes}
 use Rattle.image.specs.Mending.{isPlain, strayRule, noRule, ruleFor, listRule, notesFrom, placed, withNote}
-use Rattle.image.proofs.Alike.{decide, never}
+use Rattle.image.proofs.Alike.{decide}
 
 -- ---- the rule of a task: the notes up to i are not its own
 module _ (d k : ℕ) (ms : List Note) (i : ℕ) (h : i < length ms) (e : ruleFor d k ms ≡ ruleFor d k (drop i ms)) where

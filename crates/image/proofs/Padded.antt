@@ -8,8 +8,6 @@ use lib.ListN.{length, getD, set, replicate, List·getD-eq-default}
 use lib.Seq.{getD-set-same, getD-set-other}
 use borrow.Author.Tests.{eqb-true, eqb-false, ltb-true, ltb-false}
 use Rattle.records.specs.Numbers.{numberOf, part, cut}
-use Rattle.executive.specs.declared.Task.{Task}
-use Rattle.executive.specs.declared.Sub.{Sub}
 use Rattle.image.specs.Blocks.{blocks}
 use Rattle.image.specs.Image.{taskWidths, placeWidths, headWidths, alarmWidths, requestWidths, levelsWidths, awaitedWidths, subWidths}
 use Rattle.image.specs.Image.{taskOf, placeOf, alarmOf, requestOf, subOf, tableOf, taskFrom, placeFrom, alarmFrom, requestFrom, lineFrom, subFrom}

@@ -1,17 +1,13 @@
 -- What the lamp reads of an image is what it shows of the image's table.
-use Prim.Native.Nat.{ℕ, _≤_, _<_}
+use Prim.Native.Nat.{ℕ, _<_}
 use mathlib.Core.Path.{_≡_, refl, sym, ap, _∙_}
-use mathlib.Core.Logic.{_↔_}
-use mathlib.Core.Bool.{Bool, true, false}
 use mathlib.Core.List.{List}
 use native.Mathlib.Omega.{arith}
 use borrow.Author.Tests.{eq-eqb, eqb-true, eqb-false, ne-eqb}
 use lib.Dec.{eqb}
 use lib.ListN.{length}
 use Rattle.records.specs.Numbers.{numberOf, part}
-use Rattle.executive.specs.declared.Table.{Table}
 use Rattle.executive.specs.declared.Lamp.{Lamp}
-use Rattle.executive.specs.declared.Lamp.the-variants.{Dark, Level}
 use Rattle.executive.specs.Places.{taskAt}
 use Rattle.executive.specs.Plans.{caller}
 use Rattle.executive.specs.Lamp.{lampOf}

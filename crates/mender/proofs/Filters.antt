@@ -32,17 +32,6 @@ module _ {A : Type 0} (f : A → Bool) where
       go true e h = rw e h
       go false e h = h
 
-  pub that-all : (g : A → Bool) (xs : List A) → allOf g xs ≡ true → allOf g (allThat f xs) ≡ true
-  unfolding allThat allOf
-  that-all g [] h = refl
-  that-all g (x ∷ xs) h = go (f x) (g x) refl h (that-all g xs)
-    where
-      go : (b c : Bool) → g x ≡ c → cond c (allOf g xs) false ≡ true → (allOf g xs ≡ true → allOf g (allThat f xs) ≡ true)
-          → allOf g (cond b (x ∷ allThat f xs) (allThat f xs)) ≡ true
-      go true true e h ih = rw e (ih h)
-      go false true e h ih = ih h
-      go b false e h ih = absurd (let z : _≡_ {A = ℕ} 0 1 = cc in omega arith)
-
   -- where all pass, it is the list
   pub that-same : (xs : List A) → allOf f xs ≡ true → allThat f xs ≡ xs
   unfolding allThat allOf

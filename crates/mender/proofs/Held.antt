@@ -9,7 +9,6 @@ use lib.Dec.{eqb, ltb}
 use lib.ListN.{getD}
 use Rattle.executive.specs.declared.Millis.{Millis}
 use Rattle.executive.specs.declared.State.{State}
-use Rattle.executive.specs.declared.State.the-variants.{Ready}
 use Rattle.executive.specs.declared.Task.{Task}
 use Rattle.executive.specs.declared.Sub.{Sub}
 use Rattle.executive.specs.declared.Rest.{Rest}
@@ -18,7 +17,6 @@ use Rattle.executive.specs.Numbers.{mostTasks, flagCount, subCount}
 use Rattle.executive.specs.Lists.{_and_}
 use Rattle.executive.specs.Places.{nobody, never, noTask, taskAt}
 use Rattle.executive.specs.States.{awaitStart, awaitEnd, awaitSub, stateKind, awaitedOf, isOf, isDormant}
-use Rattle.executive.specs.Entries.{withState}
 use Rattle.executive.specs.Messages.{mailAt}
 use Rattle.executive.specs.Subprograms.{noSub, subAt}
 use Rattle.executive.specs.Check.{isNobody, alarmRight}
@@ -110,14 +108,6 @@ waits-busy s = go (isDormant s) refl
     go false e w = refl
 
 -- nobody is lost after it; and whoever waits for a subprogram then waits for one that is held
-pub waiter-found : (ss : List Sub) (b : Bool) (e : Task) → isLost ss b (waiterAfter ss b e .state) ≡ false
-unfolding waiterAfter isLost
-waiter-found ss b e = go (isLost ss b (e .state)) refl
-  where
-    go : (c : Bool) → isLost ss b (e .state) ≡ c → isLost ss b (cond c (withState Ready e) e .state) ≡ false
-    go true h = refl
-    go false h = h
-
 pub found-sub : (ss : List Sub) (b : Bool) (s : State) → isLost ss b s ≡ false → isOf awaitSub s ≡ true → isNobody (getD ss (awaitedOf s) noSub .holder) ≡ false
 unfolding isLost
 found-sub ss b s h w =

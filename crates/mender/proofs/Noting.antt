@@ -12,7 +12,7 @@ use Rattle.executive.specs.declared.Task.{Task}
 use Rattle.executive.specs.declared.Mail.{Mail}
 use Rattle.executive.specs.declared.Table.{Table}
 use Rattle.executive.specs.Numbers.{mostTasks, highest}
-use Rattle.executive.specs.Lists.{one, _and_}
+use Rattle.executive.specs.Lists.{_and_}
 use Rattle.executive.specs.Places.{noTask, taskAt}
 use Rattle.executive.specs.States.{ready, awaitStart, awaitEnd, awaitSub, stateKind, isDormant}
 use Rattle.executive.specs.Entries.{withState}

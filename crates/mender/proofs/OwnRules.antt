@@ -19,7 +19,7 @@ use Rattle.executive.specs.declared.Table.{Table}
 use Rattle.executive.specs.Numbers.{mostTasks, highest, lastSub}
 use Rattle.executive.specs.Lists.{one, _and_, allOf}
 use Rattle.executive.specs.Places.{noTask, taskAt}
-use Rattle.executive.specs.States.{awaitSub, awaitMessage, stateKind, awaitedOf, isOf, is, isDormant}
+use Rattle.executive.specs.States.{awaitSub, awaitMessage, stateKind, awaitedOf, isOf, isDormant}
 use Rattle.executive.specs.Flags.{met}
 use Rattle.executive.specs.Entries.{withState}
 use Rattle.executive.specs.Messages.{noMail, fits, mailAt}

@@ -1,7 +1,7 @@
 -- Rows: how long one is, what stands at a place, when it is a given list, and the loop that fills one.
 use Prim.Native.Nat.{ℕ, zero, suc, _+_, _≤_, _<_}
 use mathlib.Core.Path.{_≡_, refl, sym, ap, _∙_}
-use mathlib.Core.List.{List, [], _∷_, _++_}
+use mathlib.Core.List.{List, _++_}
 use native.Mathlib.Omega.{arith}
 use lib.ListN.{length, take, drop, set, getD, List·getD-eq-default}
 use lib.Seq.{ext-getD}

@@ -8,7 +8,6 @@ use Rattle.records.specs.Calls.{gotOf, GotInRange}
 use Rattle.records.specs.Reading.{firstKind, readOf}
 use Rattle.records.specs.declared.Kind.{Kind}
 use Rattle.records.specs.declared.Kind.the-variants as kind
-use Rattle.records.specs.declared.Got.the-variants as got
 use Rattle.records.proofs.Numbers.{cut-fits}
 use Rattle.records.proofs.reading.Laws.{read-cases}
 

@@ -1,32 +1,31 @@
 -- The two tables on the way: the same tasks and rest, and the queue in the order of choosing. A departure, an entry and
 -- a renumbering keep it so, and so does every plan.
-use Prim.Native.Nat.{ℕ, zero, suc, _+_, _≤_, _<_, zero-le}
-use mathlib.Core.Path.{_≡_, refl, sym, ap, subst, _∙_}
+use Prim.Native.Nat.{ℕ, suc, _+_, _≤_, _<_}
+use mathlib.Core.Path.{_≡_, refl, sym, ap, _∙_}
 use mathlib.Core.Bool.{Bool, true, false, cond}
 use mathlib.Core.List.{List, [], _∷_, tail}
 use native.Mathlib.Omega.{arith}
-use borrow.Author.Tests.{eqb-true, eqb-false, eq-eqb, leb-true, leb-false, le-leb, lt-leb, lt-ltb}
-use lib.Dec.{eqb, leb, ltb}
+use borrow.Author.Tests.{eqb-true, leb-true, leb-false, lt-leb}
+use lib.Dec.{eqb, leb}
 use lib.ListN.{length}
 use Rattle.records.specs.declared.TaskNo.{TaskNo}
 use Rattle.executive.specs.declared.Task.{Task}
 use Rattle.executive.specs.declared.Table.{Table}
 use Rattle.executive.specs.Lists.{one, sumOf, _and_}
-use Rattle.executive.specs.Places.{nobody, taskAt, putAt, timesIn, entryPlace}
+use Rattle.executive.specs.Places.{taskAt, timesIn}
 use Rattle.executive.specs.Queue.{behind}
-use Rattle.executive.specs.Table.{line, enterAt, aheadOf, headOf, departed, entered}
+use Rattle.executive.specs.Table.{line, enterAt, aheadOf, headOf}
 use Rattle.scan.specs.declared.Entry.{Entry}
 use Rattle.scan.specs.declared.Scanned.{Scanned}
 use Rattle.scan.specs.declared.tallies.Tally.the-variants as tally
-use Rattle.scan.specs.Entries.{mostArrivals, entry, noEntry, tasksIn, entryAt, putEntry, isReady, countOf}
+use Rattle.scan.specs.Entries.{entry, noEntry, tasksIn, entryAt, putEntry, isReady, countOf}
 use Rattle.scan.specs.Choosing.{chosen, chosenNo, orderFrom, orderOf, IsReady, arrivalIn, priorityIn}
-use Rattle.scan.specs.Moves.{departedScan, renumberedIn, renumbered, withRoom, putIn, enteredScan, passedScan}
 use Rattle.scan.specs.Sound.{Arrivals}
-use Rattle.scan.proofs.Basics.{never, decide, one-small, one-true, one-false, eqb-self, eqb-swap, sum-most, line-pad}
-use Rattle.scan.proofs.Places.{Has, at-same, at-other, put-length, ready-has, tasks-at, tasks-put, sum-put, sum-none}
+use Rattle.scan.proofs.Basics.{decide, one-small, one-true, one-false, sum-most}
+use Rattle.scan.proofs.Places.{Has, at-same, at-other, ready-has, tasks-at, sum-put, sum-none}
 use Rattle.scan.proofs.Order.{Before, AllAfter, Sorted, InOrder, head-in, other-in, tail-in, after-at, after-all, sorted-same, one-order}
 use Rattle.scan.proofs.Choices.{order-from}
-use Rattle.scan.proofs.Numbering.{apart, departed-numbers, entered-numbers, renumbered-numbers, new-ready, new-task, order-kept, tasks-stay}
+use Rattle.scan.proofs.Numbering.{apart}
 
 -- ---- a line that one enters, behind all of equal or higher priority
 module _ (ts : List Task) (k : TaskNo) where

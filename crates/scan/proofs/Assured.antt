@@ -1,7 +1,6 @@
 -- What is promised holds, and the check as it is computed decides it. Of the modules here the crates above name this one
 -- and no other.
 use mathlib.Core.Path.{sym, _∙_}
-use mathlib.Core.Bool.{Bool, true, false}
 use Rattle.scan.specs.Promises.{Promises}
 use Rattle.scan.specs.Sound.{isSound}
 use Rattle.scan.proofs.Basics.{decide, never}

@@ -84,11 +84,6 @@ module _ {A B : Type 0} (f : A → B) where
   map-long [] = refl
   map-long (x ∷ xs) = ap suc (map-long xs)
 
-  pub sum-map : (g : B → ℕ) (l : List A) → sumOf g (map f l) ≡ sumOf (λ (x : A). g (f x)) l
-  unfolding sumOf
-  sum-map g [] = refl
-  sum-map g (x ∷ xs) = omega (arith, sum-map g xs)
-
 pub map-same : {A B : Type 0} (f g : A → B) → ((x : A) → f x ≡ g x) → (l : List A) → map f l ≡ map g l
 map-same f g h [] = refl
 map-same f g h (x ∷ xs) = λ i. h x i ∷ map-same f g h xs i

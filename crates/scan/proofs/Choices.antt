@@ -1,7 +1,7 @@
 -- The scan chooses the first of the ready entries with highest priority; and the order of choosing is in order.
 use Prim.Native.Nat.{ℕ, zero, suc, _+_, _≤_, _<_}
-use mathlib.Core.Path.{_≡_, refl, sym, ap, subst, _∙_}
-use mathlib.Core.Logic.{_↔_, _⊎_, inl, inr, ⊎-elim}
+use mathlib.Core.Path.{_≡_, refl, sym, ap, _∙_}
+use mathlib.Core.Logic.{_⊎_, inl, inr, ⊎-elim}
 use mathlib.Core.Bool.{Bool, true, false, not, cond}
 use mathlib.Core.List.{List, [], _∷_}
 use native.Mathlib.Omega.{arith}
@@ -16,9 +16,9 @@ use Rattle.scan.specs.declared.Best.{Best}
 use Rattle.scan.specs.declared.tallies.Tally.the-variants as tally
 use Rattle.scan.specs.Entries.{noEntry, entryAt, putEntry, isReady, countOf}
 use Rattle.scan.specs.Choosing.{bestAt, betterOf, noneFound, scanned, chosen, chosenNo, orderFrom, IsReady, priorityIn, arrivalIn, First, Distinct, Choice}
-use Rattle.scan.proofs.Basics.{never, decide, one-small, one-true, one-false, eqb-self}
+use Rattle.scan.proofs.Basics.{never, decide, one-true}
 use Rattle.scan.proofs.Places.{Has, at-same, at-other, ready-has, sum-put, sum-entry}
-use Rattle.scan.proofs.Order.{Before, AllAfter, Sorted, InOrder, head-in, other-in, after-all, sorted-same}
+use Rattle.scan.proofs.Order.{Before, InOrder, after-all, sorted-same}
 
 -- the best r is no worse than one of priority p and number a
 pub record Covers (r : Best) (p a : ℕ) : Type 0 where

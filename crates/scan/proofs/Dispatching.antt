@@ -1,12 +1,12 @@
 -- Demands 2 and 3 of the second engine: by its choice and its numbers, and by the first engine's, whose table stays alike.
 use Prim.Native.Nat.{ℕ, _+_, _≤_, _<_}
 use mathlib.Core.Path.{_≡_, refl, sym, ap, subst, _∙_}
-use mathlib.Core.Logic.{_↔_, _≢_}
-use mathlib.Core.Bool.{true, false}
+use mathlib.Core.Logic.{_≢_}
+use mathlib.Core.Bool.{true}
 use mathlib.Core.List.{List, [], _∷_}
 use native.Mathlib.Omega.{arith}
 use borrow.Author.Tests.{eqb-true, ltb-true, ltb-false}
-use lib.Dec.{eqb, ltb}
+use lib.Dec.{ltb}
 use Rattle.records.specs.declared.TaskNo.{TaskNo}
 use Rattle.records.specs.Numbers.{Bytes}
 use Rattle.executive.specs.declared.State.{State}
@@ -22,10 +22,8 @@ use Rattle.executive.specs.WellFormed.{WellFormed}
 use Rattle.executive.specs.Step.{stepOf}
 use Rattle.executive.specs.Promises.Demands.{after, history, AllBytes, NotYet, Overtaking}
 use Rattle.executive.proofs.Assured as executive
-use Rattle.scan.specs.declared.Entry.{Entry}
 use Rattle.scan.specs.declared.Scanned.{Scanned}
-use Rattle.scan.specs.Entries.{tasksIn, entryAt, isReady}
-use Rattle.scan.specs.Choosing.{chosenNo, orderOf, IsReady, priorityIn, arrivalIn, Choice}
+use Rattle.scan.specs.Choosing.{chosenNo, IsReady, priorityIn, arrivalIn}
 use Rattle.scan.specs.Sound.{Arrivals, SoundScan}
 use Rattle.scan.specs.Step.{scanOf}
 use Rattle.scan.specs.Queued.{inOrder, queued}

@@ -1,32 +1,32 @@
 -- A departure, an entry and a renumbering keep the two tables alike, and so does every plan; as many are passed over.
-use Prim.Native.Nat.{ℕ, zero, suc, _+_, _≤_, _<_, zero-le}
-use mathlib.Core.Path.{_≡_, refl, sym, ap, subst, _∙_}
-use mathlib.Core.Bool.{Bool, true, false, cond}
+use Prim.Native.Nat.{ℕ, zero, suc, _≤_, _<_}
+use mathlib.Core.Path.{_≡_, refl, sym, ap, _∙_}
+use mathlib.Core.Bool.{true, false}
 use mathlib.Core.List.{List, [], _∷_, tail, map}
 use native.Mathlib.Omega.{arith}
-use borrow.Author.Tests.{eqb-true, eqb-false, eq-eqb, ne-eqb, lt-ltb, ltb-true, ltb-false}
+use borrow.Author.Tests.{eqb-true, eqb-false, lt-ltb, ltb-true, ltb-false}
 use lib.Dec.{eqb, ltb}
 use lib.ListN.{length, length-map}
 use Rattle.records.specs.declared.TaskNo.{TaskNo}
 use Rattle.executive.specs.declared.Task.{Task}
 use Rattle.executive.specs.declared.Table.{Table}
 use Rattle.executive.specs.Configuration.{zeroTable}
-use Rattle.executive.specs.Lists.{one, sumOf}
+use Rattle.executive.specs.Lists.{one}
 use Rattle.executive.specs.Places.{nobody, taskAt, putAt, timesIn, entryPlace}
 use Rattle.executive.specs.States.{ready, is}
-use Rattle.executive.specs.Table.{line, enterAt, aheadOf, headOf, departed, entered, passedBy, Out, stays, leaves, Join, depart, change-at, outTasks, enterInFlight, enterAllInFlight, begin}
-use Rattle.executive.proofs.Assured.{LeavesUnready, Enters, AllEnter}
+use Rattle.executive.specs.Table.{line, enterAt, aheadOf, headOf, departed, entered, passedBy, Out, stays, leaves, Join, depart, enterInFlight, enterAllInFlight, begin}
+use Rattle.executive.proofs.Assured.{LeavesUnready, AllEnter}
 use Rattle.scan.specs.declared.Entry.{Entry}
 use Rattle.scan.specs.declared.Scanned.{Scanned}
 use Rattle.scan.specs.declared.Work.{Work}
 use Rattle.scan.specs.declared.tallies.Tally.the-variants as tally
 use Rattle.scan.specs.Entries.{mostArrivals, entry, noEntry, tasksIn, entryAt, putEntry, isReady, countOf}
 use Rattle.scan.specs.Choosing.{chosenNo, IsReady, arrivalIn, priorityIn}
-use Rattle.scan.specs.Moves.{departedScan, departScan, renumberedIn, renumbered, withRoom, putIn, enteredScan, passedScan, enterBy, enterScan, enterAllScan, beginScan}
+use Rattle.scan.specs.Moves.{departedScan, departScan, renumberedIn, renumbered, withRoom, putIn, enteredScan, passedScan, enterScan, enterAllScan}
 use Rattle.scan.specs.Sound.{Arrivals}
-use Rattle.scan.proofs.Basics.{never, decide, one-small, one-true, one-false, sum-most, line-pad}
-use Rattle.scan.proofs.Places.{Has, at-same, at-other, put-length, ready-has, tasks-at, tasks-put, tasks-length, sum-put}
-use Rattle.scan.proofs.Order.{Before, InOrder, head-in, tail-in, sorted-same, after-at, after-all, Sorted}
+use Rattle.scan.proofs.Basics.{decide, one-small, one-true, one-false, sum-most, line-pad}
+use Rattle.scan.proofs.Places.{Has, at-same, at-other, put-length, tasks-at, tasks-put, tasks-length, sum-put}
+use Rattle.scan.proofs.Order.{Before, head-in, tail-in, sorted-same, after-at, after-all, Sorted}
 use Rattle.scan.proofs.Numbering.{departed-numbers, entered-numbers, renumbered-numbers, new-ready, new-task, order-kept, tasks-stay}
 use Rattle.scan.proofs.Alike.{Alike, times-enter, enter-sorted, ahead-same, ahead-sum, line-sum, counted, unready, head-chosen, tail-order, head-has}
 

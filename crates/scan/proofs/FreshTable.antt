@@ -4,7 +4,7 @@ use mathlib.Core.Path.{_≡_, refl, sym, ap, subst, _∙_}
 use mathlib.Core.Bool.{Bool, true, false, cond}
 use mathlib.Core.List.{List, [], _∷_}
 use native.Mathlib.Omega.{arith}
-use borrow.Author.Tests.{leb-true, leb-false, ltb-true, ltb-false, eqb-true}
+use borrow.Author.Tests.{leb-true, leb-false, ltb-true, ltb-false}
 use lib.Dec.{leb, ltb, eqb}
 use lib.ListN.{length, getD}
 use Rattle.records.specs.declared.TaskNo.{TaskNo}
@@ -13,17 +13,15 @@ use Rattle.executive.specs.declared.Answer.{Answer}
 use Rattle.executive.specs.declared.Task.{Task}
 use Rattle.executive.specs.declared.Table.{Table}
 use Rattle.executive.specs.declared.Fresh.{Fresh}
-use Rattle.executive.specs.Lists.{one, sumOf, pad, _and_}
+use Rattle.executive.specs.Lists.{one, sumOf, pad}
 use Rattle.executive.specs.Numbers.{mostTasks}
-use Rattle.executive.specs.Places.{noTask, taskAt, timesIn}
-use Rattle.executive.specs.Plans.{caller}
+use Rattle.executive.specs.Places.{taskAt, timesIn}
 use Rattle.executive.specs.Queue.{Item, behind, insert, inserts}
 use Rattle.executive.specs.States.{ready, isOf, is}
 use Rattle.executive.specs.Table.{line, items, view}
 use Rattle.executive.specs.WellFormed.{WellFormed}
 use Rattle.executive.specs.Check.{queueRight, numbersRight, allButQueue}
-use Rattle.executive.specs.Decisions.{refusing}
-use Rattle.executive.specs.Deciding.{callerRight, decisionIn, decisionFor}
+use Rattle.executive.specs.Deciding.{decisionFor}
 use Rattle.executive.specs.Step.{refused, stepOf, noTable}
 use Rattle.executive.specs.Configuration.{isConfiguration, zeroTable, blankRest, freshTable, freshOf}
 use Rattle.executive.specs.Promises.ByDecision.{enacted}
@@ -34,16 +32,16 @@ use Rattle.executive.proofs.Assured as executive
 use Rattle.scan.specs.declared.Entry.{Entry}
 use Rattle.scan.specs.declared.Scanned.{Scanned}
 use Rattle.scan.specs.declared.tallies.Tally.the-variants as tally
-use Rattle.scan.specs.Entries.{mostArrivals, entry, noEntry, tasksIn, entryAt, isReady, countOf}
+use Rattle.scan.specs.Entries.{entry, noEntry, tasksIn, entryAt, isReady, countOf}
 use Rattle.scan.specs.Choosing.{IsReady, arrivalIn}
 use Rattle.scan.specs.Sound.{Arrivals, SoundScan, arrivalsRight}
-use Rattle.scan.specs.Step.{refusedScan, enactedScan, decisionScan, scanOf}
+use Rattle.scan.specs.Step.{refusedScan, enactedScan, scanOf}
 use Rattle.scan.specs.Making.{numberedFrom, numbered, madeOf}
 use Rattle.scan.specs.Queued.{queued}
 use Rattle.scan.specs.Promises.{answersScan, answersOf}
 use Rattle.scan.proofs.Basics.{never, decide, one-small, one-true, sum-most}
 use Rattle.scan.proofs.Places.{tasks-at, tasks-length}
-use Rattle.scan.proofs.Order.{Before, AllAfter, Sorted, InOrder, head-in, tail-in}
+use Rattle.scan.proofs.Order.{AllAfter, Sorted, head-in, tail-in}
 use Rattle.scan.proofs.Numbering.{count-once}
 use Rattle.scan.proofs.Alike.{Alike}
 use Rattle.scan.proofs.Stepping.{count-items, sound-of, alike-is, decision-broken}

@@ -18,7 +18,6 @@ use Rattle.executive.specs.Promises.ByDecision.{done, enacted}
 use Rattle.executive.specs.Promises.Demands.{after, AllBytes}
 use Rattle.executive.proofs.Assured as executive
 use Rattle.scan.specs.declared.Scanned.{Scanned}
-use Rattle.scan.specs.declared.Scan.{Scan}
 use Rattle.scan.specs.declared.tallies.Tally.the-variants as tally
 use Rattle.scan.specs.Entries.{tasksIn, countOf}
 use Rattle.scan.specs.Choosing.{IsReady, arrivalIn}

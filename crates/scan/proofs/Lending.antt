@@ -1,6 +1,5 @@
 -- The array of entries, by value and in a local, as a lender has it: its row, its machine value and its laws, from the
 -- entry's; the local's cell and what its value owns as the entries side by side, which is what is lent; and back.
-use mathlib.Core.Path.{_≡_}
 use Prim.Native.Nat.{ℕ}
 use mathlib.Core.List.{[], _∷_, List}
 use lib.Dec.{T as Holds}

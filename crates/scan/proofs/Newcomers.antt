@@ -1,19 +1,18 @@
 -- Those who enter in a step bear the largest numbers, in the order they entered.
-use Prim.Native.Nat.{ℕ, zero, suc, _+_, _≤_, _<_}
+use Prim.Native.Nat.{ℕ, suc, _<_}
 use mathlib.Core.Path.{_≡_, refl, sym, ap, _∙_}
-use mathlib.Core.Bool.{Bool, true, false, cond}
+use mathlib.Core.Bool.{true, false}
 use mathlib.Core.List.{List, [], _∷_, map}
 use native.Mathlib.Omega.{arith}
 use borrow.Author.Tests.{eqb-true, eq-eqb}
-use lib.Dec.{eqb, ltb}
-use lib.ListN.{length}
+use lib.Dec.{eqb}
 use Rattle.records.specs.declared.TaskNo.{TaskNo}
 use Rattle.records.specs.Numbers.{Bytes}
 use Rattle.executive.specs.declared.Task.{Task}
 use Rattle.executive.specs.declared.Table.{Table}
 use Rattle.executive.specs.declared.decisions.Decision.{Decision}
-use Rattle.executive.specs.Lists.{one, sumOf}
-use Rattle.executive.specs.Places.{taskAt, timesIn, entryPlace}
+use Rattle.executive.specs.Lists.{sumOf}
+use Rattle.executive.specs.Places.{timesIn}
 use Rattle.executive.specs.Plans.{caller}
 use Rattle.executive.specs.Table.{Join, Plan, depart, begin, entered, enterInFlight}
 use Rattle.executive.specs.Decisions.{meant}
@@ -22,7 +21,7 @@ use Rattle.executive.proofs.Assured as executive
 use Rattle.scan.specs.declared.Entry.{Entry}
 use Rattle.scan.specs.declared.Scanned.{Scanned}
 use Rattle.scan.specs.declared.Work.{Work}
-use Rattle.scan.specs.Entries.{mostArrivals, entry, entryAt, putEntry, isReady}
+use Rattle.scan.specs.Entries.{entry, entryAt, putEntry, isReady}
 use Rattle.scan.specs.Choosing.{IsReady, arrivalIn}
 use Rattle.scan.specs.Moves.{withRoom, enteredScan, enterScan, enterAllScan, beginScan, departScan, applyScan}
 use Rattle.scan.specs.Sound.{SoundScan, arrivalsRight}
@@ -31,9 +30,8 @@ use Rattle.scan.specs.Queued.{queued}
 use Rattle.scan.specs.Promises.{newcomers, Latest}
 use Rattle.scan.proofs.Basics.{never, decide, one-false}
 use Rattle.scan.proofs.Places.{Has, at-same, at-other}
-use Rattle.scan.proofs.Order.{other-in, head-in, tail-in}
 use Rattle.scan.proofs.Alike.{Alike}
-use Rattle.scan.proofs.Flight.{Flown, AlikeInFlight, Roomy, room-alike, named-place, depart-alike, joining}
+use Rattle.scan.proofs.Flight.{Flown, AlikeInFlight, room-alike, named-place, depart-alike, joining}
 use Rattle.scan.proofs.Stepping.{sized, queued-alike, formed, arrivals-make, same-decision, same-plan, out-tasks}
 
 -- ---- one enters: all others are as ready as they were and keep their order, and its number is the largest

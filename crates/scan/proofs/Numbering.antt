@@ -1,12 +1,12 @@
 -- Arrival numbers: that no two bear one, by counts and by tasks; and what departing, renumbering and entering keep.
-use Prim.Native.Nat.{ℕ, zero, suc, _+_, _≤_, _<_, zero-le}
+use Prim.Native.Nat.{ℕ, zero, suc, _≤_, _<_, zero-le}
 use mathlib.Core.Path.{_≡_, refl, sym, ap, subst, _∙_}
 use mathlib.Core.Bool.{Bool, true, false, cond}
 use mathlib.Core.List.{List, [], _∷_, map}
 use native.Mathlib.Omega.{arith}
-use borrow.Author.Tests.{ltb-true, ltb-false, lt-ltb, le-ltb, eqb-true, eqb-false, eq-eqb}
+use borrow.Author.Tests.{ltb-true, ltb-false, lt-ltb, le-ltb, eqb-true, eq-eqb}
 use lib.Dec.{ltb, eqb}
-use lib.ListN.{length, getD, set}
+use lib.ListN.{length, getD}
 use Rattle.executive.specs.declared.Task.{Task}
 use Rattle.executive.specs.Lists.{one, sumOf, _and_}
 use Rattle.scan.specs.declared.Entry.{Entry}
@@ -14,9 +14,9 @@ use Rattle.scan.specs.declared.Scanned.{Scanned}
 use Rattle.scan.specs.declared.tallies.Tally.the-variants as tally
 use Rattle.scan.specs.Entries.{mostArrivals, entry, noEntry, taskOf, tasksIn, entryAt, putEntry, isReady, countOf}
 use Rattle.scan.specs.Choosing.{IsReady, arrivalIn, Distinct}
-use Rattle.scan.specs.Moves.{renumberedIn, renumbered, putIn}
+use Rattle.scan.specs.Moves.{renumberedIn, renumbered}
 use Rattle.scan.specs.Sound.{Arrivals}
-use Rattle.scan.proofs.Basics.{never, decide, one-small, one-true, one-false, eqb-self, eqb-swap, sum-zero, sum-le, sum-lt, sum-most, map-at, map-long, map-same, map-twice}
+use Rattle.scan.proofs.Basics.{never, decide, one-small, eqb-self, eqb-swap, sum-zero, sum-lt, sum-most, map-at, map-same, map-twice}
 use Rattle.scan.proofs.Places.{Has, at-same, at-other, put-length, ready-has, sum-put, sum-entry, sum-none}
 
 abbrev bears : ℕ → Entry → ℕ

@@ -1,17 +1,17 @@
 -- Lines of ready tasks in the order of choosing: there is one such line only.
 use Prim.Native.Nat.{ℕ, suc, _+_, _≤_, _<_}
-use mathlib.Core.Path.{_≡_, refl, sym, ap, subst, _∙_}
-use mathlib.Core.Bool.{Bool, true, false, cond}
+use mathlib.Core.Path.{_≡_, refl, sym, ap, _∙_}
+use mathlib.Core.Bool.{Bool, true, false}
 use mathlib.Core.List.{List, [], _∷_}
 use native.Mathlib.Omega.{arith}
-use borrow.Author.Tests.{eqb-true, eq-eqb}
+use borrow.Author.Tests.{eqb-true}
 use lib.Dec.{eqb}
 use Rattle.records.specs.declared.TaskNo.{TaskNo}
 use Rattle.executive.specs.Lists.{one, sumOf}
 use Rattle.executive.specs.Places.{timesIn}
 use Rattle.scan.specs.declared.Entry.{Entry}
 use Rattle.scan.specs.Entries.{entryAt, isReady}
-use Rattle.scan.proofs.Basics.{never, decide, eqb-self, eqb-swap}
+use Rattle.scan.proofs.Basics.{eqb-self, eqb-swap}
 
 -- x is chosen before y: of higher priority, or of equal priority and earlier
 pub record Before (x y : Entry) : Type 0 where

@@ -1,16 +1,15 @@
 -- The entries by task number: what is read after a store, and that the tasks' own entries follow.
 use Prim.Native.Nat.{ℕ, zero, suc, _+_, _≤_, _<_}
 use mathlib.Core.Path.{_≡_, refl, sym, ap, _∙_}
-use mathlib.Core.Bool.{Bool, true, false, cond}
-use mathlib.Core.List.{List, [], _∷_, map}
+use mathlib.Core.Bool.{false}
+use mathlib.Core.List.{List}
 use native.Mathlib.Omega.{arith}
-use borrow.Author.Tests.{eq-eqb, eqb-true, eqb-false, ltb-true, ltb-false}
+use borrow.Author.Tests.{eqb-false, ltb-true, ltb-false}
 use lib.Dec.{eqb, ltb}
-use lib.ListN.{length, getD, set, length-set, List·getD-eq-default}
-use lib.Seq.{set-out, getD-set-same, getD-set-other}
-use Rattle.executive.specs.declared.Task.{Task}
-use Rattle.executive.specs.Lists.{one, sumOf}
-use Rattle.executive.specs.Places.{noTask, taskAt, putAt, Names}
+use lib.ListN.{length, length-set, List·getD-eq-default}
+use lib.Seq.{getD-set-same, getD-set-other}
+use Rattle.executive.specs.Lists.{sumOf}
+use Rattle.executive.specs.Places.{taskAt, putAt}
 use Rattle.scan.specs.declared.Entry.{Entry}
 use Rattle.scan.specs.Entries.{noEntry, taskOf, tasksIn, entryAt, putEntry, isReady}
 use Rattle.scan.specs.Choosing.{IsReady}

@@ -1,12 +1,12 @@
 -- A table of the second engine and the first engine's that it stands for: both are well formed together, and a step of
 -- either is a step of the other.
-use Prim.Native.Nat.{ℕ, zero, suc, _+_, _≤_, _<_, zero-le}
+use Prim.Native.Nat.{ℕ, zero, suc, _≤_, _<_, zero-le}
 use mathlib.Core.Path.{_≡_, refl, sym, ap, subst, _∙_}
 use mathlib.Core.Logic.{_≢_}
 use mathlib.Core.Bool.{Bool, true, false, cond}
 use mathlib.Core.List.{List, [], _∷_}
 use native.Mathlib.Omega.{arith}
-use borrow.Author.Tests.{ne-eqb, eqb-true, eqb-false, eq-eqb, ltb-true, lt-ltb, leb-true, le-leb, ltb-false}
+use borrow.Author.Tests.{ne-eqb, eqb-true, eq-eqb, ltb-true, lt-ltb, leb-true, le-leb, ltb-false}
 use lib.Dec.{eqb, leb, ltb}
 use lib.ListN.{length, getD, set, take}
 use lib.Seq.{length-take-le}
@@ -19,21 +19,21 @@ use Rattle.executive.specs.declared.Table.{Table}
 use Rattle.executive.specs.declared.Outcome.{Outcome}
 use Rattle.executive.specs.declared.decisions.Deed.{Deed}
 use Rattle.executive.specs.declared.decisions.Decision.{Decision}
-use Rattle.executive.specs.Lists.{one, sumOf, pad, _and_, allOf}
+use Rattle.executive.specs.Lists.{one, sumOf, pad, _and_}
 use Rattle.executive.specs.Numbers.{mostTasks}
 use Rattle.executive.specs.Places.{nobody, taskAt, timesIn}
 use Rattle.executive.specs.Queue.{count, AllLe, Desc}
 use Rattle.executive.specs.States.{ready, is}
-use Rattle.executive.specs.Table.{line, items, view, levelsOf, relit, withRest, Out, stays, leaves, Join, Plan, departed, depart, outTasks, join, joins, apply, applyInFlight, begin, enterInFlight, enterAllInFlight, headOf}
+use Rattle.executive.specs.Table.{line, items, levelsOf, relit, withRest, Out, stays, leaves, Join, Plan, departed, depart, outTasks, join, joins, apply, applyInFlight, begin, enterInFlight, enterAllInFlight, headOf}
 use Rattle.executive.specs.Plans.{caller}
 use Rattle.executive.specs.States as states
-use Rattle.executive.specs.WellFormed.{Line, Queue, WellFormed}
+use Rattle.executive.specs.WellFormed.{Line, WellFormed}
 use Rattle.executive.specs.Check.{queueRight, numbersRight, sizesRight, allButQueue, isWellFormed}
 use Rattle.executive.specs.Configuration.{withTasks}
 use Rattle.executive.specs.Decisions.{meant, refusing, Doable}
 use Rattle.executive.specs.Deciding.{callerRight, decisionIn, decisionFor, restAfter}
 use Rattle.executive.specs.Sheet.{marks}
-use Rattle.executive.specs.Step.{answerOf, refused, stepOf, hasV, noTable}
+use Rattle.executive.specs.Step.{answerOf, refused, stepOf, hasV}
 use Rattle.executive.specs.Promises.ByDecision.{done, enacted}
 use Rattle.executive.proofs.Assured as executive
 use Rattle.scan.specs.declared.Entry.{Entry}
@@ -44,11 +44,11 @@ use Rattle.scan.specs.Entries.{mostArrivals, noEntry, tasksIn, entryAt, 
 use Rattle.scan.specs.Choosing.{chosen, chosenNo, orderFrom, orderOf, arrivalIn, IsReady}
 use Rattle.scan.specs.Moves.{applyScan, beginScan, departScan, enterAllScan}
 use Rattle.scan.specs.Sound.{Arrivals, SoundScan, arrivalRight, arrivalsRight, isSound, Checked}
-use Rattle.scan.specs.Step.{answerBy, answerScan, bare, planScan, planTo, decisionScan, doneScan, refusedScan, enactedScan, scanOf}
+use Rattle.scan.specs.Step.{answerBy, answerScan, planScan, planTo, decisionScan, doneScan, refusedScan, enactedScan, scanOf}
 use Rattle.scan.specs.Queued.{inOrder, queued}
-use Rattle.scan.proofs.Basics.{never, decide, one-small, one-true, one-false, and-true, true-and, all-at, all-of, line-pad, length-pad, sum-most}
-use Rattle.scan.proofs.Places.{Has, ready-has, tasks-at, tasks-length}
-use Rattle.scan.proofs.Order.{Before, AllAfter, Sorted, InOrder}
+use Rattle.scan.proofs.Basics.{never, decide, and-true, true-and, all-at, all-of, line-pad, length-pad}
+use Rattle.scan.proofs.Places.{tasks-at, tasks-length}
+use Rattle.scan.proofs.Order.{AllAfter, Sorted, InOrder}
 use Rattle.scan.proofs.Alike.{Alike, in-order, line-order, head-chosen}
 use Rattle.scan.proofs.Flight.{Flown, AlikeInFlight, task-there, depart-alike, enters-alike}
 

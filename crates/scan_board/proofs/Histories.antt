@@ -22,7 +22,7 @@ use Rattle.scan.specs.Queued.{queued}
 use Rattle.scan.specs.Promises.{afterScan, answersScan, answersOf}
 use Rattle.scan.proofs.Assured as scan
 use Rattle.image.specs.Blocks.{written}
-use Rattle.image.specs.Image.{imageLength, loadOf}
+use Rattle.image.specs.Image.{imageLength}
 use Rattle.image.specs.EntryPoints.{Holds, MakesImage, answerLength, answerBytes, StepsImage}
 use Rattle.image.specs.EntryPoints as board
 use Rattle.image.proofs.Assured.{promises, decide}

@@ -1,5 +1,4 @@
 -- Whoever owns a table of the second engine knows that its numbers fit.
-use Prim.Native.Nat.{ℕ}
 use mathlib.Core.List.{List}
 use native.Mathlib.Omega.{arith}
 use mir.Val.{Val}

@@ -5,10 +5,9 @@ use mathlib.Core.Bool.{Bool, true, false}
 use mathlib.Core.List.{List, [], _∷_, _++_, map, append-nil, append-assoc}
 use native.Mathlib.Omega.{arith}
 use lib.Dec.{eqb}
-use lib.ListN.{length, getD, take, drop, length-append, length-map, List·getD-append, List·getD-map}
+use lib.ListN.{length, getD, length-append, length-map, List·getD-append, List·getD-map}
 use lib.Seq.{take-at, drop-at, getD-at, ext-getD}
 use borrow.Author.Tests.{eq-eqb, ne-eqb, eqb-true}
-use Rattle.executive.specs.declared.Task.{Task}
 use Rattle.scan.specs.declared.Entry.{Entry}
 use Rattle.scan.specs.declared.Scanned.{Scanned}
 use Rattle.scan.specs.Entries.{entry, noEntry, taskOf, tasksIn}

@@ -1,6 +1,6 @@
 -- What is promised holds, and the laws of added text for the tools. Of the modules here the crates above name this one
 -- and no other.
-use Prim.Native.Nat.{ℕ, _+_, _≤_}
+use Prim.Native.Nat.{ℕ, _+_}
 use mathlib.Core.Path.{_≡_, sym, ap, _∙_}
 use mathlib.Core.List.{List}
 use lib.ListN.{length}

@@ -1,20 +1,17 @@
 -- The answer by its three cases, and its numbers.
 use Prim.Native.Nat.{ℕ, zero, suc, _≤_, _<_}
-use mathlib.Core.Path.{_≡_, refl, sym, ap, _∙_}
-use mathlib.Core.Logic.{_↔_, _⊎_}
-use mathlib.Core.Bool.{Bool, true, false, cond}
+use mathlib.Core.Path.{_≡_, refl}
+use mathlib.Core.Bool.{true, false}
 use native.Mathlib.Omega.{arith}
 use borrow.Author.Tests.{lt-ltb, le-ltb, le-leb, lt-leb}
-use lib.Dec.{ltb, leb}
 use Rattle.records.specs.declared.TaskNo.{TaskNo}
 use Rattle.executive.specs.declared.Table.{Table}
-use Rattle.executive.specs.Check.{Checked, isTask, isWellFormed}
+use Rattle.executive.specs.Check.{Checked, isWellFormed}
 use Rattle.executive.specs.WellFormed.{WellFormed}
 use Rattle.executive.proofs.Assured.{decided}
-use Rattle.why.specs.declared.Reasons.{Reasons}
 use Rattle.why.specs.Causes.{Sized}
 use Rattle.why.specs.Paths.{refusal, taskPath, explained}
-use Rattle.why.proofs.Searching.{decide, never}
+use Rattle.why.proofs.Searching.{decide}
 
 -- a well-formed table's lines lie within their arrays
 pub sized : (t : Table) → WellFormed t → Sized t

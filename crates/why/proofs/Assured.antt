@@ -1,13 +1,13 @@
 -- What is promised holds. Of the modules here the crates above name this one and no other.
-use Prim.Native.Nat.{ℕ, zero, suc, _+_, _-_, _≤_, _<_}
+use Prim.Native.Nat.{ℕ, suc, _+_, _-_, _≤_, _<_}
 use mathlib.Core.Path.{_≡_, refl, sym, ap, _∙_}
-use mathlib.Core.Logic.{_↔_, _≢_, _⊎_, inl, inr, ⊎-elim}
+use mathlib.Core.Logic.{_≢_, _⊎_, inl, inr, ⊎-elim}
 use mathlib.Core.Bool.{true, false}
 use mathlib.Core.List.{List}
 use native.Mathlib.Omega.{arith}
 use borrow.Author.Tests.{eqb-true, eqb-false, leb-true, leb-false}
 use lib.Dec.{eqb, leb}
-use lib.ListN.{length, getD}
+use lib.ListN.{length}
 use lib.Seq.{getD-take}
 use Rattle.records.specs.declared.TaskNo.{TaskNo}
 use Rattle.executive.specs.declared.Millis.{Millis}
@@ -29,7 +29,7 @@ use Rattle.why.proofs.Onward.{path-keeps}
 use Rattle.why.proofs.Holding.{nought, holds-of, only}
 use Rattle.why.proofs.Waiting.{onto, Within, waits-onto, onto-waits}
 use Rattle.why.proofs.Walking.{iter-zero, iter-suc}
-use Rattle.why.proofs.Trail.{at, Trod, Whole, starts}
+use Rattle.why.proofs.Trail.{at, Whole, starts}
 use Rattle.why.proofs.Rings.{path-long, path-task, ring-fits, ring-exactly, ring-else}
 
 -- ---- a task of a well-formed table: its answer is a whole path

@@ -1,11 +1,10 @@
 -- Every cause given is true, and the only one (`holds-of`, `only`); whom a task waits on is a task of the table.
 use Prim.Native.Nat.{ℕ, zero, suc, _+_, _-_, _≤_, _<_}
 use mathlib.Core.Path.{_≡_, refl, sym, ap, ap₂, _∙_}
-use mathlib.Core.Logic.{_≢_}
 use mathlib.Core.Bool.{Bool, true, false}
 use mathlib.Core.List.{List, [], _∷_}
 use native.Mathlib.Omega.{arith}
-use borrow.Author.Tests.{ltb-false, leb-true, leb-false, le-leb, lt-leb, eqb-true, eqb-false, eq-eqb, ne-eqb}
+use borrow.Author.Tests.{leb-true, leb-false, le-leb, lt-leb, eqb-true, eqb-false, eq-eqb, ne-eqb}
 use lib.Dec.{eqb, leb}
 use lib.ListN.{length, getD, List·getD-eq-default}
 use Rattle.records.specs.declared.TaskNo.{TaskNo}
@@ -23,8 +22,8 @@ use Rattle.executive.specs.Table.{view}
 use Rattle.executive.specs.WellFormed.{WellFormed, startsOf, endsOf, runsOf}
 use Rattle.why.specs.declared.Cause.{Cause}
 use Rattle.why.specs.declared.Cause.the-variants as cause
-use Rattle.why.specs.Causes.{stateAt, waiterOf, namedAt, runAt, targetAt, missing, readyCause, causeIn, causeOf, NamedBy, Holds, Names, WaitsOn}
-use Rattle.why.proofs.Searching.{decide, never, next-from, next-passes, some-next, passes-some, passes-once}
+use Rattle.why.specs.Causes.{stateAt, waiterOf, namedAt, runAt, targetAt, missing, readyCause, causeIn, causeOf, NamedBy, Holds}
+use Rattle.why.proofs.Searching.{decide, next-from, next-passes, some-next, passes-some, passes-once}
 use Rattle.why.proofs.Causing.{target-is}
 use Rattle.why.proofs.Masks.{missing-is, missing-only}
 

@@ -1,10 +1,9 @@
 -- The flags of a mask that are not set, bit by bit.
-use Prim.Native.Nat.{ℕ, zero, suc, _+_, _-_, _*_, _/_, _%_, _^_, _≤_, _<_, min}
-use mathlib.Core.Path.{_≡_, refl, sym, ap, ap₂, _∙_}
-use mathlib.Core.Logic.{_↔_}
+use Prim.Native.Nat.{ℕ, zero, suc, _+_, _-_, _/_, _%_, _^_, _≤_, _<_, min}
+use mathlib.Core.Path.{_≡_, refl, sym, ap, _∙_}
 use native.Mathlib.Omega.{arith}
 use native.Mathlib.Nat.{pow-succ', div-one, div-div-eq-div-mul}
-use lib.Bits.{bitAnd, and-step, and-le-l}
+use lib.Bits.{and-step, and-le-l}
 use Rattle.executive.specs.Promises.InWords.{Bit}
 use Rattle.why.specs.Causes.{missing, Missing}
 

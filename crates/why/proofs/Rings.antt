@@ -1,28 +1,26 @@
 -- The ring of a path is exactly the tasks that it leads to and that lead to themselves.
 use Prim.Native.Nat.{ℕ, zero, suc, _+_, _-_, _*_, _≤_, _<_}
-use mathlib.Core.Path.{_≡_, refl, sym, ap, _∙_}
-use mathlib.Core.Logic.{_↔_, _≢_, _⊎_, inl, inr}
-use mathlib.Core.Bool.{Bool, true, false}
+use mathlib.Core.Path.{_≡_, sym, ap, _∙_}
+use mathlib.Core.Logic.{_↔_, _⊎_, inl, inr}
+use mathlib.Core.Bool.{Bool, true}
 use mathlib.Core.List.{List, [], _∷_}
 use native.Mathlib.Omega.{arith}
 use native.Mathlib.Nat.{mul-suc}
 use borrow.Author.Tests.{eqb-true, eq-eqb, leb-true, leb-false}
 use lib.Dec.{eqb, leb}
-use lib.ListN.{length, getD, take, drop, length-drop}
+use lib.ListN.{length, getD, length-drop}
 use lib.Seq.{getD-take, getD-drop, length-take-le}
-use Rattle.records.specs.declared.TaskNo.{TaskNo}
 use Rattle.executive.specs.declared.Table.{Table}
-use Rattle.executive.specs.Lists.{one, sumOf, nextOf}
+use Rattle.executive.specs.Lists.{sumOf, nextOf}
 use Rattle.executive.specs.WellFormed.{WellFormed}
 use Rattle.why.specs.declared.Step.{Step}
 use Rattle.why.specs.declared.Reasons.{Reasons}
-use Rattle.why.specs.Causes.{WaitsOn}
 use Rattle.why.specs.Paths.{noStep, pathIn, ringIn}
 use Rattle.why.specs.Promises.{LeadsIn, Leads, LeadsOn, standsIn}
-use Rattle.why.proofs.Searching.{decide, passing, next-from, next-passes, some-next, passes-some}
+use Rattle.why.proofs.Searching.{decide, passing, next-passes, some-next, passes-some}
 use Rattle.why.proofs.Waiting.{onto, onto-nobody, Within, waits-onto, onto-waits}
 use Rattle.why.proofs.Walking.{iter, iter-zero, iter-suc, iter-first, iter-add, stays, again, rounds}
-use Rattle.why.proofs.Trail.{at, Trod, Whole}
+use Rattle.why.proofs.Trail.{at, Whole}
 
 -- a list of which no two places pass a test has at most one that does
 few-pass : {A : Type 0} (t : A → Bool) (d : A) (l : List A)

@@ -1,5 +1,5 @@
 -- The text of an answer, piece by piece.
-use Prim.Native.Nat.{ℕ, zero, suc, _+_, _-_, _/_, _%_, _^_, _≤_, _<_}
+use Prim.Native.Nat.{ℕ, _+_, _-_, _/_, _%_, _^_, _<_}
 use mathlib.Core.Path.{_≡_, refl, sym, ap, _∙_}
 use mathlib.Core.Bool.{cond}
 use mathlib.Core.List.{List, [], _∷_, _++_, append-assoc, append-nil}
@@ -14,7 +14,7 @@ use Rattle.executive.specs.declared.Millis.{Millis}
 use Rattle.text.specs.Glyphs.{decimalOf}
 use Rattle.why.specs.declared.Step.{Step}
 use Rattle.why.specs.declared.Reasons.{Reasons}
-use Rattle.why.specs.Paths.{noStep, pathIn, ringIn}
+use Rattle.why.specs.Paths.{noStep, pathIn}
 use Rattle.why.specs.Texts.{clockWord, msWord, refusedWord, ringWord, saidOf, bitsOf, stepLine, stepLines, taskNumbers, ringLine, textOf}
 
 -- ---- one bit more

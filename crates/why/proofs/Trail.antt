@@ -8,22 +8,19 @@ use native.Mathlib.Omega.{arith}
 use native.Mathlib.Numerals.{add-one}
 use borrow.Author.Tests.{eqb-true, eqb-false, eq-eqb, ltb-true, ltb-false}
 use lib.Dec.{eqb, ltb}
-use lib.ListN.{length, getD, take, set, length-set, length-replicate}
+use lib.ListN.{length, getD, take, length-set, length-replicate}
 use lib.Seq.{getD-take, getD-set-same, getD-set-other, length-take-le}
 use Rattle.records.specs.declared.TaskNo.{TaskNo}
 use Rattle.executive.specs.declared.Table.{Table}
-use Rattle.executive.specs.Lists.{one, sumOf}
 use Rattle.executive.specs.WellFormed.{WellFormed}
-use Rattle.why.specs.declared.Cause.{Cause}
 use Rattle.why.specs.declared.Step.{Step}
 use Rattle.why.specs.declared.Reasons.{Reasons}
-use Rattle.why.specs.declared.On.{On}
 use Rattle.why.specs.Causes.{causeOf}
-use Rattle.why.specs.Paths.{noStep, refusal, metAt, longer, closed, unmet, byLink, byCause, taskPath}
-use Rattle.why.proofs.Searching.{decide, next-from, next-passes, some-next, passes-some}
-use Rattle.why.proofs.Onward.{path-ring, path-full, path-more}
+use Rattle.why.specs.Paths.{noStep, refusal, metAt, longer, closed, unmet, byLink, taskPath}
+use Rattle.why.proofs.Searching.{decide, next-passes, some-next, passes-some}
+use Rattle.why.proofs.Onward.{path-ring, path-more}
 use Rattle.why.proofs.Holding.{holds-of}
-use Rattle.why.proofs.Waiting.{named, onto, Within, leads}
+use Rattle.why.proofs.Waiting.{onto, Within, leads}
 use Rattle.why.proofs.Walking.{no-more, iter, iter-zero, iter-suc}
 
 module _ (t : Table) (w : WellFormed t) (k₀ : ℕ) where

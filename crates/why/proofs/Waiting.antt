@@ -2,10 +2,9 @@
 use Prim.Native.Nat.{ℕ, zero, suc, _+_, _-_, _≤_, _<_}
 use mathlib.Core.Path.{_≡_, refl, sym, ap, _∙_}
 use mathlib.Core.Logic.{_⊎_, inl, inr}
-use mathlib.Core.Bool.{true, false}
 use mathlib.Core.List.{List, [], _∷_}
 use native.Mathlib.Omega.{arith}
-use borrow.Author.Tests.{ltb-true, ltb-false, leb-true, leb-false, lt-ltb, eq-eqb}
+use borrow.Author.Tests.{ltb-false, leb-true, leb-false, eq-eqb}
 use lib.Dec.{ltb, leb}
 use lib.ListN.{length, getD, take}
 use Rattle.records.specs.declared.TaskNo.{TaskNo}
@@ -16,7 +15,7 @@ use Rattle.executive.specs.declared.Request.{Request}
 use Rattle.executive.specs.declared.Sub.{Sub}
 use Rattle.executive.specs.declared.Table.{Table}
 use Rattle.executive.specs.Lists.{one, sumOf}
-use Rattle.executive.specs.Places.{noTask, noRequest, taskAt}
+use Rattle.executive.specs.Places.{noRequest, taskAt}
 use Rattle.executive.specs.Pool.{requests}
 use Rattle.executive.specs.States.{dormant, awaitedOf, is, waitsFor}
 use Rattle.executive.specs.Queue.{count}

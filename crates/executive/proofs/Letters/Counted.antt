@@ -11,7 +11,6 @@ use Rattle.records.specs.declared.Call.the-variants as call
 use Rattle.records.specs.Numbers.{Bytes}
 use Rattle.records.specs.Kinds.{byteOf}
 use Rattle.records.specs.Calls as calls
-use Rattle.executive.specs.declared.Message.{Message}
 use Rattle.executive.specs.declared.Table.{Table}
 use Rattle.executive.specs.Lists.{one, _and_}
 use Rattle.executive.specs.States.{takes}

@@ -25,14 +25,14 @@ use Rattle.executive.specs.Lists.{one, nextOf}
 use Rattle.executive.specs.Entries.{withState}
 use Rattle.executive.specs.Places.{Names, taskAt}
 use Rattle.executive.specs.Table.{stays, Plan, apply}
-use Rattle.executive.specs.States.{dormant, awaitMessage, is, takes}
+use Rattle.executive.specs.States.{awaitMessage, is, takes}
 use Rattle.executive.specs.Messages.{noMessage, letters, fits, firstFit, mailAt, withMail}
 use Rattle.executive.specs.Plans.{caller, stateAt, waking, letterOf, sendPlan}
 use Rattle.executive.specs.WellFormed.{WellFormed}
 use Rattle.executive.specs.Sheet.{planOf, marksOf}
 use Rattle.executive.specs.Refusals.{callIn}
 use Rattle.executive.specs.Step.{stepOf}
-use Rattle.executive.specs.Letters.{Letter, letter, unstamped, unnumbered, Letters, Passage, elsewhere, delivers, keeps, hands, passageOf, passageIn, firstThat, letterFits, entered, Agree}
+use Rattle.executive.specs.Letters.{Letter, letter, unstamped, Letters, Passage, elsewhere, delivers, keeps, hands, passageOf, passageIn, firstThat, letterFits, entered, Agree}
 use Rattle.executive.specs.Promises.EveryStart.{accepts}
 use Rattle.executive.specs.Promises.MailLaw.{ToldInEntry, AllTold}
 use Rattle.executive.proofs.Lists.Tests.{not-zero, and-true, true-and}

@@ -3,15 +3,15 @@
 use mathlib.Core.Path.{_≡_, refl, sym, ap, _∙_}
 use mathlib.Core.Bool.{Bool, true, false, cond}
 use mathlib.Core.List.{List, [], _∷_, _++_, map, append-nil}
-use Prim.Native.Nat.{ℕ, zero, suc, _+_, _≤_, _<_}
+use Prim.Native.Nat.{ℕ, suc, _+_, _≤_, _<_}
 use native.Mathlib.Omega.{arith}
-use lib.ListN.{length, getD}
+use lib.ListN.{length}
 use Rattle.executive.specs.Lists.{one, sumOf, nextOf}
 use Rattle.executive.specs.Queue.{behind}
 use Rattle.executive.specs.Pool.{removed}
 use Rattle.executive.specs.Messages.{putBehind}
 use Rattle.executive.specs.Letters.{firstThat, butFirst, allThat}
-use Rattle.executive.proofs.Lists.Tests.{false-not-true, Le, le-yes, le-no}
+use Rattle.executive.proofs.Lists.Tests.{false-not-true, Le, le-no}
 use Rattle.executive.proofs.queue.Law.{behind-is}
 use Rattle.executive.proofs.messages.Lines.{next-suc}
 
@@ -155,16 +155,6 @@ module _ {A B : Type 0} (h : A → B) where
           → map h (cond b xs (x ∷ butFirst (λ (a : A). f (h a)) xs)) ≡ cond b (map h xs) (h x ∷ butFirst f (map h xs))
       go true ih = refl
       go false ih = ap (λ (l : List B). h x ∷ l) ih
-
-  pub map-first : (f : B → Bool) (xs : List A) → map h (firstThat (λ (a : A). f (h a)) xs) ≡ firstThat f (map h xs)
-  unfolding firstThat
-  map-first f [] = refl
-  map-first f (x ∷ xs) = go (f (h x)) (map-first f xs)
-    where
-      go : (b : Bool) → map h (firstThat (λ (a : A). f (h a)) xs) ≡ firstThat f (map h xs)
-          → map h (cond b (x ∷ []) (firstThat (λ (a : A). f (h a)) xs)) ≡ cond b (h x ∷ []) (firstThat f (map h xs))
-      go true ih = refl
-      go false ih = ih
 
   pub map-sum : (g : B → ℕ) (xs : List A) → sumOf (λ (a : A). g (h a)) xs ≡ sumOf g (map h xs)
   unfolding sumOf

@@ -1,5 +1,5 @@
 -- What a step does to the messages that wait: one lemma for all kinds.
-use mathlib.Core.Path.{_≡_, refl, sym, ap, _∙_}
+use mathlib.Core.Path.{_≡_, refl, sym, ap}
 use mathlib.Core.Bool.{Bool, true, false, cond}
 use mathlib.Core.List.{List, [], append-nil}
 use Prim.Native.Nat.{ℕ, suc, _≤_}
@@ -30,7 +30,7 @@ use Rattle.executive.specs.Sheet.{planOf}
 use Rattle.executive.specs.Refusals.{callIn}
 use Rattle.executive.specs.Step.{stepOf}
 use Rattle.executive.specs.Promises.Demands.{planOfRecord}
-use Rattle.executive.specs.Letters.{elsewhere, delivers, keeps, hands, passageOf, passageIn}
+use Rattle.executive.specs.Letters.{elsewhere, delivers, keeps, passageOf, passageIn}
 use Rattle.executive.proofs.messages.Arrays.{letters-with}
 use Rattle.executive.proofs.messages.Unmet.{none-from}
 use Rattle.executive.proofs.Plans.Tick.{advanced-alone}

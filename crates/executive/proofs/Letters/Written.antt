@@ -2,7 +2,7 @@
 use mathlib.Core.Path.{_≡_, refl, sym, ap, _∙_}
 use mathlib.Core.Bool.{Bool, true, false, cond, _||_}
 use mathlib.Core.List.{List, [], _∷_, _++_, map, append-assoc, append-nil}
-use Prim.Native.Nat.{ℕ, suc, _+_, _≤_, _<_}
+use Prim.Native.Nat.{ℕ, suc, _+_, _≤_}
 use native.Mathlib.Omega.{arith}
 use borrow.Author.Tests.{eqb-true, ne-eqb}
 use lib.Dec.{eqb}
@@ -11,7 +11,6 @@ use Rattle.executive.specs.declared.Message.{Message}
 use Rattle.executive.specs.Lists.{one, sumOf, _and_}
 use Rattle.executive.specs.Queue.{AllLe, Desc}
 use Rattle.executive.specs.Pool.{removed}
-use Rattle.executive.specs.States.{takesFrom}
 use Rattle.executive.specs.Messages.{fits, firstFit, putBehind, post, noted}
 use Rattle.executive.specs.WellFormed.{fitting}
 use Rattle.executive.specs.Letters.{Letter, letter, unstamped, unnumbered, Letters, Passage, elsewhere, delivers, keeps, hands, firstThat, butFirst, allThat}

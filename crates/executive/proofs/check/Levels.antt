@@ -21,7 +21,7 @@ use Rattle.executive.specs.Flags.{isSet}
 use Rattle.executive.specs.WellFormed.{Line, Lit, Levels}
 use Rattle.executive.proofs.Lists.Tests.{false-not-true, eqb-self}
 use Rattle.executive.proofs.states.Laws.{ready-named, ready-kind}
-use Rattle.executive.proofs.flags.Bits.{set-none, set-or, set-same, set-only, set-within, same-bits}
+use Rattle.executive.proofs.flags.Bits.{set-none, set-or, set-same, set-only, same-bits}
 
 -- ---- one priority's bit
 bit-below : (p : ℕ) → levelBit p < 2 ^ 16

@@ -2,7 +2,6 @@
 use Prim.Native.Nat.{ℕ, zero, suc, _+_, _-_, _≤_, _<_}
 use mathlib.Core.Path.{_≡_, refl, sym, ap, _∙_}
 use mathlib.Core.Bool.{Bool, true, false, not, cond, _&&_}
-use mathlib.Core.Logic.{_↔_}
 use mathlib.Core.List.{List, [], _∷_, map}
 use native.Mathlib.Omega.{arith}
 use native.Mathlib.Numerals.{add-one}
@@ -17,7 +16,7 @@ use Rattle.executive.specs.declared.Message.{Message}
 use Rattle.executive.specs.declared.Mail.{Mail}
 use Rattle.executive.specs.declared.Rest.{Rest}
 use Rattle.executive.specs.Numbers.{mostTasks, mostSent, highest}
-use Rattle.executive.specs.Lists.{one, sumOf, pad, _and_, upTo, allOf}
+use Rattle.executive.specs.Lists.{one, sumOf, _and_, upTo, allOf}
 use Rattle.executive.specs.Queue.{AllLe, Desc}
 use Rattle.executive.specs.Places.{noTask, taskAt}
 use Rattle.executive.specs.States.{awaitMessage, awaitedOf, isOf, isDormant, takes, takesFrom}

@@ -14,7 +14,6 @@ use Rattle.executive.specs.declared.State.the-variants.{Dormant}
 use Rattle.executive.specs.declared.Task.{Task}
 use Rattle.executive.specs.declared.Request.{Request}
 use Rattle.executive.specs.declared.Sub.{Sub}
-use Rattle.executive.specs.declared.Rest.{Rest}
 use Rattle.executive.specs.declared.Table.{Table}
 use Rattle.executive.specs.Numbers.{mostTasks, mostQueued, lastSub, highest, mostGranule, endOfTime, longest}
 use Rattle.executive.specs.Lists.{one, pad, sumOf, _and_, upTo, allOf}

@@ -6,7 +6,7 @@ use mathlib.Core.List.{List, [], _∷_, _++_, append-assoc, append-nil}
 use native.Mathlib.Omega.{arith}
 use borrow.Author.Tests.{eq-eqb, ne-eqb}
 use lib.Dec.{eqb}
-use lib.ListN.{length, getD, set, length-append}
+use lib.ListN.{length, getD, set}
 use Rattle.executive.specs.declared.Task.{Task}
 use Rattle.executive.specs.declared.Table.{Table}
 use Rattle.executive.specs.declared.Work.{Work}
@@ -86,11 +86,6 @@ module _ (s : List ℕ) where
       go : (b : Bool) → length (cond b (begins (record { 0 = k }) (asks nobody ForNothing (record { 0 = k }) (ownIn s k) 0) never ∷ []) []) ≤ 1
       go true = omega arith
       go false = omega arith
-
-  pub starters-few : (n k : ℕ) → length (starters s n k) ≤ n
-  unfolding starters
-  starters-few zero k = omega arith
-  starters-few (suc n) k = simp length-append (omega (arith, marked-short k, starters-few n (suc k)))
 
   pub start-more : (n : ℕ) (w : Work) → enterAllInFlight (markedStart s (n + 1)) (enterAllInFlight (starters s n 1) w) ≡ enterAllInFlight (starters s (n + 1) 1) w
   start-more n w =

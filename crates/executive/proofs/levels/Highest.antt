@@ -1,11 +1,10 @@
 -- What the lamp shows of a word of 16 bits: its highest set bit, and nothing exactly of word 0.
-use Prim.Native.Nat.{ℕ, zero, suc, _^_, _≤_, _<_}
+use Prim.Native.Nat.{ℕ, zero, suc, _^_, _<_}
 use mathlib.Core.Path.{_≡_, refl, sym, ap, _∙_}
 use mathlib.Core.Logic.{_↔_}
 use mathlib.Core.Bool.{Bool, true, false, cond}
 use native.Mathlib.Omega.{arith}
 use lib.Dec.{ltb}
-use Rattle.executive.specs.declared.Lamp.{Lamp}
 use Rattle.executive.specs.declared.Lamp.the-variants.{Dark, Level}
 use Rattle.executive.specs.Flags.{isSet}
 use Rattle.executive.specs.Lamp.{lampBelow, lampOf}

@@ -1,11 +1,11 @@
 -- The messages and the mail as they stand in their arrays: what the code makes of them is what the definitions say.
 use Prim.Native.Nat.{ℕ, zero, suc, _+_, _-_, _≤_, _<_}
 use mathlib.Core.Path.{_≡_, refl, sym, ap, _∙_}
-use mathlib.Core.Bool.{Bool, true, false}
-use mathlib.Core.List.{List, _∷_, _++_}
+use mathlib.Core.Bool.{false}
+use mathlib.Core.List.{List}
 use native.Mathlib.Omega.{arith}
 use lib.Dec.{eqb}
-use lib.ListN.{length, take, drop, getD, set, length-append, length-drop, length-set}
+use lib.ListN.{length, set, length-append, length-drop, length-set}
 use lib.Seq.{length-take-le, set-out, getD-set-same, getD-set-other}
 use Rattle.executive.specs.declared.Message.{Message}
 use Rattle.executive.specs.declared.Mail.{Mail}
@@ -98,5 +98,3 @@ mail-length r zero x = refl
 mail-length r (suc i) x = length-set (r .mail) i x
 
 -- and the letters are left alone
-pub mail-letters : (r : Rest) (k : ℕ) (x : Mail) → letters (withMail k x r) ≡ letters r
-mail-letters r k x = refl

@@ -1,16 +1,13 @@
 -- No message waits that fits a task which waits for one: what keeps that, as messages and tasks change; and what the search
 -- finds is the first of those that fit.
-use Prim.Native.Nat.{ℕ, zero, suc, _+_, _≤_, _<_}
+use Prim.Native.Nat.{ℕ, _+_, _≤_, _<_}
 use mathlib.Core.Path.{_≡_, refl, sym, ap, _∙_}
-use mathlib.Core.Bool.{Bool, true, false, cond, _&&_, _||_}
+use mathlib.Core.Bool.{Bool, true, false, _&&_, _||_}
 use mathlib.Core.List.{List, [], _∷_, map}
 use native.Mathlib.Omega.{arith}
 use borrow.Author.Tests.{eqb-true}
 use lib.Dec.{eqb, ltb}
 use lib.ListN.{length, getD}
-use Rattle.records.specs.declared.TaskNo.{TaskNo}
-use Rattle.executive.specs.declared.State.{State}
-use Rattle.executive.specs.declared.State.the-variants.{AwaitMessage}
 use Rattle.executive.specs.declared.Task.{Task}
 use Rattle.executive.specs.declared.Message.{Message}
 use Rattle.executive.specs.Lists.{one, sumOf, _and_}

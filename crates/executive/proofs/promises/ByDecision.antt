@@ -7,7 +7,6 @@ use borrow.Author.Tests.{eqb-true, eqb-false}
 use lib.Dec.{eqb}
 use Rattle.records.specs.declared.Call.{Call}
 use Rattle.executive.specs.declared.Table.{Table}
-use Rattle.executive.specs.declared.Marks.{Marks}
 use Rattle.executive.specs.declared.decisions.Decision.{Decision}
 use Rattle.executive.specs.Table.{Plan, apply, applyInFlight}
 use Rattle.executive.specs.Plans.{caller}

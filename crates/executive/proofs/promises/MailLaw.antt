@@ -16,7 +16,7 @@ use Rattle.executive.specs.Plans.{caller}
 use Rattle.executive.specs.WellFormed.{WellFormed}
 use Rattle.executive.specs.Step.{stepOf}
 use Rattle.executive.specs.Configuration.{tasksIn, isConfiguration, dormantTable, starters, freshTable}
-use Rattle.executive.specs.Letters.{Letter, letter, unstamped, unnumbered, Letters, Passage, opened, allThat, isOfThese, ofThese, timesOf, entered, passageIn, lettersFrom, lettersOf, firstWaiting, Agree}
+use Rattle.executive.specs.Letters.{Letter, letter, unstamped, unnumbered, Letters, Passage, opened, allThat, ofThese, timesOf, entered, passageIn, lettersFrom, lettersOf, firstWaiting, Agree}
 use Rattle.executive.specs.Promises.Demands.{after, AllBytes}
 use Rattle.executive.specs.Promises.EveryStart.{counted}
 use Rattle.executive.specs.Promises.MailLaw.{sends14, receives15, LetterAccount, HandsOver, fitPlace, TellsFirst, MailLaw}

@@ -16,7 +16,6 @@ use Rattle.records.specs.Reading.{readAs, readOf}
 use Rattle.executive.specs.declared.Millis.{Millis}
 use Rattle.executive.specs.declared.State.the-variants.{Due}
 use Rattle.executive.specs.declared.Outcome.{Outcome}
-use Rattle.executive.specs.declared.Task.{Task}
 use Rattle.executive.specs.declared.Table.{Table}
 use Rattle.executive.specs.Numbers.{lastUnit}
 use Rattle.executive.specs.Lists.{pad, sumOf, upTo, allOf, each}

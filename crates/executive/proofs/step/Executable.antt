@@ -1,8 +1,8 @@
 -- What a decision that accepts does at a well-formed table, for whoever executes it: it can be done; the caller leaves to
 -- a state that is not ready; each that enters is a task, was not ready, and is.
 use Prim.Native.Nat.{ℕ}
-use mathlib.Core.Path.{_≡_, refl, sym, ap, subst, _∙_}
-use mathlib.Core.Bool.{Bool, true, false}
+use mathlib.Core.Path.{_≡_, ap, _∙_}
+use mathlib.Core.Bool.{true}
 use mathlib.Core.List.{List, [], _∷_}
 use Rattle.records.specs.Numbers.{Bytes}
 use Rattle.executive.specs.declared.Task.{Task}
@@ -26,7 +26,7 @@ use Rattle.executive.proofs.Plans.GoodIsKept.{outReady, JoinsAll, Good}
 use Rattle.executive.proofs.decisions.DeedIsPlan.{means}
 use Rattle.executive.proofs.decisions.CanBeDone.{doable}
 use Rattle.executive.proofs.step.StepIsPlan.{call-good, call-in-range}
-use Rattle.executive.proofs.step.ByDecision.{Accepts, Follows, follows}
+use Rattle.executive.proofs.step.ByDecision.{Accepts, follows}
 
 -- one after the other, each that enters is a task, was not ready, and is
 pub record Enters (j : Join) (ts : List Task) : Type 0 where

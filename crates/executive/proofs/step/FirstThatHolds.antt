@@ -1,13 +1,12 @@
 -- Demand 1: the answer's number is that of the first refusal whose condition holds, and a refusal changes nothing.
-use mathlib.Core.Path.{_≡_, refl, sym, ap, _∙_}
+use mathlib.Core.Path.{_≡_, refl, sym, _∙_}
 use mathlib.Core.Logic.{_↔_, _≢_}
 use mathlib.Core.Bool.{Bool, true, false, not, cond}
 use mathlib.Core.List.{List, [], _∷_, map, tail}
-use Prim.Native.Nat.{ℕ, zero, suc, _<_}
+use Prim.Native.Nat.{ℕ}
 use native.Mathlib.Omega.{arith}
 use borrow.Author.Tests.{eqb-true, ne-eqb}
 use lib.Dec.{eqb}
-use lib.ListN.{getD}
 use Rattle.records.specs.Firsts.{Refusal, firstOf, Decides, Never}
 use Rattle.records.specs.declared.Call.{Call}
 use Rattle.records.proofs.Assured.{promises}

@@ -2,11 +2,10 @@
 use mathlib.Core.Path.{_≡_, refl, sym, ap, _∙_}
 use mathlib.Core.Bool.{Bool, true, false, not, cond}
 use mathlib.Core.List.{List, []}
-use Prim.Native.Nat.{ℕ, _+_, _/_, _%_, _≤_, _<_}
+use Prim.Native.Nat.{ℕ, _/_, _%_, _≤_, _<_}
 use native.Mathlib.Omega.{arith}
 use borrow.Author.Tests.{eqb-true, eqb-false, ltb-false, leb-false}
 use lib.Dec.{leb, ltb, eqb}
-use lib.ListN.{length}
 use Rattle.records.specs.Firsts.{firstOf}
 use Rattle.records.specs.declared.TaskNo.{TaskNo}
 use Rattle.records.specs.declared.FlagNo.{FlagNo}
@@ -29,8 +28,8 @@ use Rattle.executive.specs.Plans.{caller, stateAt, nothing, pausePlan, a
 use Rattle.executive.specs.WellFormed.{WellFormed}
 use Rattle.executive.specs.Sheet.{planOf, noSuchTask, marks}
 use Rattle.executive.specs.Refusals.{nobodyActive, badBody, holdsAny, namesCaller, poolFull, mailFull, endsTime, callRefusals, refusals, calledBy, callIn}
-use Rattle.executive.specs.Step.{noTable, answerOf, hasV, accepted, refused, outcomeOf, performed, stepOf}
-use Rattle.executive.specs.Promises.Demands.{planFor, planOfCall, planOfRecord}
+use Rattle.executive.specs.Step.{noTable, answerOf, hasV, accepted, refused, outcomeOf, stepOf}
+use Rattle.executive.specs.Promises.Demands.{planFor, planOfRecord}
 use Rattle.executive.proofs.Lists.Tests.{false-not-true}
 use Rattle.executive.proofs.refusals.NothingRefuses.{Clear, clear-of, first-none, or-none}
 use Rattle.executive.proofs.Plans.WorkingForm.{WellFormedByPart, formed, well-formed}
@@ -171,10 +170,6 @@ outcome-is t n c w g = go (eqb n 0) refl
     go : (b : Bool) → eqb n 0 ≡ b → Executes t (cond b (accepted t c) (refused t n) .table) (cond b (planOf t c) (nothing t))
     go true e = let k = apply-kept (planOf t c) t w (g (eqb-true n 0 e)) in record { table = plan-in-flight (planOf t c) t; kept = k }
     go false e = record { table = refused-table t n ∙ sym (idle-plan t w); kept = apply-kept (nothing t) t w (nothing-good t w) }
-
-pub performed-is : (t : Table) (c : Call) → WellFormed t → InRange c → Executes t (performed t c .table) (planOfCall t c)
-unfolding performed planOfCall
-performed-is t c w r = outcome-is t (firstOf (callRefusals t c)) c (formed w) (λ e. call-good t c (formed w) r (clear-of t c e))
 
 -- ---- a record's bytes: the call that is read from bytes fits its bytes
 pub call-in-range : (s : List ℕ) → Bytes s → InRange (callIn s)

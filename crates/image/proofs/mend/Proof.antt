@@ -1,5 +1,5 @@
 -- `mend` meets its contract: its three outcomes are the definition's.
-use mathlib.Core.Path.{_≡_, sym}
+use mathlib.Core.Path.{sym}
 use native.Mathlib.Omega.{arith}
 use denote.Ref.{now}
 use Rattle.image.proofs.Listed.{mend-short, mend-none, mend-kept}

@@ -1,6 +1,5 @@
 -- `lines::end_line` meets its contract: there is room for it.
 use native.Mathlib.Omega.{arith}
-use lib.ListN.{length}
 use Rattle.text.proofs.Assured.{put-last}
 use borrow.Author.Needs.{needs}
 use Rattle.bench.proofs.lines.end_line.Statement.{statement}

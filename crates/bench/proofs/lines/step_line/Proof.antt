@@ -1,6 +1,5 @@
 -- `lines::step_line` meets its contract: its pieces are put one after the other, and they fit.
 use native.Mathlib.Omega.{arith}
-use lib.ListN.{length}
 use Rattle.text.proofs.Assured.{put-then, put-last}
 use Rattle.bench.proofs.Short.{line-short}
 use Rattle.bench.specs.Lines.{lineOf}

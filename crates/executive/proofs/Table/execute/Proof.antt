@@ -1,4 +1,4 @@
-use mathlib.Core.Path.{_≡_, refl, ap, _∙_}
+use mathlib.Core.Path.{refl, ap, _∙_}
 use mathlib.Core.List.{List}
 use Rattle.executive.specs.declared.Rest.{Rest}
 use Rattle.executive.specs.declared.Table.{Table}
@@ -7,7 +7,6 @@ use Rattle.executive.specs.Messages.{noMail, withMail}
 use Rattle.executive.specs.Decisions.{named, outFor, joinsFor, changed, meant}
 use Rattle.executive.proofs.queue.InFlight.{begin-flying, depart-fit, finds-beside}
 use Rattle.executive.proofs.executing.Leaving.{depart-rest, changed-neat, done-is}
-use borrow.Author.Needs.{needs}
 use Rattle.executive.proofs.Table.execute.Statement.{statement}
 use Rattle.executive.proofs.Table.execute.Tie as tie
 

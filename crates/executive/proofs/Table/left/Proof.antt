@@ -1,4 +1,4 @@
-use mathlib.Core.Path.{_≡_, refl, ap, sym, _∙_}
+use mathlib.Core.Path.{ap, sym, _∙_}
 use Rattle.executive.proofs.executing.Leaving.{left-gone, left-stays}
 use Rattle.executive.specs.Table.{relit}
 use Rattle.executive.proofs.levels.OnTheWay.{lit-same}

@@ -1,6 +1,6 @@
 use mathlib.Core.Path.{_≡_, sym, _∙_}
 use borrow.Author.Tests.{eq-eqb}
-use lib.Dec.{eqb, leb}
+use lib.Dec.{leb}
 use lib.ListN.{length, length-map, drop}
 use Rattle.executive.specs.Lists.{_and_, upTo, allOf}
 use Rattle.executive.specs.States.{isReady}

@@ -1,5 +1,5 @@
 -- `executive::configuration::start_marked` meets its contract.
-use mathlib.Core.Path.{_≡_, refl, ap, _∙_}
+use mathlib.Core.Path.{_≡_, ap, _∙_}
 use native.Mathlib.Omega.{arith}
 use Prim.Native.Nat.{ℕ, _≤_, _<_, _+_, _-_}
 use Rattle.executive.specs.declared.Work.{Work}

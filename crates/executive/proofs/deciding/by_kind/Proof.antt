@@ -1,4 +1,4 @@
-use mathlib.Core.Path.{_≡_, refl, ap, sym, _∙_}
+use mathlib.Core.Path.{refl}
 use borrow.Author.Tests.{le-ltb}
 use Rattle.executive.specs.Sheet.{decided}
 use borrow.Author.Needs.{needs}

@@ -1,4 +1,3 @@
-use mathlib.Core.Path.{refl}
 use borrow.Author.Needs.{needs}
 use Rattle.executive.proofs.message_check.is_untaken.Statement.{statement}
 use Rattle.executive.proofs.message_check.is_untaken.Tie as tie

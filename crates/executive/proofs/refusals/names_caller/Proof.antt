@@ -1,4 +1,4 @@
-use borrow.Author.Tests.{lt-ltb, le-ltb, le-leb, lt-leb, eq-eqb, ne-eqb}
+use borrow.Author.Tests.{eq-eqb, ne-eqb}
 use Rattle.executive.proofs.refusals.names_caller.Statement.{statement}
 use Rattle.executive.proofs.refusals.names_caller.Tie as tie
 

@@ -1,4 +1,4 @@
-use borrow.Author.Tests.{lt-ltb, le-ltb, le-leb, lt-leb, eq-eqb, ne-eqb}
+use borrow.Author.Tests.{ne-eqb}
 use Rattle.executive.proofs.refusals.no_such_task.Statement.{statement}
 use Rattle.executive.proofs.refusals.no_such_task.Tie as tie
 

@@ -1,4 +1,4 @@
-use mathlib.Core.Path.{_≡_, refl, ap, sym, _∙_}
+use mathlib.Core.Path.{refl}
 use Rattle.executive.specs.Decisions.{queueRequestDeed}
 use borrow.Author.Needs.{needs}
 use Rattle.executive.proofs.starts.start_later.Statement.{statement}

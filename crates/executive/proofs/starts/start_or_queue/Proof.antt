@@ -1,5 +1,5 @@
-use mathlib.Core.Path.{_≡_, refl, ap, sym, _∙_}
-use borrow.Author.Tests.{lt-ltb, le-ltb, le-leb, lt-leb, eq-eqb, ne-eqb}
+use mathlib.Core.Path.{refl}
+use borrow.Author.Tests.{le-leb, lt-leb}
 use Rattle.executive.specs.Decisions.{startOrQueueDeed, askedBy}
 use borrow.Author.Needs.{needs}
 use Rattle.executive.proofs.starts.start_or_queue.Statement.{statement}

@@ -1,4 +1,4 @@
-use mathlib.Core.Path.{_≡_, sym, _∙_}
+use mathlib.Core.Path.{sym, _∙_}
 use borrow.Author.Needs.{needs}
 use Rattle.executive.proofs.check.Subprograms.{free-right}
 use Rattle.executive.proofs.subprogram_check.subs_right.Statement.{statement}

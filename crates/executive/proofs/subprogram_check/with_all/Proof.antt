@@ -1,6 +1,5 @@
 use lib.ListN.{drop, length, length-map}
 use lib.Dec.{eqb}
-use lib.Bits.{bitOr}
 use mathlib.Core.Path.{_≡_, refl, sym, _∙_}
 use native.Mathlib.Omega.{arith}
 use Prim.Native.Nat.{_≤_, _-_}

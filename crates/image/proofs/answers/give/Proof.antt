@@ -1,5 +1,5 @@
 -- `answers::give` meets its contract: the two outcomes by the buffer's length.
-use mathlib.Core.Path.{_≡_, refl, _∙_}
+use mathlib.Core.Path.{refl, _∙_}
 use native.Mathlib.Omega.{arith}
 use lib.ListN.{length}
 use denote.Ref.{now}

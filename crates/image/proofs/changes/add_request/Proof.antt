@@ -1,5 +1,4 @@
 use native.Mathlib.Omega.{arith}
-use mathlib.Core.Path.{_≡_, refl, sym, ap, subst, _∙_}
 use Rattle.image.proofs.Parts.{wrote, request-laid}
 use Rattle.image.proofs.ReadOff.{queued-read}
 use Rattle.image.proofs.RestLaid.{added-laid}

@@ -1,14 +1,11 @@
 use native.Mathlib.Omega.{arith}
-use mathlib.Core.Path.{_≡_, refl, sym, ap, subst, _∙_}
-use Rattle.image.specs.Laid.{Laid, withPool}
+use mathlib.Core.Path.{refl, sym, _∙_}
 use Rattle.executive.specs.Subprograms.{subAt}
 use Rattle.executive.specs.Places.{nobody}
-use Rattle.executive.specs.Lists.{closedAt}
-use Rattle.executive.specs.declared.Sub.{Sub}
 use Rattle.image.proofs.Joined.{row-read}
 use Rattle.image.proofs.Spans.{Wide, each-all}
 use Rattle.image.specs.Image.{placeBytes}
-use Rattle.image.proofs.RestLaid.{having, having-own, having-read, holder-laid, line-closed-laid, waiting-laid, free-laid, handed-on-laid}
+use Rattle.image.proofs.RestLaid.{having-own, having-read, holder-laid, line-closed-laid, waiting-laid, free-laid, handed-on-laid}
 use borrow.Author.Needs.{needs}
 use Rattle.image.proofs.changes.hand_on.Statement.{statement}
 use Rattle.image.proofs.changes.hand_on.Tie as tie

@@ -1,5 +1,4 @@
 use native.Mathlib.Omega.{arith}
-use mathlib.Core.Path.{_≡_, refl, sym, ap, subst, _∙_}
 use Rattle.image.proofs.ReadOff.{sent-read}
 use Rattle.image.proofs.RestLaid.{letters-closed, handed-laid}
 use borrow.Author.Needs.{needs}

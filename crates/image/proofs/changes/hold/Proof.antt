@@ -1,9 +1,6 @@
 use native.Mathlib.Omega.{arith}
-use mathlib.Core.Path.{_≡_, refl, sym, ap, subst, _∙_}
-use Rattle.image.specs.Laid.{Laid, withPool}
 use Rattle.executive.specs.Subprograms.{subAt}
-use Rattle.image.proofs.RestLaid.{having, having-own, holder-laid}
-use Rattle.executive.specs.Subprograms.{entersIt}
+use Rattle.image.proofs.RestLaid.{having-own, holder-laid}
 use borrow.Author.Needs.{needs}
 use Rattle.image.proofs.changes.hold.Statement.{statement}
 use Rattle.image.proofs.changes.hold.Tie as tie

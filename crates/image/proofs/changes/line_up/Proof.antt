@@ -1,10 +1,6 @@
 use native.Mathlib.Omega.{arith}
-use mathlib.Core.Path.{_≡_, refl, sym, ap, subst, _∙_}
-use Rattle.image.specs.Laid.{Laid, withPool}
 use Rattle.executive.specs.Subprograms.{subAt}
-use Rattle.executive.specs.Table.{slidOf}
-use Rattle.executive.specs.declared.Sub.{Sub}
-use Rattle.image.proofs.RestLaid.{having, having-own, having-read, line-slid-laid, waiting-laid, joined-laid}
+use Rattle.image.proofs.RestLaid.{having-own, having-read, line-slid-laid, waiting-laid, joined-laid}
 use borrow.Author.Needs.{needs}
 use Rattle.image.proofs.changes.line_up.Statement.{statement}
 use Rattle.image.proofs.changes.line_up.Tie as tie

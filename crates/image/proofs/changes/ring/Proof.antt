@@ -1,5 +1,4 @@
-use native.Mathlib.Omega.{arith}
-use mathlib.Core.Path.{_≡_, refl, sym, ap, subst, _∙_}
+use mathlib.Core.Path.{_∙_}
 use Rattle.image.proofs.ReadOff.{alarm-read, flags-read}
 use Rattle.image.proofs.RestLaid.{ring-none, ring-late, ring-due}
 use borrow.Author.Needs.{needs}

@@ -1,5 +1,5 @@
 use native.Mathlib.Omega.{arith}
-use mathlib.Core.Path.{_≡_, refl, sym, ap, ap₂, _∙_}
+use mathlib.Core.Path.{_∙_}
 use Rattle.image.proofs.ReadOff.{entry-of, entry-none}
 use borrow.Author.Needs.{needs}
 use Rattle.image.proofs.fields.entry.Statement.{statement}

@@ -1,13 +1,12 @@
 use native.Mathlib.Omega.{arith}
-use mathlib.Core.Path.{_≡_, refl, sym, ap, _∙_}
-use Prim.Native.Nat.{_+_, _-_, _≤_, _<_}
+use mathlib.Core.Path.{_≡_}
+use Prim.Native.Nat.{_+_, _-_, _≤_}
 use lib.ListN.{take, drop}
 use Rattle.executive.specs.declared.Table.{Table}
 use Rattle.image.specs.Laid.{Laid}
 use Rattle.executive.specs.Messages.{noMessage, stayAhead, urgency}
 use Rattle.executive.proofs.Assured.{stay-stop, stay-pass, stay-end}
 use Rattle.image.proofs.Finds.{urgency-read}
-use borrow.Author.Needs.{needs}
 use Rattle.image.proofs.letters.ahead.Statement.{statement}
 use Rattle.image.proofs.letters.ahead.Tie as tie
 

@@ -1,13 +1,12 @@
 use native.Mathlib.Omega.{arith}
-use mathlib.Core.Path.{_≡_, refl, sym, ap, _∙_}
-use Prim.Native.Nat.{_+_, _-_, _≤_, _<_}
+use mathlib.Core.Path.{_≡_, refl, sym, _∙_}
+use Prim.Native.Nat.{_-_, _≤_}
 use lib.ListN.{take, drop}
 use Rattle.executive.specs.declared.Table.{Table}
 use Rattle.image.specs.Laid.{Laid}
 use Rattle.executive.specs.Lists.{nextOf}
 use Rattle.executive.specs.Messages.{noMessage, fits}
 use Rattle.image.proofs.Finds.{fit-hit, fit-pass, fit-end}
-use borrow.Author.Needs.{needs}
 use Rattle.image.proofs.letters.first_fit.Statement.{statement}
 use Rattle.image.proofs.letters.first_fit.Tie as tie
 

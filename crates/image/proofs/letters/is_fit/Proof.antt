@@ -1,5 +1,4 @@
-use native.Mathlib.Omega.{arith}
-use mathlib.Core.Path.{_≡_, refl, sym, ap, _∙_}
+use mathlib.Core.Path.{refl}
 use Rattle.executive.specs.Messages.{noMessage}
 use lib.ListN.{getD}
 use Rattle.image.proofs.Finds.{addressee-read, sender-read, fits-other, fits-any, fits-from}

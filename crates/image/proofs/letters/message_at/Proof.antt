@@ -1,6 +1,5 @@
 use native.Mathlib.Omega.{arith}
-use mathlib.Core.Path.{_≡_, refl, sym, ap, _∙_}
-use Prim.Native.Nat.{_≤_}
+use mathlib.Core.Path.{_≡_, sym, _∙_}
 use lib.ListN.{length, take, List·getD-eq-default}
 use lib.Seq.{length-take-le, getD-take}
 use Rattle.executive.specs.Messages.{noMessage}

@@ -1,5 +1,4 @@
-use native.Mathlib.Omega.{arith}
-use mathlib.Core.Path.{_≡_, refl, sym, ap, _∙_}
+use mathlib.Core.Path.{ap, _∙_}
 use Rattle.executive.specs.States.{takes}
 use Rattle.executive.specs.declared.Task.{Task}
 use Rattle.image.proofs.ReadOff.{sent-read}

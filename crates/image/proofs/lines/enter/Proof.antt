@@ -1,8 +1,5 @@
 use native.Mathlib.Omega.{arith}
-use mathlib.Core.Path.{_≡_, refl, sym, ap, _∙_}
-use mathlib.Core.Bool.{false}
-use Rattle.executive.specs.Decisions.{doing}
-use Rattle.executive.specs.Sheet.{onlyZ}
+use mathlib.Core.Path.{_∙_}
 use Rattle.executive.specs.Subprograms.{subAt}
 use Rattle.image.proofs.Finds.{holder-read, waiting-read, sub-line-at}
 use Rattle.image.proofs.Sheets.{enter-bad, enter-inside, enter-free, enter-held}

@@ -1,5 +1,5 @@
 use native.Mathlib.Omega.{arith}
-use mathlib.Core.Path.{_≡_, refl, sym, ap, _∙_}
+use mathlib.Core.Path.{_∙_}
 use Rattle.image.proofs.Finds.{holder-read}
 use Rattle.image.proofs.Sheets.{exit-bad, exit-outside, exit-done}
 use borrow.Author.Needs.{needs}

@@ -1,6 +1,5 @@
 -- `loading::load` meets its contract: enough bytes load as they are, and others with 0 behind them, which reads the same.
-use mathlib.Core.Path.{sym, _∙_}
-use native.Mathlib.Omega.{arith}
+use mathlib.Core.Path.{_∙_}
 use denote.Ref.{now}
 use Rattle.image.proofs.Padded.{load-same}
 use borrow.Author.Needs.{needs}

@@ -1,5 +1,5 @@
 -- `mending::is_plain` meets its contract: the four numbers that were read are the entry's.
-use mathlib.Core.Path.{_≡_, refl, sym, _∙_}
+use mathlib.Core.Path.{_∙_}
 use native.Mathlib.Omega.{arith}
 use denote.Ref.{now}
 use Rattle.image.specs.Mending.{isPlain}

@@ -1,5 +1,5 @@
 -- `mending::list_rule` meets its contract: plain bytes give no rule of their own, others the stray bytes'.
-use mathlib.Core.Path.{_≡_, sym, _∙_}
+use mathlib.Core.Path.{sym, _∙_}
 use denote.Ref.{now}
 use Rattle.image.proofs.Noted.{rule-plain, rule-stray}
 use borrow.Author.Needs.{needs}

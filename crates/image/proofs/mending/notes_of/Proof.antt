@@ -1,5 +1,5 @@
 -- `mending::notes_of` meets its contract. The invariant: the notes so far, and those of the places from i on, are the list.
-use Prim.Native.Nat.{ℕ, _-_, _≤_}
+use Prim.Native.Nat.{_-_, _≤_}
 use mathlib.Core.Path.{_≡_, refl, _∙_}
 use mathlib.Core.List.{_++_}
 use native.Mathlib.Omega.{arith}

@@ -1,5 +1,5 @@
 -- `mending::put_list` meets its contract: its two writes make one, and the array's type says how many places there are.
-use mathlib.Core.Path.{_≡_, refl, ap, _∙_}
+use mathlib.Core.Path.{refl}
 use mathlib.Core.List.{[], _∷_}
 use native.Mathlib.Omega.{arith}
 use denote.Ref.{now}

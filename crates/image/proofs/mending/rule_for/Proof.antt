@@ -1,5 +1,5 @@
 -- `mending::rule_for` meets its contract. The invariant: the notes up to i are of other tasks.
-use Prim.Native.Nat.{ℕ, _-_, _≤_}
+use Prim.Native.Nat.{_-_, _≤_}
 use mathlib.Core.Path.{_≡_, refl}
 use native.Mathlib.Omega.{arith}
 use lib.ListN.{length, drop}

@@ -1,12 +1,11 @@
 use native.Mathlib.Omega.{arith}
-use mathlib.Core.Path.{_≡_, refl, sym, ap, _∙_}
-use Prim.Native.Nat.{_+_, _-_, _≤_, _<_}
+use mathlib.Core.Path.{_≡_, sym, _∙_}
+use Prim.Native.Nat.{_+_, _-_, _≤_}
 use lib.ListN.{take, drop}
 use Rattle.executive.specs.declared.Table.{Table}
 use Rattle.image.specs.Laid.{Laid}
 use Rattle.executive.specs.Pool.{placeOf}
 use Rattle.image.proofs.Finds.{target-read, first-hit, first-miss, first-none}
-use borrow.Author.Needs.{needs}
 use Rattle.image.proofs.runs.first_for.Statement.{statement}
 use Rattle.image.proofs.runs.first_for.Tie as tie
 

@@ -1,6 +1,6 @@
 use native.Mathlib.Omega.{arith}
-use mathlib.Core.Path.{_≡_, refl, sym, ap, _∙_}
-use Prim.Native.Nat.{_+_, _-_, _≤_, _<_}
+use mathlib.Core.Path.{_≡_, refl}
+use Prim.Native.Nat.{_-_, _≤_}
 use mathlib.Core.Bool.{not}
 use lib.ListN.{drop}
 use Rattle.executive.specs.declared.Table.{Table}
@@ -9,7 +9,6 @@ use Rattle.executive.specs.declared.Sub.{Sub}
 use Rattle.executive.specs.Lists.{allOf}
 use Rattle.executive.specs.Subprograms.{holds?}
 use Rattle.image.proofs.Finds.{holder-read, held-here, held-on, held-none}
-use borrow.Author.Needs.{needs}
 use Rattle.image.proofs.runs.holds_any.Statement.{statement}
 use Rattle.image.proofs.runs.holds_any.Tie as tie
 

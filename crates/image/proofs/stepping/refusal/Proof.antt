@@ -1,4 +1,4 @@
-use mathlib.Core.Path.{_≡_, refl, sym, ap, _∙_}
+use mathlib.Core.Path.{_∙_}
 use Rattle.image.proofs.Stepwise.{refused-one, refused-other}
 use borrow.Author.Needs.{needs}
 use Rattle.image.proofs.stepping.refusal.Statement.{statement}

@@ -1,4 +1,4 @@
-use mathlib.Core.Path.{sym, _∙_, refl}
+use mathlib.Core.Path.{sym, _∙_}
 use borrow.Author.Needs.{needs}
 use Rattle.mender.proofs.entries.awaits_link.Statement.{statement}
 use Rattle.mender.proofs.entries.awaits_link.Tie as tie

@@ -1,4 +1,3 @@
-use mathlib.Core.Path.{refl}
 use borrow.Author.Tests.{le-leb, lt-leb}
 use Rattle.mender.proofs.entries.own_kept.Statement.{statement}
 use Rattle.mender.proofs.entries.own_kept.Tie as tie

@@ -1,4 +1,4 @@
-use mathlib.Core.Path.{sym, refl}
+use mathlib.Core.Path.{sym}
 use borrow.Author.Needs.{needs}
 use Rattle.mender.proofs.CodeLinks.{mark-place, mark-no-place}
 use Rattle.mender.proofs.links.mark.Statement.{statement}

@@ -1,4 +1,4 @@
-use mathlib.Core.Path.{sym, refl}
+use mathlib.Core.Path.{sym}
 use borrow.Author.Needs.{needs}
 use Rattle.mender.proofs.CodeLinks.{named-place, named-no-place}
 use Rattle.mender.proofs.links.named_at.Statement.{statement}

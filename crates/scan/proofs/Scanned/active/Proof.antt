@@ -1,4 +1,3 @@
-use mathlib.Core.Path.{_≡_, refl, sym, ap, _∙_}
 use native.Mathlib.Omega.{arith}
 use Rattle.scan.proofs.Choices.{number-is, number-none}
 use borrow.Author.Needs.{needs}

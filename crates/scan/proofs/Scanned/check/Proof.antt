@@ -1,5 +1,4 @@
-use mathlib.Core.Path.{_≡_, refl, sym, ap, _∙_}
-use native.Mathlib.Omega.{arith}
+use mathlib.Core.Path.{sym, _∙_}
 use Rattle.scan.proofs.Stepping.{checked-right, checked-wrong}
 use borrow.Author.Needs.{needs}
 use Rattle.scan.proofs.Scanned.check.Statement.{statement}

@@ -1,5 +1,4 @@
-use mathlib.Core.Path.{_≡_, refl, sym, ap, _∙_}
-use native.Mathlib.Omega.{arith}
+use mathlib.Core.Path.{refl}
 use Rattle.scan.specs.Sound.{isSound}
 use borrow.Author.Needs.{needs}
 use Rattle.scan.proofs.Scanned.is_sound.Statement.{statement}

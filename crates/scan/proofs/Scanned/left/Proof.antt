@@ -1,5 +1,4 @@
-use mathlib.Core.Path.{_≡_, refl, sym, ap, _∙_}
-use native.Mathlib.Omega.{arith}
+use mathlib.Core.Path.{sym, _∙_}
 use Rattle.scan.proofs.Moving.{left-gone, left-stays}
 use borrow.Author.Needs.{needs}
 use Rattle.scan.proofs.Scanned.left.Statement.{statement}

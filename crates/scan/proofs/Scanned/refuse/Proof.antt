@@ -1,6 +1,5 @@
-use mathlib.Core.Path.{_≡_, refl, sym, ap, _∙_}
-use native.Mathlib.Omega.{arith}
-use borrow.Author.Tests.{eq-eqb, ne-eqb}
+use mathlib.Core.Path.{refl}
+use borrow.Author.Tests.{ne-eqb}
 use Rattle.scan.specs.Step.{refusedScan}
 use borrow.Author.Needs.{needs}
 use Rattle.scan.proofs.Scanned.refuse.Statement.{statement}

@@ -1,13 +1,12 @@
-use mathlib.Core.Path.{_≡_, refl, sym, ap, _∙_}
+use mathlib.Core.Path.{_≡_, refl, sym, _∙_}
 use native.Mathlib.Omega.{arith}
 use borrow.Author.Needs.{needs}
-use Prim.Native.Nat.{_+_, _-_, _≤_}
+use Prim.Native.Nat.{_-_, _≤_}
 use borrow.Author.Tests.{not-true, not-false, le-leb}
 use lib.Dec.{leb}
 use lib.ListN.{drop}
 use Rattle.executive.specs.Lists.{allOf}
 use Rattle.scan.specs.Entries.{noEntry}
-use mathlib.Core.Bool.{false}
 use Rattle.scan.specs.Entries.{mostArrivals}
 use Rattle.executive.specs.Lists.{_and_}
 use Rattle.scan.proofs.Basics.{and-none}

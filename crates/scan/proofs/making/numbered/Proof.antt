@@ -3,11 +3,9 @@ use native.Mathlib.Omega.{arith}
 use borrow.Author.Needs.{needs}
 use Prim.Native.Nat.{_+_, _-_, _≤_}
 use mathlib.Core.List.{_++_}
-use mathlib.Core.Bool.{cond}
 use lib.ListN.{length, take, drop, getD, length-set}
 use Rattle.executive.specs.States.{ready, isOf}
 use Rattle.executive.specs.Places.{noTask}
-use Rattle.executive.specs.Lists.{one}
 use Rattle.scan.specs.Making.{numberedFrom}
 use Rattle.scan.proofs.Basics.{one-small}
 use Rattle.scan.proofs.Loops.{take-more, take-all, number-on, number-end}

@@ -1,7 +1,7 @@
 -- `tallies::count_of` meets its contract. The invariant: what was counted and what is to be counted from i on make the
 -- whole, and the entry at i is counted.
 use Prim.Native.Nat.{_+_, _-_, _≤_, _<_}
-use mathlib.Core.Path.{_≡_, refl, sym, ap, _∙_}
+use mathlib.Core.Path.{_≡_, ap}
 use mathlib.Core.Bool.{true}
 use native.Mathlib.Omega.{arith}
 use lib.ListN.{drop, getD}

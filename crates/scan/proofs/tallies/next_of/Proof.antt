@@ -1,14 +1,13 @@
 -- `tallies::next_of` meets its contract. The invariant: none is counted between the first place and i.
 use Prim.Native.Nat.{_-_, _≤_}
-use mathlib.Core.Path.{_≡_, refl, sym, ap, _∙_}
+use mathlib.Core.Path.{_≡_, sym, ap, _∙_}
 use native.Mathlib.Omega.{arith}
 use lib.ListN.{drop}
 use borrow.Author.Needs.{needs}
-use borrow.Author.Tests.{not-true, not-false}
 use Rattle.executive.specs.Lists.{one}
 use Rattle.scan.specs.declared.Entry.{Entry}
 use Rattle.scan.specs.Entries.{noEntry, passes, countOf}
-use Rattle.scan.proofs.Loops.{sum-on, sum-end}
+use Rattle.scan.proofs.Loops.{sum-on}
 use Rattle.scan.proofs.tallies.next_of.Statement.{statement}
 use Rattle.scan.proofs.tallies.next_of.Tie as tie
 

@@ -1,5 +1,5 @@
 -- `glyphs::decimal` meets its contract: it asks for the room that all digits take.
-use Prim.Native.Nat.{_+_, _≤_}
+use Prim.Native.Nat.{_+_}
 use mathlib.Core.Path.{sym, ap, _∙_}
 use lib.Dec.{leb}
 use lib.ListN.{length}

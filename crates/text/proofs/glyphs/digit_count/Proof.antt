@@ -1,9 +1,8 @@
 -- `glyphs::digit_count` meets its contract: the digits counted and those left are all of them.
 use native.Mathlib.Omega.{arith}
-use Prim.Native.Nat.{_+_, _≤_, _<_, _/_}
-use mathlib.Core.Path.{_≡_, refl, ap}
+use Prim.Native.Nat.{_+_, _≤_, _<_}
+use mathlib.Core.Path.{_≡_, ap}
 use lib.ListN.{length}
-use borrow.Author.Needs.{needs}
 use Rattle.text.specs.Glyphs.{decimalOf}
 use Rattle.text.proofs.Digits.{decimal-one, decimal-length, decimal-short}
 use Rattle.text.proofs.glyphs.digit_count.Statement.{statement}

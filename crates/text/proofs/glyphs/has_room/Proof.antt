@@ -3,7 +3,6 @@ use native.Mathlib.Omega.{arith}
 use Prim.Native.Nat.{_+_}
 use mathlib.Core.Path.{sym}
 use borrow.Author.Tests.{lt-leb}
-use borrow.Author.Needs.{needs}
 use Rattle.text.proofs.Digits.{leb-within}
 use Rattle.text.proofs.glyphs.has_room.Statement.{statement}
 use Rattle.text.proofs.glyphs.has_room.Tie as tie

@@ -1,18 +1,15 @@
 -- `causes::ahead` meets its contract: place after place of the queue is looked at.
 use borrow.Author.Needs.{needs}
 use native.Mathlib.Omega.{arith}
-use Prim.Native.Nat.{ℕ, _+_, _-_, _≤_, _<_}
-use mathlib.Core.Path.{_≡_, refl, sym, ap, _∙_}
-use mathlib.Core.Bool.{Bool}
-use mathlib.Core.List.{List}
+use Prim.Native.Nat.{_-_}
+use mathlib.Core.Path.{_≡_, ap, _∙_}
 use borrow.Author.Tests.{eq-eqb, ne-eqb}
 use lib.Dec.{eqb}
-use lib.ListN.{length, getD, take}
-use lib.Seq.{getD-take, length-take-le, take-all}
+use lib.ListN.{length, take}
+use lib.Seq.{getD-take, length-take-le}
 use Rattle.records.specs.declared.TaskNo.{TaskNo}
 use Rattle.why.proofs.Searching.{Looks, look-start, look-hit, look-on, look-over}
 use Rattle.executive.specs.Places.{nobody}
-use Rattle.why.specs.Causes.{aheadIn}
 use Rattle.why.proofs.causes.ahead.Statement.{statement}
 use Rattle.why.proofs.causes.ahead.Tie as tie
 

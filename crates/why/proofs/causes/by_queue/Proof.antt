@@ -1,6 +1,5 @@
 -- `causes::by_queue` meets its contract: nobody ahead is active.
-use native.Mathlib.Omega.{arith}
-use mathlib.Core.Path.{_≡_, refl, sym, ap, _∙_}
+use mathlib.Core.Path.{refl}
 use borrow.Author.Tests.{eq-eqb, ne-eqb}
 use borrow.Author.Needs.{needs}
 use Rattle.why.proofs.causes.by_queue.Statement.{statement}

@@ -1,6 +1,5 @@
 -- `causes::by_start` meets its contract.
-use native.Mathlib.Omega.{arith}
-use mathlib.Core.Path.{_≡_, refl, sym, ap, _∙_}
+use mathlib.Core.Path.{refl}
 use borrow.Author.Needs.{needs}
 use Rattle.why.proofs.causes.by_start.Statement.{statement}
 use Rattle.why.proofs.causes.by_start.Tie as tie

@@ -1,7 +1,5 @@
 -- `causes::cause_of` meets its contract: state by state.
-use native.Mathlib.Omega.{arith}
-use mathlib.Core.Path.{_≡_, refl, sym, ap, _∙_}
-use Rattle.why.specs.Causes.{causeOf, causeIn}
+use mathlib.Core.Path.{refl, _∙_}
 use Rattle.why.proofs.Causing.{ahead-items, cause-at}
 use borrow.Author.Needs.{needs}
 use Rattle.why.proofs.causes.cause_of.Statement.{statement}

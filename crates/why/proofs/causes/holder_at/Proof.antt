@@ -1,7 +1,7 @@
 -- `causes::holder_at` meets its contract: past the last there is a free one.
 use native.Mathlib.Omega.{arith}
-use mathlib.Core.Path.{_≡_, refl, sym, ap}
-use lib.ListN.{length, List·getD-eq-default}
+use mathlib.Core.Path.{sym, ap}
+use lib.ListN.{List·getD-eq-default}
 use Rattle.executive.specs.declared.Sub.{Sub}
 use Rattle.executive.specs.Subprograms.{noSub}
 use Rattle.why.proofs.Causing.{getD-within}

@@ -1,7 +1,7 @@
 -- `causes::target_at` meets its contract: 0 and what is past the queued ones is no place.
 use native.Mathlib.Omega.{arith}
 use mathlib.Core.Path.{_∙_, ap, sym}
-use lib.ListN.{length, take}
+use lib.ListN.{take}
 use lib.Seq.{length-take-le}
 use Rattle.why.specs.Causes.{targetAt}
 use Rattle.why.proofs.Causing.{target-none, target-past, target-in}

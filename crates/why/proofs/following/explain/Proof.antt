@@ -1,7 +1,7 @@
 -- `following::explain` meets its contract: the check, the task's number, and then the path.
 use borrow.Author.Needs.{needs}
 use native.Mathlib.Omega.{arith}
-use mathlib.Core.Path.{_≡_, refl, sym, ap, _∙_}
+use mathlib.Core.Path.{sym, ap, _∙_}
 use Rattle.why.specs.Paths.{taskPath, unmet}
 use Rattle.why.proofs.Answering.{sized, formed-by, ill-by, answer-one, answer-nobody, answer-over, answer-path}
 use Rattle.why.proofs.following.explain.Statement.{statement}

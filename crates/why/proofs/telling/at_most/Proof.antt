@@ -1,12 +1,9 @@
 -- `telling::at_most` meets its contract: there are no more places.
 use native.Mathlib.Omega.{arith}
-use Prim.Native.Nat.{ℕ, _+_, _-_, _*_, _≤_, _<_}
-use mathlib.Core.Path.{_≡_, refl, sym, ap, _∙_}
-use lib.ListN.{length, getD, take, drop}
-use Rattle.text.specs.Glyphs.{Adds}
-use Rattle.text.proofs.Assured.{promises, nothing, then, named, put-last}
+use Prim.Native.Nat.{_-_}
+use mathlib.Core.Path.{_≡_, refl, sym, _∙_}
+use lib.ListN.{length}
 use lib.Seq.{take-all}
-use borrow.Author.Needs.{needs}
 use Rattle.why.proofs.telling.at_most.Statement.{statement}
 use Rattle.why.proofs.telling.at_most.Tie as tie
 

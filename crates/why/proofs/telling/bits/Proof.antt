@@ -1,11 +1,10 @@
 -- `telling::bits` meets its contract: bit after bit, what is left is the word shifted.
 use borrow.Author.Needs.{needs}
 use native.Mathlib.Omega.{arith}
-use Prim.Native.Nat.{ℕ, _+_, _-_, _*_, _≤_, _<_}
-use mathlib.Core.Path.{_≡_, refl, sym, ap, _∙_}
-use lib.ListN.{length, getD, take, drop}
+use Prim.Native.Nat.{_+_, _-_, _*_, _≤_}
+use mathlib.Core.Path.{_≡_, ap}
 use Rattle.text.specs.Glyphs.{Adds}
-use Rattle.text.proofs.Assured.{promises, nothing, then, named, put-last}
+use Rattle.text.proofs.Assured.{nothing, then, named}
 use denote.Ref.{now}
 use Prim.Native.Nat.{_/_, _^_}
 use Rattle.why.specs.Texts.{bitsOf}

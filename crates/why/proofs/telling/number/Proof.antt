@@ -1,10 +1,7 @@
 -- `telling::number` meets its contract: a number of 64 bits has at most twenty digits.
 use native.Mathlib.Omega.{arith}
-use Prim.Native.Nat.{ℕ, _+_, _-_, _*_, _≤_, _<_}
-use mathlib.Core.Path.{_≡_, refl, sym, ap, _∙_}
-use lib.ListN.{length, getD, take, drop}
-use Rattle.text.specs.Glyphs.{Adds}
-use Rattle.text.proofs.Assured.{promises, nothing, then, named, put-last}
+use Prim.Native.Nat.{_-_}
+use Rattle.text.proofs.Assured.{promises, put-last}
 use borrow.Author.Needs.{needs}
 use Rattle.why.proofs.telling.number.Statement.{statement}
 use Rattle.why.proofs.telling.number.Tie as tie

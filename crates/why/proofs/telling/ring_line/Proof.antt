@@ -1,10 +1,9 @@
 -- `telling::ring_line` meets its contract: with no task in the ring nothing is added.
 use native.Mathlib.Omega.{arith}
-use Prim.Native.Nat.{ℕ, _+_, _-_, _*_, _≤_, _<_}
-use mathlib.Core.Path.{_≡_, refl, sym, ap, _∙_}
-use lib.ListN.{length, getD, take, drop}
-use Rattle.text.specs.Glyphs.{Adds}
-use Rattle.text.proofs.Assured.{promises, nothing, then, named, put-last}
+use Prim.Native.Nat.{_-_}
+use mathlib.Core.Path.{_≡_}
+use lib.ListN.{length, take, drop}
+use Rattle.text.proofs.Assured.{nothing, then, named, put-last}
 use denote.Ref.{now}
 use lib.ListN.{length-drop}
 use lib.Seq.{length-take-le}

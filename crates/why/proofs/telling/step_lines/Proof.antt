@@ -1,14 +1,12 @@
 -- `telling::step_lines` meets its contract: line after line.
 use borrow.Author.Needs.{needs}
 use native.Mathlib.Omega.{arith}
-use Prim.Native.Nat.{ℕ, _+_, _-_, _*_, _≤_, _<_}
-use mathlib.Core.Path.{_≡_, refl, sym, ap, _∙_}
-use lib.ListN.{length, getD, take, drop}
+use Prim.Native.Nat.{_+_, _-_, _*_, _≤_, _<_}
+use mathlib.Core.Path.{_≡_, ap}
+use lib.ListN.{length, take}
 use Rattle.text.specs.Glyphs.{Adds}
-use Rattle.text.proofs.Assured.{promises, nothing, then, named, put-last}
+use Rattle.text.proofs.Assured.{nothing, then, named}
 use denote.Ref.{now}
-use lib.Seq.{length-take-le, take-all}
-use Rattle.why.specs.Paths.{noStep}
 use Rattle.why.specs.Texts.{stepLines}
 use Rattle.why.proofs.Told.{lines-none, lines-more}
 use Rattle.why.proofs.telling.step_lines.Statement.{statement}

@@ -1,11 +1,11 @@
 -- `telling::task_numbers` meets its contract: task after task.
 use borrow.Author.Needs.{needs}
 use native.Mathlib.Omega.{arith}
-use Prim.Native.Nat.{ℕ, _+_, _-_, _*_, _≤_, _<_}
-use mathlib.Core.Path.{_≡_, refl, sym, ap, _∙_}
+use Prim.Native.Nat.{_+_, _-_, _*_, _≤_, _<_}
+use mathlib.Core.Path.{_≡_, sym, ap, _∙_}
 use lib.ListN.{length, getD, take, drop}
 use Rattle.text.specs.Glyphs.{Adds}
-use Rattle.text.proofs.Assured.{promises, nothing, then, named, put-last}
+use Rattle.text.proofs.Assured.{nothing, then, named}
 use denote.Ref.{now}
 use mathlib.Core.List.{_∷_, _++_}
 use lib.ListN.{length-drop}

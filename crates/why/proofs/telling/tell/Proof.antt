@@ -1,10 +1,7 @@
 -- `telling::tell` meets its contract: what stands in its own buffer is the text, and it is handed out whole.
 use native.Mathlib.Omega.{arith}
-use Prim.Native.Nat.{ℕ, _+_, _-_, _*_, _≤_, _<_}
-use mathlib.Core.Path.{_≡_, refl, sym, ap, _∙_}
-use lib.ListN.{length, getD, take, drop}
-use Rattle.text.specs.Glyphs.{Adds}
-use Rattle.text.proofs.Assured.{promises, nothing, then, named, put-last}
+use Prim.Native.Nat.{_-_}
+use mathlib.Core.Path.{sym}
 use lib.Seq.{length-take-le}
 use Rattle.text.proofs.Assured.{inside}
 use borrow.Author.Needs.{needs}

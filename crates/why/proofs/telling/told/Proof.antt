@@ -1,10 +1,7 @@
 -- `telling::told` meets its contract: the lines one after the other.
 use native.Mathlib.Omega.{arith}
-use Prim.Native.Nat.{ℕ, _+_, _-_, _*_, _≤_, _<_}
-use mathlib.Core.Path.{_≡_, refl, sym, ap, _∙_}
-use lib.ListN.{length, getD, take, drop}
-use Rattle.text.specs.Glyphs.{Adds}
-use Rattle.text.proofs.Assured.{promises, nothing, then, named, put-last}
+use Prim.Native.Nat.{_-_}
+use Rattle.text.proofs.Assured.{then, named}
 use Rattle.why.proofs.Told.{text-refused, text-path}
 use borrow.Author.Needs.{needs}
 use Rattle.why.proofs.telling.told.Statement.{statement}
