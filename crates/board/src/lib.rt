@@ -49,9 +49,9 @@ pub extern "C" fn quermanic_why(image: &[u8], task: u8, out: &mut [u8]) -> u8
     image::why(image, task, out)
 }
 
-// Mends an image: 0 and the mended image, with the list of what changed at the start of its buffer. Where that is shorter
-// than 33 bytes: 30; where the bytes have not an image's length: 1; where clock, granule or task count is out of range: 17;
-// and then no byte of any buffer is changed.
+// Mends an image: 0 and the mended image, with the list of what changed at the start of its buffer. Where that is
+// shorter than 33 bytes: 30; where the bytes have not an image's length: 1; where clock, granule or task count is out
+// of range: 17; and then no byte of any buffer is changed.
 #[no_mangle]
 pub extern "C" fn quermanic_mend(image: &mut [u8], list: &mut [u8]) -> u8
     ensures { λ r. ⌜ MendsImage (now (image .entry)) (now (list .entry)) (now (image .exit)) (now (list .exit)) r ⌝ }

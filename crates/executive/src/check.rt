@@ -26,8 +26,8 @@ fn pool_right(tasks: [Task; 16], pool: [Request; 32], queued: usize, count: u8) 
     waiters::waiters_right(tasks, pool, queued, count) && passes::free_from(pool, queued)
 }
 
-// Every rule but the queue's: the numbers, the entries, the alarms, the pool, the subprograms, the messages and the mail.
-// Each array is taken out once.
+// Every rule but the queue's: the numbers, the entries, the alarms, the pool, the subprograms, the messages and the
+// mail. Each array is taken out once.
 pub fn all_but_queue(tasks: [Task; 16], rest: Rest) -> bool
     ensures { λ r. ⌜ r ≡ allButQueue tasks rest ⌝ }
 {

@@ -180,8 +180,8 @@ pub fn decide(tasks: [Task; 16], rest: Rest, caller: TaskNo, bytes: &[u8]) -> De
     decide_record(tasks, rest, caller, bytes)
 }
 
-// The same for an engine that lets tasks leave and enter by itself: the decision, and the rest after it. What is refused
-// keeps the rest.
+// The same for an engine that lets tasks leave and enter by itself: the decision, and the rest after it. What is
+// refused keeps the rest.
 pub fn settle(tasks: [Task; 16], rest: Rest, caller: TaskNo, bytes: &[u8]) -> Settled
     ensures { λ r. ⌜ r ≡ settledFor tasks rest caller (now (bytes .entry)) ⌝ }
 {

@@ -132,7 +132,8 @@ impl Table {
 
     // The caller leaves, if it is to.
     fn left(mut self, how: Leave) -> Table
-        requires { ⌜ ArraysInOrder self × Line isReady (self .tasks) (line self) × (self .levels ≡ levelsOf (view self)) ⌝ }
+        requires { ⌜ ArraysInOrder self × Line isReady (self .tasks) (line self)
+            × (self .levels ≡ levelsOf (view self)) ⌝ }
         ensures { λ r. ⌜ r ≡ relit (depart (outFor how) self) ⌝ }
     {
         if leaves(how) {

@@ -164,8 +164,10 @@ pub(crate) fn alarm(
     f: FlagNo,
 ) -> Decision
     requires { ⌜ now .0 ≤ endOfTime ⌝ }
-    ensures { λ r. ⌜ r ≡ cond (ltb lastUnit unit || ltb 31 (f .0)) (refusing 6) (cond (not (eqb (running .0) 0)) (refusing 9)
-        (doing (marks (eqb count 0 and isSet flags (f .0)) false (isSet flags (f .0))) (alarmDeed tasks now flags unit count f))) ⌝ }
+    ensures { λ r. ⌜ r ≡ cond (ltb lastUnit unit || ltb 31 (f .0)) (refusing 6)
+        (cond (not (eqb (running .0) 0)) (refusing 9)
+        (doing (marks (eqb count 0 and isSet flags (f .0)) false (isSet flags (f .0)))
+        (alarmDeed tasks now flags unit count f))) ⌝ }
 {
     if refusals::bad_alarm(unit, f) {
         return decisions::refused(6);

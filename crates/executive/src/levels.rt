@@ -22,8 +22,8 @@ pub(crate) fn level_bit(p: u8) -> u16
     1u16 << (p as u32)
 }
 
-// The word once the first of those ready, of priority p, has left: without its bit, unless the next in line has the same
-// priority.
+// The word once the first of those ready, of priority p, has left: without its bit, unless the next in line has the
+// same priority.
 pub(crate) fn cleared(levels: u16, p: u8, next: u8) -> u16
     requires { ⌜ levelBit p ≤ levels ⌝ }
     ensures { λ r. ⌜ r ≡ cond (eqb next p) levels (levels - levelBit p) ⌝ }

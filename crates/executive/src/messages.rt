@@ -131,8 +131,8 @@ fn dropped_at(messages: [Message; 32], at: usize) -> [Message; 32]
     ms
 }
 
-// Kind 14: a task that waits for it gets it and enters; else it waits, behind all of equal or higher priority. The state of
-// the addressee, the caller's priority.
+// Kind 14: a task that waits for it gets it and enters; else it waits, behind all of equal or higher priority. The
+// state of the addressee, the caller's priority.
 pub(crate) fn send(
     s: State,
     p: u8,
@@ -227,7 +227,8 @@ fn message_at(messages: [Message; 32], i: usize, n: usize) -> Message
     NO_MESSAGE
 }
 
-// Kind 15: the first waiting message that fits is handed out; where there is none, the caller departs and waits for one.
+// Kind 15: the first waiting message that fits is handed out; where there is none, the caller departs and waits for
+// one.
 pub(crate) fn receive(
     messages: [Message; 32],
     sent: u8,
@@ -275,7 +276,8 @@ impl Rest {
         self
     }
 
-    // The rest with a message put behind all of equal or higher priority; where the last place is taken it stays as it is.
+    // The rest with a message put behind all of equal or higher priority; where the last place is taken it stays as it
+    // is.
     pub fn post_in(mut self, m: Message) -> Rest
         ensures { λ r. ⌜ r ≡ postIn m self ⌝ }
     {

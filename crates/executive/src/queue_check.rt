@@ -33,7 +33,8 @@ pub(crate) fn blank_from(queue: [TaskNo; 16], ready: usize) -> bool
 // Those ready are tasks, in descending priority, and the word of their levels is this one.
 fn descends(tasks: [Task; 16], queue: [TaskNo; 16], ready: usize, count: u8, levels: u16) -> bool
     requires { ⌜ (ready ≤ 16) × (count ≤ 16) ⌝ }
-    ensures { λ r. ⌜ r ≡ (falls tasks count 15 (take ready queue) and eqb levels (levelsOf (items tasks (take ready queue)))) ⌝ }
+    ensures { λ r. ⌜ r ≡ (falls tasks count 15 (take ready queue) and eqb levels
+        (levelsOf (items tasks (take ready queue)))) ⌝ }
 {
     let mut p: u8 = 15;
     let mut word: u16 = 0;

@@ -81,8 +81,8 @@ pub fn mask_of(s: State) -> u32
     }
 }
 
-// The number of what a task in this state waits for: a subprogram's, or the sender's of a message, 0 for any; 0 where it
-// waits for neither.
+// The number of what a task in this state waits for: a subprogram's, or the sender's of a message, 0 for any; 0 where
+// it waits for neither.
 pub fn awaited_of(s: State) -> u8
     ensures { λ r. ⌜ AwaitedIs s r ⌝ }
 {

@@ -183,7 +183,8 @@ impl Rest {
 
     // Task k joins its line.
     pub(crate) fn with_waiter(self, m: SubNo, k: TaskNo, at: usize) -> Rest
-        requires { ⌜ (m .0 < subCount) × LineInOrder (subAt self (m .0)) × (at ≤ subAt self (m .0) .waiting) × (subAt self (m .0) .waiting < mostTasks) ⌝ }
+        requires { ⌜ (m .0 < subCount) × LineInOrder (subAt self (m .0)) × (at ≤ subAt self (m .0) .waiting)
+            × (subAt self (m .0) .waiting < mostTasks) ⌝ }
         ensures { λ r. ⌜ r ≡ withSub (m .0) (joinsLine at k (subAt self (m .0))) self ⌝ }
     {
         let subs = self.subs;

@@ -71,7 +71,8 @@ fn take_request(b: &mut [u8], i: usize)
 // A message waits at a place: those from there on move down.
 fn post(b: &mut [u8], m: Message, at: usize)
     requires { ⌜ length (now b) ≡ imageLength ⌝ }
-    ensures { λ _. ⌜ ((t : Table) → Laid (now (b .entry)) t → LettersInOrder (t .rest) → at ≤ t .rest .sent → t .rest .sent < 32
+    ensures { λ _. ⌜ ((t : Table) → Laid (now (b .entry)) t → LettersInOrder (t .rest) → at ≤ t .rest .sent
+        → t .rest .sent < 32
         → Laid (now (b .exit)) (withRest (withLetters (putInAt at m (letters (t .rest))) (t .rest)) t)) ⌝ }
 {
     let n = b[SENT];
@@ -121,8 +122,10 @@ fn hold(b: &mut [u8], m: SubNo, k: TaskNo)
 // Task k joins its line at a place.
 fn line_up(b: &mut [u8], m: SubNo, k: TaskNo, at: usize)
     requires { ⌜ length (now b) ≡ imageLength ⌝ }
-    ensures { λ _. ⌜ ((t : Table) → Laid (now (b .entry)) t → m .0 < subCount → LineInOrder (subAt (t .rest) (m .0)) → at ≤ subAt (t .rest) (m .0) .waiting
-        → subAt (t .rest) (m .0) .waiting < mostTasks → Laid (now (b .exit)) (withRest (withSub (m .0) (joinsLine at k (subAt (t .rest) (m .0))) (t .rest)) t)) ⌝ }
+    ensures { λ _. ⌜ ((t : Table) → Laid (now (b .entry)) t → m .0 < subCount → LineInOrder (subAt (t .rest) (m .0))
+        → at ≤ subAt (t .rest) (m .0) .waiting
+        → subAt (t .rest) (m .0) .waiting < mostTasks
+        → Laid (now (b .exit)) (withRest (withSub (m .0) (joinsLine at k (subAt (t .rest) (m .0))) (t .rest)) t)) ⌝ }
 {
     if 7 < m.0 {
         return;
@@ -171,7 +174,8 @@ pub(crate) fn bit_of(n: usize) -> u32
 // Alarm i, if it is due, sets its flag and is cleared.
 fn ring(b: &mut [u8], i: usize, time: u64)
     requires { ⌜ (length (now b) ≡ imageLength) × (i < 32) ⌝ }
-    ensures { λ _. ⌜ ((t : Table) → Laid (now (b .entry)) t → time ≡ t .rest .clock .0 → Laid (now (b .exit)) (withRest (rung (t .rest) i) t)) ⌝ }
+    ensures { λ _. ⌜ ((t : Table) → Laid (now (b .entry)) t → time ≡ t .rest .clock .0
+        → Laid (now (b .exit)) (withRest (rung (t .rest) i) t)) ⌝ }
 {
     let alarm = numbers::long_in(b, ALARMS + i * 8);
     if alarm == 0 {
@@ -188,7 +192,8 @@ fn ring(b: &mut [u8], i: usize, time: u64)
 // The due alarms ring, of those that are running, from a place on.
 fn ring_from(b: &mut [u8], running: u32, first: usize, time: u64)
     requires { ⌜ length (now b) ≡ imageLength ⌝ }
-    ensures { λ _. ⌜ ((t : Table) → Laid (now (b .entry)) t → Running running (t .rest .alarms) → time ≡ t .rest .clock .0 → Laid (now (b .exit)) (withRest (each rung (32 - first) first (t .rest)) t)) ⌝ }
+    ensures { λ _. ⌜ ((t : Table) → Laid (now (b .entry)) t → Running running (t .rest .alarms)
+        → time ≡ t .rest .clock .0 → Laid (now (b .exit)) (withRest (each rung (32 - first) first (t .rest)) t)) ⌝ }
 {
     if 31 < first {
         return;
@@ -210,7 +215,8 @@ pub(crate) fn wide(x: u8) -> u64
 // The clock gains a granule, and the due alarms ring, from the first of them on.
 fn advance(b: &mut [u8], first: usize, running: u32)
     requires { ⌜ length (now b) ≡ imageLength ⌝ }
-    ensures { λ _. ⌜ ((t : Table) → Laid (now (b .entry)) t → Running running (t .rest .alarms) → t .rest .clock .0 + t .rest .granule ≤ endOfTime → first ≡ firstDue (t .rest)
+    ensures { λ _. ⌜ ((t : Table) → Laid (now (b .entry)) t → Running running (t .rest .alarms)
+        → t .rest .clock .0 + t .rest .granule ≤ endOfTime → first ≡ firstDue (t .rest)
         → Laid (now (b .exit)) (withRest (advanced (t .rest)) t)) ⌝ }
 {
     let clock = numbers::long_in(b, fields::CLOCK);
@@ -225,7 +231,8 @@ fn advance(b: &mut [u8], first: usize, running: u32)
 // The rest after a change.
 pub(crate) fn change(b: &mut [u8], what: Change, q: Request, running: u32)
     requires { ⌜ length (now b) ≡ imageLength ⌝ }
-    ensures { λ _. ⌜ ((t : Table) → Laid (now (b .entry)) t → Running running (t .rest .alarms) → PoolInOrder (t .rest) → Able what (t .rest)
+    ensures { λ _. ⌜ ((t : Table) → Laid (now (b .entry)) t → Running running (t .rest .alarms) → PoolInOrder (t .rest)
+        → Able what (t .rest)
         → Laid (now (b .exit)) (withRest (changed what q (t .rest)) t)) ⌝ }
 {
     match what {

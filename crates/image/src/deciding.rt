@@ -24,7 +24,8 @@ ghost use Rattle.image.specs.Waking.{Learned};
 // Each kind's own decision.
 fn by_kind(b: &[u8], c: TaskNo, call: Call, timed: u16, flagged: u16, running: u32) -> Decision
     requires { ⌜ length (now b) ≡ imageLength ⌝ }
-    ensures { λ r. ⌜ ((t : Table) → Laid (now (b .entry)) t → WellFormed t → Learned timed flagged running t → r ≡ decided (t .tasks) (t .rest) c call) ⌝ }
+    ensures { λ r. ⌜ ((t : Table) → Laid (now (b .entry)) t → WellFormed t → Learned timed flagged running t
+        → r ≡ decided (t .tasks) (t .rest) c call) ⌝ }
 {
     match call {
         Call::Terminate => runs::terminate(b, c),
@@ -54,7 +55,8 @@ fn by_kind(b: &[u8], c: TaskNo, call: Call, timed: u16, flagged: u16, running: u
 // A call's decision: 5 first, then its kind's.
 fn decide_call(b: &[u8], c: TaskNo, call: Call, timed: u16, flagged: u16, running: u32) -> Decision
     requires { ⌜ length (now b) ≡ imageLength ⌝ }
-    ensures { λ r. ⌜ ((t : Table) → Laid (now (b .entry)) t → WellFormed t → Learned timed flagged running t → r ≡ decisionOf (t .tasks) (t .rest) c call) ⌝ }
+    ensures { λ r. ⌜ ((t : Table) → Laid (now (b .entry)) t → WellFormed t → Learned timed flagged running t
+        → r ≡ decisionOf (t .tasks) (t .rest) c call) ⌝ }
 {
     if deciding::nobody_active(c, call) {
         return decisions::refused(5);
@@ -72,7 +74,8 @@ pub(crate) fn decide(
     running: u32,
 ) -> Decision
     requires { ⌜ length (now b) ≡ imageLength ⌝ }
-    ensures { λ r. ⌜ ((t : Table) → Laid (now (b .entry)) t → WellFormed t → Learned timed flagged running t → r ≡ decisionIn (t .tasks) (t .rest) c (now (call .entry))) ⌝ }
+    ensures { λ r. ⌜ ((t : Table) → Laid (now (b .entry)) t → WellFormed t → Learned timed flagged running t
+        → r ≡ decisionIn (t .tasks) (t .rest) c (now (call .entry))) ⌝ }
 {
     if call.len() == 0 {
         return decisions::refused(3);

@@ -32,7 +32,8 @@ const NO_MAIL: Mail = Mail {
 // The caller leaves, if it is to.
 fn leave(b: &mut [u8], how: Leave)
     requires { ⌜ length (now b) ≡ imageLength ⌝ }
-    ensures { λ _. ⌜ ((t : Table) → Laid (now (b .entry)) t → ArraysInOrder t → Line isReady (t .tasks) (line t) → t .levels ≡ levelsOf (view t)
+    ensures { λ _. ⌜ ((t : Table) → Laid (now (b .entry)) t → ArraysInOrder t → Line isReady (t .tasks) (line t)
+        → t .levels ≡ levelsOf (view t)
         → Laid (now (b .exit)) (relit (depart (outFor how) t))) ⌝ }
 {
     match how {
@@ -46,7 +47,8 @@ fn leave(b: &mut [u8], how: Leave)
 // Those who are listed enter, in order; how many they pass over, all together.
 fn enter_all(b: &mut [u8], list: Entrants, q: Request, time: Millis) -> u8
     requires { ⌜ length (now b) ≡ imageLength ⌝ }
-    ensures { λ r. ⌜ ((t : Table) → Laid (now (b .entry)) t → InFlight (list .count) (begin t) → FindsRoom (joinsFor q time (named list)) t → Desc (view t)
+    ensures { λ r. ⌜ ((t : Table) → Laid (now (b .entry)) t → InFlight (list .count) (begin t)
+        → FindsRoom (joinsFor q time (named list)) t → Desc (view t)
         → Laid (now (b .exit)) (litInFlight (enterAllInFlight (joinsFor q time (named list)) (begin t)) .table)
         × (r ≡ litInFlight (enterAllInFlight (joinsFor q time (named list)) (begin t)) .walked)) ⌝ }
 {

@@ -65,21 +65,24 @@ pub(crate) fn set_levels(b: &mut [u8], n: u16)
 
 pub(crate) fn set_flags(b: &mut [u8], flags: u32)
     requires { ⌜ length (now b) ≡ imageLength ⌝ }
-    ensures { λ _. ⌜ ((t : Table) → Laid (now (b .entry)) t → Laid (now (b .exit)) (withRest (withFlags flags (t .rest)) t)) ⌝ }
+    ensures { λ _. ⌜ ((t : Table) → Laid (now (b .entry)) t
+        → Laid (now (b .exit)) (withRest (withFlags flags (t .rest)) t)) ⌝ }
 {
     numbers::put_word(b, FLAGS, flags);
 }
 
 pub(crate) fn set_clock(b: &mut [u8], time: Millis)
     requires { ⌜ length (now b) ≡ imageLength ⌝ }
-    ensures { λ _. ⌜ ((t : Table) → Laid (now (b .entry)) t → Laid (now (b .exit)) (withRest (withClock time (t .rest)) t)) ⌝ }
+    ensures { λ _. ⌜ ((t : Table) → Laid (now (b .entry)) t
+        → Laid (now (b .exit)) (withRest (withClock time (t .rest)) t)) ⌝ }
 {
     numbers::put_long(b, CLOCK, time.0);
 }
 
 pub(crate) fn set_alarm(b: &mut [u8], n: usize, time: Millis)
     requires { ⌜ (length (now b) ≡ imageLength) × (n < 32) ⌝ }
-    ensures { λ _. ⌜ ((t : Table) → Laid (now (b .entry)) t → Laid (now (b .exit)) (withRest (withAlarm n time (t .rest)) t)) ⌝ }
+    ensures { λ _. ⌜ ((t : Table) → Laid (now (b .entry)) t
+        → Laid (now (b .exit)) (withRest (withAlarm n time (t .rest)) t)) ⌝ }
 {
     storing::put_alarm(b, ALARMS + n * 8, time);
 }
@@ -87,7 +90,8 @@ pub(crate) fn set_alarm(b: &mut [u8], n: usize, time: Millis)
 // The alarm of a flag; a number that names no flag changes nothing.
 pub(crate) fn set_alarm_of(b: &mut [u8], f: FlagNo, time: Millis)
     requires { ⌜ length (now b) ≡ imageLength ⌝ }
-    ensures { λ _. ⌜ ((t : Table) → Laid (now (b .entry)) t → f .0 < flagCount → Laid (now (b .exit)) (withRest (withAlarm (f .0) time (t .rest)) t)) ⌝ }
+    ensures { λ _. ⌜ ((t : Table) → Laid (now (b .entry)) t → f .0 < flagCount
+        → Laid (now (b .exit)) (withRest (withAlarm (f .0) time (t .rest)) t)) ⌝ }
 {
     if 31 < f.0 {
         return;
@@ -106,7 +110,8 @@ pub(crate) fn set_queued(b: &mut [u8], n: u8)
 // How many messages wait.
 pub(crate) fn set_sent(b: &mut [u8], n: u8)
     requires { ⌜ length (now b) ≡ imageLength ⌝ }
-    ensures { λ _. ⌜ ((t : Table) → Laid (now (b .entry)) t → Laid (now (b .exit)) (withRest (withPost (t .rest .messages) n (t .rest .mail) (t .rest)) t)) ⌝ }
+    ensures { λ _. ⌜ ((t : Table) → Laid (now (b .entry)) t
+        → Laid (now (b .exit)) (withRest (withPost (t .rest .messages) n (t .rest .mail) (t .rest)) t)) ⌝ }
 {
     numbers::put_byte(b, SENT, n);
 }
@@ -139,7 +144,8 @@ pub(crate) fn at_most(n: u8, most: u8) -> u8
 // The mail of a task; a number that names no task has none.
 pub(crate) fn set_mail(b: &mut [u8], k: TaskNo, mail: Mail)
     requires { ⌜ length (now b) ≡ imageLength ⌝ }
-    ensures { λ _. ⌜ ((t : Table) → Laid (now (b .entry)) t → Laid (now (b .exit)) (withRest (withMail (k .0) mail (t .rest)) t)) ⌝ }
+    ensures { λ _. ⌜ ((t : Table) → Laid (now (b .entry)) t
+        → Laid (now (b .exit)) (withRest (withMail (k .0) mail (t .rest)) t)) ⌝ }
 {
     let i = place(k.0);
     if 15 < i {

@@ -45,7 +45,8 @@ fn ahead(b: &[u8], n: usize, p: u8) -> usize
 // Whether the message at a place fits one who receives as task k, from number s or, where s is 0, from any.
 fn is_fit(b: &[u8], i: usize, k: TaskNo, s: TaskNo) -> bool
     requires { ⌜ (length (now b) ≡ imageLength) × (i < 32) ⌝ }
-    ensures { λ r. ⌜ ((t : Table) → Laid (now (b .entry)) t → r ≡ fits (k .0) (s .0) (getD (t .rest .messages) i noMessage)) ⌝ }
+    ensures { λ r. ⌜ ((t : Table) → Laid (now (b .entry)) t
+        → r ≡ fits (k .0) (s .0) (getD (t .rest .messages) i noMessage)) ⌝ }
 {
     if k.0 != b[MESSAGES + i * 11] {
         return false;
@@ -59,7 +60,8 @@ fn is_fit(b: &[u8], i: usize, k: TaskNo, s: TaskNo) -> bool
 // The place of the first of n messages that fits; n where there is none.
 fn first_fit(b: &[u8], n: usize, k: TaskNo, s: TaskNo) -> usize
     requires { ⌜ (length (now b) ≡ imageLength) × (n ≤ 32) ⌝ }
-    ensures { λ r. ⌜ ((t : Table) → Laid (now (b .entry)) t → r ≡ firstFit (k .0) (s .0) (take n (t .rest .messages))) ⌝ }
+    ensures { λ r. ⌜ ((t : Table) → Laid (now (b .entry)) t
+        → r ≡ firstFit (k .0) (s .0) (take n (t .rest .messages))) ⌝ }
 {
     let mut i: usize = 0;
     while i < n {
@@ -74,7 +76,8 @@ fn first_fit(b: &[u8], n: usize, k: TaskNo, s: TaskNo) -> usize
 // Kind 14: a task that waits for it gets it and enters; else it waits, behind all of equal or higher priority.
 pub(crate) fn send(b: &[u8], c: TaskNo, k: TaskNo, text: Text) -> Decision
     requires { ⌜ length (now b) ≡ imageLength ⌝ }
-    ensures { λ r. ⌜ ((t : Table) → Laid (now (b .entry)) t → WellFormed t → r ≡ decided (t .tasks) (t .rest) c (call.Send k text)) ⌝ }
+    ensures { λ r. ⌜ ((t : Table) → Laid (now (b .entry)) t → WellFormed t
+        → r ≡ decided (t .tasks) (t .rest) c (call.Send k text)) ⌝ }
 {
     if refusals::no_such_task(b[fields::COUNT], k) {
         return decisions::refused(6);
@@ -120,10 +123,12 @@ fn message_at(b: &[u8], i: usize, n: usize) -> Message
     messages::NO_MESSAGE
 }
 
-// Kind 15: the first waiting message that fits is handed out; where there is none, the caller departs and waits for one.
+// Kind 15: the first waiting message that fits is handed out; where there is none, the caller departs and waits for
+// one.
 pub(crate) fn receive(b: &[u8], c: TaskNo, s: TaskNo) -> Decision
     requires { ⌜ length (now b) ≡ imageLength ⌝ }
-    ensures { λ r. ⌜ ((t : Table) → Laid (now (b .entry)) t → WellFormed t → r ≡ decided (t .tasks) (t .rest) c (call.Receive s)) ⌝ }
+    ensures { λ r. ⌜ ((t : Table) → Laid (now (b .entry)) t → WellFormed t
+        → r ≡ decided (t .tasks) (t .rest) c (call.Receive s)) ⌝ }
 {
     if b[fields::COUNT] < s.0 {
         return decisions::refused(6);

@@ -27,7 +27,8 @@ ghost use Rattle.image.specs.Laid.{Laid};
 // Kind 06: the caller gets in, or departs and waits behind all of equal or higher priority.
 pub(crate) fn enter(b: &[u8], c: TaskNo, m: SubNo) -> Decision
     requires { ⌜ length (now b) ≡ imageLength ⌝ }
-    ensures { λ r. ⌜ ((t : Table) → Laid (now (b .entry)) t → WellFormed t → r ≡ decided (t .tasks) (t .rest) c (call.Enter m)) ⌝ }
+    ensures { λ r. ⌜ ((t : Table) → Laid (now (b .entry)) t → WellFormed t
+        → r ≡ decided (t .tasks) (t .rest) c (call.Enter m)) ⌝ }
 {
     if 7 < m.0 {
         return decisions::refused(6);

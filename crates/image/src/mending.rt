@@ -1,5 +1,5 @@
-// Mending an image: the table of its bytes is mended, and each entry whose bytes differ is listed, also where they held no
-// more than its state has no use for.
+// Mending an image: the table of its bytes is mended, and each entry whose bytes differ is listed, also where they held
+// no more than its state has no use for.
 use crate::AWAITED;
 use crate::checking;
 use crate::loading;

@@ -62,8 +62,8 @@ pub(crate) fn move_up(b: &mut [u8], to: usize, from: usize, n: usize)
     few_up(b, to + i, from + i, n - i);
 }
 
-// So many bytes from a place on move towards the end, one by one: by fours the compiler would multiply, to know how many
-// turns the messages behind a place take.
+// So many bytes from a place on move towards the end, one by one: by fours the compiler would multiply, to know how
+// many turns the messages behind a place take.
 pub(crate) fn move_down(b: &mut [u8], to: usize, from: usize, n: usize)
     requires { ⌜ (from ≤ to) × (to + n ≤ length (now b)) ⌝ }
     ensures { λ _. ⌜ now (b .exit) ≡ written (now (b .entry)) to (take n (drop from (now (b .entry)))) ⌝ }
@@ -75,7 +75,8 @@ pub(crate) fn move_down(b: &mut [u8], to: usize, from: usize, n: usize)
     }
 }
 
-// The eleven bytes of a message move towards the end by as many. All are read first: a Cortex-M3 then moves them by fours.
+// The eleven bytes of a message move towards the end by as many. All are read first: a Cortex-M3 then moves them by
+// fours.
 fn letter_down(b: &mut [u8], at: usize)
     requires { ⌜ at + 22 ≤ length (now b) ⌝ }
     ensures { λ _. ⌜ now (b .exit) ≡ written (now (b .entry)) (at + 11) (take 11 (drop at (now (b .entry)))) ⌝ }
@@ -107,7 +108,9 @@ fn letter_down(b: &mut [u8], at: usize)
 // The messages from one place up to another move down by one place.
 pub(crate) fn letters_down(b: &mut [u8], at: u8, n: u8)
     requires { ⌜ (length (now b) ≡ imageLength) × (at ≤ n) × (n < 32) ⌝ }
-    ensures { λ _. ⌜ now (b .exit) ≡ written (now (b .entry)) (1058 + at * 11 + 11) (take ((n - at) * 11) (drop (1058 + at * 11) (now (b .entry)))) ⌝ }
+    ensures { λ _. ⌜ now (b .exit)
+        ≡ written (now (b .entry)) (1058 + at * 11 + 11) (take ((n - at) * 11)
+        (drop (1058 + at * 11) (now (b .entry)))) ⌝ }
 {
     let mut i = n;
     while at < i {

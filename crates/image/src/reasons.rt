@@ -119,7 +119,8 @@ fn put_step(out: &mut [u8], at: usize, step: Step)
 // Writes the sixteen steps behind the numbers that stand alone.
 fn put_steps(out: &mut [u8], steps: [Step; 16])
     requires { ⌜ reasonsLength ≤ length (now out) ⌝ }
-    ensures { λ _. ⌜ (length steps ≡ 16) × (now (out .exit) ≡ written (now (out .entry)) stepsAt (row stepBytes steps)) ⌝ }
+    ensures { λ _. ⌜ (length steps ≡ 16)
+        × (now (out .exit) ≡ written (now (out .entry)) stepsAt (row stepBytes steps)) ⌝ }
 {
     let mut i: usize = 0;
     while i < 16 {

@@ -20,7 +20,8 @@ ghost use Rattle.image.specs.Marks.{Running};
 // Whether the time of an alarm, which is running, has come.
 fn is_due(b: &[u8], i: usize, time: u64) -> bool
     requires { ⌜ (length (now b) ≡ imageLength) × (i < 32) ⌝ }
-    ensures { λ r. ⌜ ((t : Table) → Laid (now (b .entry)) t → (eqb (getD (t .rest .alarms) i never .0) 0 ≡ false) → r ≡ isDue time (getD (t .rest .alarms) i never)) ⌝ }
+    ensures { λ r. ⌜ ((t : Table) → Laid (now (b .entry)) t → (eqb (getD (t .rest .alarms) i never .0) 0 ≡ false)
+        → r ≡ isDue time (getD (t .rest .alarms) i never)) ⌝ }
 {
     numbers::long_in(b, ALARMS + i * 8) <= time
 }
@@ -29,7 +30,8 @@ fn is_due(b: &[u8], i: usize, time: u64) -> bool
 pub(crate) fn next_due(b: &[u8], running: u32, from: u8, time: u64) -> u8
     requires { ⌜ (length (now b) ≡ imageLength) × (from ≤ 32) ⌝ }
     ensures { λ r. ⌜ (from ≤ r) × (r ≤ 32) ⌝ }
-    ensures { λ r. ⌜ ((t : Table) → Laid (now (b .entry)) t → Running running (t .rest .alarms) → r ≡ nextOf (isDue time) from (drop from (t .rest .alarms))) ⌝ }
+    ensures { λ r. ⌜ ((t : Table) → Laid (now (b .entry)) t → Running running (t .rest .alarms)
+        → r ≡ nextOf (isDue time) from (drop from (t .rest .alarms))) ⌝ }
 {
     let mut i = members::next_in(running, from);
     while i < 32 {
@@ -44,7 +46,8 @@ pub(crate) fn next_due(b: &[u8], running: u32, from: u8, time: u64) -> u8
 // The flags once the due alarms have rung, from the first of them on.
 pub(crate) fn rings(b: &[u8], running: u32, flags: u32, first: u8, time: u64) -> u32
     requires { ⌜ (length (now b) ≡ imageLength) × (first ≤ 32) ⌝ }
-    ensures { λ r. ⌜ ((t : Table) → Laid (now (b .entry)) t → Running running (t .rest .alarms) → first ≡ nextOf (isDue time) 0 (t .rest .alarms)
+    ensures { λ r. ⌜ ((t : Table) → Laid (now (b .entry)) t → Running running (t .rest .alarms)
+        → first ≡ nextOf (isDue time) 0 (t .rest .alarms)
         → r ≡ each (rungIn time (t .rest .alarms)) 32 0 flags) ⌝ }
 {
     let mut more = flags;

@@ -59,7 +59,8 @@ fn first_for(b: &[u8], n: usize, k: TaskNo) -> usize
 // Kind 00.
 pub(crate) fn terminate(b: &[u8], c: TaskNo) -> Decision
     requires { ⌜ length (now b) ≡ imageLength ⌝ }
-    ensures { λ r. ⌜ ((t : Table) → Laid (now (b .entry)) t → WellFormed t → r ≡ decided (t .tasks) (t .rest) c call.Terminate) ⌝ }
+    ensures { λ r. ⌜ ((t : Table) → Laid (now (b .entry)) t → WellFormed t
+        → r ≡ decided (t .tasks) (t .rest) c call.Terminate) ⌝ }
 {
     if holds_any(b, c) {
         return decisions::refused(15);
@@ -77,7 +78,8 @@ pub(crate) fn terminate(b: &[u8], c: TaskNo) -> Decision
 // Kind 01. Of the caller's entry it asks the last scheduled start and who waits for the end.
 pub(crate) fn restart(b: &[u8], c: TaskNo, param: u8, count: u8) -> Decision
     requires { ⌜ length (now b) ≡ imageLength ⌝ }
-    ensures { λ r. ⌜ ((t : Table) → Laid (now (b .entry)) t → WellFormed t → r ≡ decided (t .tasks) (t .rest) c (call.Restart param count)) ⌝ }
+    ensures { λ r. ⌜ ((t : Table) → Laid (now (b .entry)) t → WellFormed t
+        → r ≡ decided (t .tasks) (t .rest) c (call.Restart param count)) ⌝ }
 {
     let start = fields::start(b, c);
     let end_waiter = fields::end_waiter(b, c);
@@ -97,7 +99,8 @@ pub(crate) fn restart(b: &[u8], c: TaskNo, param: u8, count: u8) -> Decision
 // Kind 02.
 pub(crate) fn pause(b: &[u8], c: TaskNo, unit: u8, count: u8) -> Decision
     requires { ⌜ length (now b) ≡ imageLength ⌝ }
-    ensures { λ r. ⌜ ((t : Table) → Laid (now (b .entry)) t → WellFormed t → r ≡ decided (t .tasks) (t .rest) c (call.Pause unit count)) ⌝ }
+    ensures { λ r. ⌜ ((t : Table) → Laid (now (b .entry)) t → WellFormed t
+        → r ≡ decided (t .tasks) (t .rest) c (call.Pause unit count)) ⌝ }
 {
     let time = numbers::long_in(b, fields::CLOCK);
     calls::pause(Millis(time), unit, count)
@@ -106,7 +109,8 @@ pub(crate) fn pause(b: &[u8], c: TaskNo, unit: u8, count: u8) -> Decision
 // Kind 03.
 pub(crate) fn cancel_pause(b: &[u8], c: TaskNo, k: TaskNo) -> Decision
     requires { ⌜ length (now b) ≡ imageLength ⌝ }
-    ensures { λ r. ⌜ ((t : Table) → Laid (now (b .entry)) t → r ≡ decided (t .tasks) (t .rest) c (call.CancelPause k)) ⌝ }
+    ensures { λ r. ⌜ ((t : Table) → Laid (now (b .entry)) t
+        → r ≡ decided (t .tasks) (t .rest) c (call.CancelPause k)) ⌝ }
 {
     let e = fields::entry(b, k);
     calls::cancel_pause(e, b[fields::COUNT], k)
@@ -115,7 +119,8 @@ pub(crate) fn cancel_pause(b: &[u8], c: TaskNo, k: TaskNo) -> Decision
 // Kind 04.
 pub(crate) fn start_if_dormant(b: &[u8], c: TaskNo, option: u8, k: TaskNo) -> Decision
     requires { ⌜ length (now b) ≡ imageLength ⌝ }
-    ensures { λ r. ⌜ ((t : Table) → Laid (now (b .entry)) t → r ≡ decided (t .tasks) (t .rest) c (call.StartIfDormant option k)) ⌝ }
+    ensures { λ r. ⌜ ((t : Table) → Laid (now (b .entry)) t
+        → r ≡ decided (t .tasks) (t .rest) c (call.StartIfDormant option k)) ⌝ }
 {
     let e = fields::entry(b, k);
     starts::start_if_dormant(e, b[fields::COUNT], c, option, k)
@@ -124,7 +129,8 @@ pub(crate) fn start_if_dormant(b: &[u8], c: TaskNo, option: u8, k: TaskNo) -> De
 // Kind 05.
 pub(crate) fn start_or_queue(b: &[u8], c: TaskNo, option: u8, k: TaskNo, argument: u16) -> Decision
     requires { ⌜ length (now b) ≡ imageLength ⌝ }
-    ensures { λ r. ⌜ ((t : Table) → Laid (now (b .entry)) t → r ≡ decided (t .tasks) (t .rest) c (call.StartOrQueue option k argument)) ⌝ }
+    ensures { λ r. ⌜ ((t : Table) → Laid (now (b .entry)) t
+        → r ≡ decided (t .tasks) (t .rest) c (call.StartOrQueue option k argument)) ⌝ }
 {
     let e = fields::entry(b, k);
     starts::start_or_queue(
@@ -141,7 +147,8 @@ pub(crate) fn start_or_queue(b: &[u8], c: TaskNo, option: u8, k: TaskNo, argumen
 // Kind 0A.
 pub(crate) fn wait(b: &[u8], c: TaskNo, mode: u8, mask: u32) -> Decision
     requires { ⌜ length (now b) ≡ imageLength ⌝ }
-    ensures { λ r. ⌜ ((t : Table) → Laid (now (b .entry)) t → r ≡ decided (t .tasks) (t .rest) c (call.Wait mode mask)) ⌝ }
+    ensures { λ r. ⌜ ((t : Table) → Laid (now (b .entry)) t
+        → r ≡ decided (t .tasks) (t .rest) c (call.Wait mode mask)) ⌝ }
 {
     let set = numbers::word_in(b, fields::FLAGS);
     flags::wait(set, mode, mask)

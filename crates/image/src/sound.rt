@@ -22,8 +22,8 @@ ghost use Rattle.image.specs.Sound.{namesOther, KindsKnown};
 ghost use Rattle.image.specs.Marks.{Kinds};
 ghost use Rattle.image.specs.Seen.{listsRight, Begun, Sees};
 
-// What the check finds: whether all is right; those of each kind, bit i for the task whose entry is the i-th; the alarms
-// that are running.
+// What the check finds: whether all is right; those of each kind, bit i for the task whose entry is the i-th; the
+// alarms that are running.
 pub(crate) struct Seen {
     pub(crate) sets: [u16; 10],
     pub(crate) right: bool,
@@ -73,8 +73,10 @@ pub(crate) fn begin(b: &[u8]) -> Seen
 
 // The requests, the subprograms, the messages and the mail keep their rules.
 pub(crate) fn lists_right(b: &[u8], sets: [u16; 10]) -> bool
-    requires { ⌜ (length (now b) ≡ imageLength) × (loadOf (now b) .rest .queued ≤ 32) × (loadOf (now b) .rest .count ≤ 16)
-        × KindsKnown (now b) (loadOf (now b) .rest .count) × Kinds (loadOf (now b) .rest .count) sets (loadOf (now b) .tasks)
+    requires { ⌜ (length (now b) ≡ imageLength) × (loadOf (now b) .rest .queued ≤ 32)
+        × (loadOf (now b) .rest .count ≤ 16)
+        × KindsKnown (now b) (loadOf (now b) .rest .count)
+        × Kinds (loadOf (now b) .rest .count) sets (loadOf (now b) .tasks)
         × (upTo (namesOther (loadOf (now b) .tasks)) (loadOf (now b) .rest .count) ≡ true) ⌝ }
     ensures { λ r. ⌜ r ≡ listsRight (loadOf (now (b .entry))) ⌝ }
 {

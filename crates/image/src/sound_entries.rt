@@ -1,5 +1,5 @@
-// The check in place of the entries and the alarms. Any bytes are held to the rules, as those of the table that they load
-// to, and an entry's numbers besides to those of the state that they make.
+// The check in place of the entries and the alarms. Any bytes are held to the rules, as those of the table that they
+// load to, and an entry's numbers besides to those of the state that they make.
 use crate::ALARMS;
 use crate::AWAITED;
 use crate::QUEUE;
@@ -22,8 +22,8 @@ ghost use Rattle.image.specs.Image.{imageLength, loadOf};
 ghost use Rattle.image.specs.Sound.{tasksIn, noughts, fieldsRight, stateRight, codeAt, soundAt, KindsKnown, below};
 ghost use Rattle.image.specs.Marks.{Kinds, Running};
 
-// The entry of task k: its own priority, its priority, its waiter and its last scheduled start keep the rules, and its run
-// does not name itself.
+// The entry of task k: its own priority, its priority, its waiter and its last scheduled start keep the rules, and its
+// run does not name itself.
 fn fields_right(k: u8, own: u8, level: u8, waiter: u8, start: u64, count: u8, time: Millis) -> bool
     requires { ⌜ 0 < k ⌝ }
     ensures { λ r. ⌜ r ≡ (fieldsRight count (time .0) own level waiter start and not (eqb k waiter)) ⌝ }
@@ -107,7 +107,8 @@ fn is_dormant(b: &[u8], i: usize) -> bool
 // entry holds zeros. Only what its kind has is read as a number.
 fn state_right(b: &[u8], i: usize, count: u8, time: Millis, flags: u32) -> bool
     requires { ⌜ (length (now b) ≡ imageLength) × (i < 16) ⌝ }
-    ensures { λ r. ⌜ r ≡ (codeAt (now (b .entry)) i and stateRight count (time .0) flags (getD (tasksIn (now (b .entry))) i noTask .state)
+    ensures { λ r. ⌜ r ≡ (codeAt (now (b .entry)) i and stateRight count (time .0) flags
+        (getD (tasksIn (now (b .entry))) i noTask .state)
         and dormantEntryRight (getD (tasksIn (now (b .entry))) i noTask)) ⌝ }
 {
     let kind = b[i * 26 + 1];
@@ -165,7 +166,8 @@ pub(crate) fn entries_right(b: &[u8], count: u8, time: Millis, flags: u32) -> bo
 // The entries past the task count are zero, and the numbers that their states wait for.
 pub(crate) fn blank_past(b: &[u8], count: u8) -> bool
     requires { ⌜ (length (now b) ≡ imageLength) × (count ≤ 16) ⌝ }
-    ensures { λ r. ⌜ r ≡ (noughts (now (b .entry)) (416 - count * 26) (count * 26) and noughts (now (b .entry)) (914 - (898 + count)) (898 + count)) ⌝ }
+    ensures { λ r. ⌜ r ≡ (noughts (now (b .entry)) (416 - count * 26) (count * 26) and noughts (now (b .entry))
+        (914 - (898 + count)) (898 + count)) ⌝ }
 {
     if !zeros::are_zero(b, (count as usize) * 26, QUEUE) {
         return false;

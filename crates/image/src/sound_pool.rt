@@ -63,8 +63,8 @@ pub(crate) fn named(b: &[u8], set: u32, at: usize, step: usize, n: u8, count: u8
     all
 }
 
-// What a look at the requests finds: whether they keep the rules on one request and name busy tasks only; whom they name as
-// waiters for a start, and, with those of the runs, for an end.
+// What a look at the requests finds: whether they keep the rules on one request and name busy tasks only; whom they
+// name as waiters for a start, and, with those of the runs, for an end.
 struct Waiters {
     right: bool,
     starts: u32,
@@ -78,12 +78,13 @@ const WRONG: Waiters = Waiters {
     ends: 0,
 };
 
-// Looks at the queued requests; idle has bit k where task k is dormant, and bit 0, and ends those whom the runs name. Most
-// requests name no waiter: four bytes from the argument on tell that at once.
+// Looks at the queued requests; idle has bit k where task k is dormant, and bit 0, and ends those whom the runs name.
+// Most requests name no waiter: four bytes from the argument on tell that at once.
 fn requests_right(b: &[u8], queued: u8, count: u8, idle: u32, ends: u32) -> Waiters
     requires { ⌜ (length (now b) ≡ imageLength) × (queued ≤ 32) × (count ≤ 16)
         × ((k : ℕ) → k ≤ count → isSet idle k ≡ isDormant (taskAt (tasksIn (now b)) k .state)) ⌝ }
-    ensures { λ r. ⌜ r .right ≡ allOf (requestRight (tasksIn (now (b .entry))) count) (take queued (poolIn (now (b .entry)))) ⌝ }
+    ensures { λ r. ⌜ r .right ≡ allOf (requestRight (tasksIn (now (b .entry))) count)
+        (take queued (poolIn (now (b .entry)))) ⌝ }
     ensures { λ r. ⌜ (r .right ≡ true → (r .starts ≡ namings count 0 (namesIn (now (b .entry)) 6 queued 708))
         × (r .ends ≡ namings count ends (namesIn (now (b .entry)) 6 queued 709))) ⌝ }
 {
@@ -119,13 +120,17 @@ fn requests_right(b: &[u8], queued: u8, count: u8, idle: u32, ends: u32) -> Wait
     }
 }
 
-// The requests, their waiters and those of the runs; the pool's free places are last and zero. The sets are of those who are
-// dormant, who wait for a start and who wait for an end, bit i for the task whose entry is the i-th; no run names itself.
+// The requests, their waiters and those of the runs; the pool's free places are last and zero. The sets are of those
+// who are dormant, who wait for a start and who wait for an end, bit i for the task whose entry is the i-th; no run
+// names itself.
 pub(crate) fn pool_right(b: &[u8], queued: u8, count: u8, idle: u16, starts: u16, ends: u16) -> bool
-    requires { ⌜ (length (now b) ≡ imageLength) × (queued ≤ 32) × (count ≤ 16) × Marked count idle (passed isDormant (tasksIn (now b)))
-        × Marked count starts (passed (isOf awaitStart) (tasksIn (now b))) × Marked count ends (passed (isOf awaitEnd) (tasksIn (now b)))
+    requires { ⌜ (length (now b) ≡ imageLength) × (queued ≤ 32) × (count ≤ 16)
+        × Marked count idle (passed isDormant (tasksIn (now b)))
+        × Marked count starts (passed (isOf awaitStart) (tasksIn (now b)))
+        × Marked count ends (passed (isOf awaitEnd) (tasksIn (now b)))
         × (upTo (namesOther (tasksIn (now b))) count ≡ true) ⌝ }
-    ensures { λ r. ⌜ r ≡ askedRight (loadOf (now (b .entry)) .tasks) count queued (loadOf (now (b .entry)) .rest .pool) ⌝ }
+    ensures { λ r. ⌜ r ≡ askedRight (loadOf (now (b .entry)) .tasks) count queued
+        (loadOf (now (b .entry)) .rest .pool) ⌝ }
 {
     let runs = named(b, 0, 25, 26, 16, count);
     let w = requests_right(b, queued, count, ((idle as u32) << 1) | 1, runs);

@@ -37,11 +37,12 @@ fn is_taken(b: &[u8], to: u8, sender: u8) -> bool
     from == sender
 }
 
-// Those that wait are in range and descend, and no addressee waits for one of them; free has bit k where task k waits for no
-// message.
+// Those that wait are in range and descend, and no addressee waits for one of them; free has bit k where task k waits
+// for no message.
 fn letters_right(b: &[u8], sent: u8, count: u8, free: u32) -> bool
     requires { ⌜ (length (now b) ≡ imageLength) × (sent ≤ 32) × (count ≤ 16)
-        × ((k : ℕ) → k ≤ count → isSet free k ≡ true → (0 < k) × (isOf awaitMessage (taskAt (tasksIn (now b)) k .state) ≡ false)) ⌝ }
+        × ((k : ℕ) → k ≤ count → isSet free k ≡ true → (0 < k)
+        × (isOf awaitMessage (taskAt (tasksIn (now b)) k .state) ≡ false)) ⌝ }
     ensures { λ r. ⌜ r ≡ lettersRight (tasksIn (now (b .entry))) count 15 (take sent (messagesIn (now (b .entry)))) ⌝ }
 {
     let mut p: u8 = 15;
@@ -77,10 +78,13 @@ fn letters_right(b: &[u8], sent: u8, count: u8, free: u32) -> bool
     true
 }
 
-// The messages keep their rules. The set is of those who wait for a message, bit i for the task whose entry is the i-th.
+// The messages keep their rules. The set is of those who wait for a message, bit i for the task whose entry is the
+// i-th.
 pub(crate) fn sent_right(b: &[u8], sent: u8, count: u8, receivers: u16) -> bool
-    requires { ⌜ (length (now b) ≡ imageLength) × (count ≤ 16) × Marked count receivers (passed (isOf awaitMessage) (tasksIn (now b))) ⌝ }
-    ensures { λ r. ⌜ r ≡ sentRight (loadOf (now (b .entry)) .tasks) count sent (loadOf (now (b .entry)) .rest .messages) ⌝ }
+    requires { ⌜ (length (now b) ≡ imageLength) × (count ≤ 16)
+        × Marked count receivers (passed (isOf awaitMessage) (tasksIn (now b))) ⌝ }
+    ensures { λ r. ⌜ r ≡ sentRight (loadOf (now (b .entry)) .tasks) count sent
+        (loadOf (now (b .entry)) .rest .messages) ⌝ }
 {
     if 32 < sent {
         return false;

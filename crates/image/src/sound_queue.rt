@@ -35,7 +35,8 @@ const WRONG: Walked = Walked {
 // Walks over the first places of a line.
 pub(crate) fn walk(b: &[u8], at: usize, taken: u8, count: u8) -> Walked
     requires { ⌜ (length (now b) ≡ imageLength) × (at + 16 ≤ imageLength) × (taken ≤ 16) × (count ≤ 16) ⌝ }
-    ensures { λ r. ⌜ Walks (loadOf (now (b .entry)) .tasks) count (take taken (lineFrom (now (b .entry)) at)) (r .right) (r .seen) (r .word) ⌝ }
+    ensures { λ r. ⌜ Walks (loadOf (now (b .entry)) .tasks) count (take taken (lineFrom (now (b .entry)) at))
+        (r .right) (r .seen) (r .word) ⌝ }
 {
     let mut p: u8 = 15;
     let mut seen: u32 = 0;
@@ -74,10 +75,11 @@ pub(crate) fn blank_from(b: &[u8], at: usize, taken: u8) -> bool
     zeros::are_zero(b, at + taken as usize, at + 16)
 }
 
-// The ready queue holds exactly the ready tasks, whose set is given, once each, in descending priority; its free places are
-// zero; the word of the ready levels is theirs.
+// The ready queue holds exactly the ready tasks, whose set is given, once each, in descending priority; its free places
+// are zero; the word of the ready levels is theirs.
 pub(crate) fn queue_right(b: &[u8], ready: u8, count: u8, set: u16) -> bool
-    requires { ⌜ (length (now b) ≡ imageLength) × (ready ≡ loadOf (now b) .ready) × (count ≡ loadOf (now b) .rest .count)
+    requires { ⌜ (length (now b) ≡ imageLength) × (ready ≡ loadOf (now b) .ready)
+        × (count ≡ loadOf (now b) .rest .count)
         × Marked count set (passed isReady (loadOf (now b) .tasks)) ⌝ }
     ensures { λ r. ⌜ r ≡ queueRight (loadOf (now (b .entry))) ⌝ }
 {

@@ -18,10 +18,11 @@ ghost use Rattle.image.specs.Image.{imageLength, lineFrom, subFrom, load
 ghost use Rattle.image.specs.Sound.{tasksIn, noughts, KindsKnown};
 ghost use Rattle.image.specs.Marks.{passed, Marked, Waiting};
 
-// Those who wait for each subprogram, of those who wait for any, bit i for the task whose entry is the i-th: sixteen bits for
-// sixteen tasks.
+// Those who wait for each subprogram, of those who wait for any, bit i for the task whose entry is the i-th: sixteen
+// bits for sixteen tasks.
 fn waiting_sets(b: &[u8], count: u8, waiters: u16) -> [u16; 8]
-    requires { ⌜ (length (now b) ≡ imageLength) × (count ≤ 16) × KindsKnown (now b) count × Marked count waiters (passed (isOf awaitSub) (tasksIn (now b))) ⌝ }
+    requires { ⌜ (length (now b) ≡ imageLength) × (count ≤ 16) × KindsKnown (now b) count
+        × Marked count waiters (passed (isOf awaitSub) (tasksIn (now b))) ⌝ }
     ensures { λ r. ⌜ Waiting count r (tasksIn (now (b .entry))) ⌝ }
 {
     let mut sets = [0u16; 8];
@@ -39,7 +40,8 @@ fn waiting_sets(b: &[u8], count: u8, waiters: u16) -> [u16; 8]
 // Those that are not free: held, with a line, or waited for.
 fn used_subs(b: &[u8], sets: [u16; 8]) -> u32
     requires { ⌜ length (now b) ≡ imageLength ⌝ }
-    ensures { λ r. ⌜ ((m : ℕ) → m < 8 → isSet r m ≡ not (noughts (now (b .entry)) 18 (914 + m * 18) and eqb (getD sets m 0) 0)) ⌝ }
+    ensures { λ r. ⌜ ((m : ℕ) → m < 8
+        → isSet r m ≡ not (noughts (now (b .entry)) 18 (914 + m * 18) and eqb (getD sets m 0) 0)) ⌝ }
 {
     let mut used: u32 = 0;
     let mut m: u8 = 0;
@@ -58,7 +60,8 @@ fn used_subs(b: &[u8], sets: [u16; 8]) -> u32
 // exactly those who wait for subprogram m where the set is theirs.
 fn line_right(b: &[u8], at: usize, waiting: u8, set: u16, count: u8) -> bool
     requires { ⌜ (length (now b) ≡ imageLength) × (at + 16 ≤ imageLength) × (waiting ≤ 16) × (count ≤ 16) ⌝ }
-    ensures { λ r. ⌜ ((m : ℕ) → Marked count set (passed (waitsFor m) (tasksIn (now (b .entry)))) → r ≡ lineRight (waitsFor m) (tasksIn (now (b .entry))) count waiting (lineFrom (now (b .entry)) at)) ⌝ }
+    ensures { λ r. ⌜ ((m : ℕ) → Marked count set (passed (waitsFor m) (tasksIn (now (b .entry))))
+        → r ≡ lineRight (waitsFor m) (tasksIn (now (b .entry))) count waiting (lineFrom (now (b .entry)) at)) ⌝ }
 {
     let line = sound_queue::walk(b, at, waiting, count);
     if !line.right {
@@ -84,7 +87,9 @@ fn holder_right(b: &[u8], at: usize) -> bool
 // A subprogram at its place, and the set of those who wait for it: its numbers are in range, and it keeps the rule.
 fn sub_right(b: &[u8], at: usize, set: u16, count: u8) -> bool
     requires { ⌜ (length (now b) ≡ imageLength) × (at + 18 ≤ imageLength) × (count ≤ 16) ⌝ }
-    ensures { λ r. ⌜ ((m : ℕ) → Marked count set (passed (waitsFor m) (tasksIn (now (b .entry)))) → r ≡ (subInRange count (subFrom (now (b .entry)) at) and subRight (tasksIn (now (b .entry))) count m (subFrom (now (b .entry)) at))) ⌝ }
+    ensures { λ r. ⌜ ((m : ℕ) → Marked count set (passed (waitsFor m) (tasksIn (now (b .entry))))
+        → r ≡ (subInRange count (subFrom (now (b .entry)) at) and subRight (tasksIn (now (b .entry))) count m
+        (subFrom (now (b .entry)) at))) ⌝ }
 {
     if count < b[at] {
         return false;
@@ -100,7 +105,8 @@ fn sub_right(b: &[u8], at: usize, set: u16, count: u8) -> bool
 
 // The subprograms keep their rules. Only those that are not free are looked at one by one.
 pub(crate) fn subs_right(b: &[u8], count: u8, waiters: u16) -> bool
-    requires { ⌜ (length (now b) ≡ imageLength) × (count ≤ 16) × KindsKnown (now b) count × Marked count waiters (passed (isOf awaitSub) (tasksIn (now b))) ⌝ }
+    requires { ⌜ (length (now b) ≡ imageLength) × (count ≤ 16) × KindsKnown (now b) count
+        × Marked count waiters (passed (isOf awaitSub) (tasksIn (now b))) ⌝ }
     ensures { λ r. ⌜ r ≡ heldRight (loadOf (now (b .entry)) .tasks) count (loadOf (now (b .entry)) .rest .subs) ⌝ }
 {
     let sets = waiting_sets(b, count, waiters);

@@ -68,10 +68,11 @@ fn refusal(b: &[u8], number: u8) -> Answer
     answer(b, number, m, 0)
 }
 
-// A step at the image of a well-formed table, with what the check has learned of it: refused, no byte is written; accepted,
-// the deed is done in place.
+// A step at the image of a well-formed table, with what the check has learned of it: refused, no byte is written;
+// accepted, the deed is done in place.
 fn step(b: &mut [u8], call: &[u8], timed: u16, flagged: u16, running: u32) -> Answer
-    requires { ⌜ (isImage (now b) ≡ true) × (isWellFormed (loadOf (now b)) ≡ true) × Learned timed flagged running (loadOf (now b)) ⌝ }
+    requires { ⌜ (isImage (now b) ≡ true) × (isWellFormed (loadOf (now b)) ≡ true)
+        × Learned timed flagged running (loadOf (now b)) ⌝ }
     ensures { λ r. ⌜ (r ≡ stepOf (loadOf (now (b .entry))) (now (call .entry)) .answer)
         × ((now (b .exit) ≡ imageAfter (now (b .entry)) (now (call .entry)))
         × (r .number ≡ 0 → Holds (now (b .exit)) (stepOf (loadOf (now (b .entry))) (now (call .entry)) .table))) ⌝ }
@@ -87,7 +88,8 @@ fn step(b: &mut [u8], call: &[u8], timed: u16, flagged: u16, running: u32) -> An
     answer(b, 0, m, walked)
 }
 
-// A step, whatever the bytes are, and its answer. Accepted, the image is rewritten; refused, none of its bytes is changed.
+// A step, whatever the bytes are, and its answer. Accepted, the image is rewritten; refused, none of its bytes is
+// changed.
 pub fn act(image: &mut [u8], call: &[u8]) -> Answer
     ensures { λ r. ⌜ Acts (now (image .entry)) (now (call .entry)) (now (image .exit)) r ⌝ }
 {

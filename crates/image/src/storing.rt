@@ -137,7 +137,8 @@ fn put_line(out: &mut [u8], at: usize, line: [TaskNo; 16])
 
 fn put_alarms(out: &mut [u8], alarms: [Millis; 32])
     requires { ⌜ length (now out) ≡ imageLength ⌝ }
-    ensures { λ _. ⌜ (length alarms ≡ 32) × (now (out .exit) ≡ written (now (out .entry)) alarmsAt (row alarmBytes alarms)) ⌝ }
+    ensures { λ _. ⌜ (length alarms ≡ 32)
+        × (now (out .exit) ≡ written (now (out .entry)) alarmsAt (row alarmBytes alarms)) ⌝ }
 {
     let mut i: usize = 0;
     while i < 32 {
@@ -148,7 +149,8 @@ fn put_alarms(out: &mut [u8], alarms: [Millis; 32])
 
 fn put_pool(out: &mut [u8], pool: [Request; 32])
     requires { ⌜ length (now out) ≡ imageLength ⌝ }
-    ensures { λ _. ⌜ (length pool ≡ 32) × (now (out .exit) ≡ written (now (out .entry)) poolAt (row requestBytes pool)) ⌝ }
+    ensures { λ _. ⌜ (length pool ≡ 32)
+        × (now (out .exit) ≡ written (now (out .entry)) poolAt (row requestBytes pool)) ⌝ }
 {
     let mut i: usize = 0;
     while i < 32 {
@@ -211,7 +213,8 @@ pub(crate) fn put_message(out: &mut [u8], at: usize, message: Message)
 
 fn put_messages(out: &mut [u8], messages: [Message; 32])
     requires { ⌜ length (now out) ≡ imageLength ⌝ }
-    ensures { λ _. ⌜ (length messages ≡ 32) × (now (out .exit) ≡ written (now (out .entry)) messagesAt (row messageBytes messages)) ⌝ }
+    ensures { λ _. ⌜ (length messages ≡ 32)
+        × (now (out .exit) ≡ written (now (out .entry)) messagesAt (row messageBytes messages)) ⌝ }
 {
     let mut i: usize = 0;
     while i < 32 {
@@ -231,7 +234,8 @@ pub(crate) fn put_mail(out: &mut [u8], at: usize, mail: Mail)
 
 fn put_all_mail(out: &mut [u8], mail: [Mail; 16])
     requires { ⌜ length (now out) ≡ imageLength ⌝ }
-    ensures { λ _. ⌜ (length mail ≡ 16) × (now (out .exit) ≡ written (now (out .entry)) mailsAt (row mailBytes mail)) ⌝ }
+    ensures { λ _. ⌜ (length mail ≡ 16)
+        × (now (out .exit) ≡ written (now (out .entry)) mailsAt (row mailBytes mail)) ⌝ }
 {
     let mut i: usize = 0;
     while i < 16 {

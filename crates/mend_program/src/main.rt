@@ -1,5 +1,5 @@
-// The mend program: reads an image from standard input, writes the mended image to standard output, and to standard error
-// which entries were changed, or why nothing was.
+// The mend program: reads an image from standard input, writes the mended image to standard output, and to standard
+// error which entries were changed, or why nothing was.
 use libc::STDERR_FILENO;
 use libc::STDIN_FILENO;
 use libc::STDOUT_FILENO;

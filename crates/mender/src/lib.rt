@@ -1,5 +1,5 @@
-// Mending a table: the tasks whose own entry breaks a rule become dormant, what names nobody right is cleared, the queue and
-// the lines are rebuilt, and every entry that differs is listed.
+// Mending a table: the tasks whose own entry breaks a rule become dormant, what names nobody right is cleared, the
+// queue and the lines are rebuilt, and every entry that differs is listed.
 use executive::Table;
 use records::TaskNo;
 

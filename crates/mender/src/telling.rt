@@ -98,8 +98,9 @@ fn told(out: &mut [u8], number: u8, same: bool, list: [u8; 33]) -> usize
     note_lines(out, 0, list, count)
 }
 
-// What a mending is told by, at the start of a buffer: its number, whether it left every byte as it was, and its list in
-// bytes, how many and then of each its task and its rule. The text's length, or 0 and nothing written where it does not fit.
+// What a mending is told by, at the start of a buffer: its number, whether it left every byte as it was, and its list
+// in bytes, how many and then of each its task and its rule. The text's length, or 0 and nothing written where it does
+// not fit.
 pub fn tell(number: u8, same: bool, list: [u8; 33], out: &mut [u8]) -> usize
     ensures { λ r. ⌜ Tells number same list (now (out .entry)) (now (out .exit)) r ⌝ }
 {

@@ -58,8 +58,8 @@ fn next_of(entries: [Entry; 16], what: Tally, from: usize) -> usize
     i
 }
 
-// How many of the entries are counted. It goes from one to the next: a sum over all of them the compiler makes a count of
-// bits, by a multiply.
+// How many of the entries are counted. It goes from one to the next: a sum over all of them the compiler makes a count
+// of bits, by a multiply.
 pub(crate) fn count_of(entries: [Entry; 16], what: Tally) -> u8
     ensures { λ r. ⌜ (r ≡ countOf what entries) × (r ≤ 16) ⌝ }
 {

@@ -11,8 +11,8 @@ pub mod telling;
 
 // Why a task is not running, or that it is: Ready behind how many; Paused and Due until when; Flags with those that are
 // missing; Start and EndOfRequest with the request's place among the queued ones, from 1, and its task; EndOfRun with
-// the task whose run is waited for; Subprogram with its number and its holder; Message with its sender, 0 for any. Dormant
-// stands first: a blank step is a dormant task's.
+// the task whose run is waited for; Subprogram with its number and its holder; Message with its sender, 0 for any.
+// Dormant stands first: a blank step is a dormant task's.
 pub enum Cause {
     Dormant,
     Active,

@@ -26,7 +26,8 @@ fn number(out: &mut [u8], at: usize, n: u64) -> usize
 // Words, of up to 32 bytes, and a number.
 fn worded(out: &mut [u8], at: usize, before: &[u8], n: u64) -> usize
     requires { ⌜ (at + 52 ≤ length (now out)) × (length (now before) ≤ 32) ⌝ }
-    ensures { λ r. ⌜ Adds (now (out .entry)) at (now (out .exit)) r (wordedOf (now (before .entry)) n) × (r ≤ at + 52) ⌝ }
+    ensures { λ r. ⌜ Adds (now (out .entry)) at (now (out .exit)) r (wordedOf (now (before .entry)) n)
+        × (r ≤ at + 52) ⌝ }
 {
     let a = glyphs::text(out, at, before);
     number(out, a, n)
@@ -35,7 +36,8 @@ fn worded(out: &mut [u8], at: usize, before: &[u8], n: u64) -> usize
 // Words, a number, words.
 fn said(out: &mut [u8], at: usize, before: &[u8], n: u64, after: &[u8]) -> usize
     requires { ⌜ (at + 84 ≤ length (now out)) × (length (now before) ≤ 32) × (length (now after) ≤ 32) ⌝ }
-    ensures { λ r. ⌜ Adds (now (out .entry)) at (now (out .exit)) r (saidOf (now (before .entry)) n (now (after .entry))) × (r ≤ at + 84) ⌝ }
+    ensures { λ r. ⌜ Adds (now (out .entry)) at (now (out .exit)) r
+        (saidOf (now (before .entry)) n (now (after .entry))) × (r ≤ at + 84) ⌝ }
 {
     let a = worded(out, at, before, n);
     glyphs::text(out, a, after)
@@ -44,7 +46,8 @@ fn said(out: &mut [u8], at: usize, before: &[u8], n: u64, after: &[u8]) -> usize
 // The number of a bit, a blank before it, where the bit is set.
 fn bit(out: &mut [u8], at: usize, left: u32, n: u8) -> usize
     requires { ⌜ at + 52 ≤ length (now out) ⌝ }
-    ensures { λ r. ⌜ Adds (now (out .entry)) at (now (out .exit)) r (cond (eqb (left % 2) 1) (32 ∷ decimalOf n) []) × (r ≤ at + 52) ⌝ }
+    ensures { λ r. ⌜ Adds (now (out .entry)) at (now (out .exit)) r (cond (eqb (left % 2) 1) (32 ∷ decimalOf n) [])
+        × (r ≤ at + 52) ⌝ }
 {
     if left % 2 == 1 {
         return worded(out, at, b" ", n as u64);
@@ -161,7 +164,8 @@ fn step_line(out: &mut [u8], at: usize, step: Step) -> usize
 // The lines of the first steps.
 fn step_lines(out: &mut [u8], at: usize, steps: [Step; 16], count: usize) -> usize
     requires { ⌜ (at + 28672 ≤ length (now out)) × (count ≤ 16) ⌝ }
-    ensures { λ r. ⌜ Adds (now (out .entry)) at (now (out .exit)) r (stepLines (take count steps)) × (r ≤ at + 28672) ⌝ }
+    ensures { λ r. ⌜ Adds (now (out .entry)) at (now (out .exit)) r (stepLines (take count steps))
+        × (r ≤ at + 28672) ⌝ }
 {
     let mut place = at;
     let mut i: usize = 0;
@@ -176,7 +180,8 @@ fn step_lines(out: &mut [u8], at: usize, steps: [Step; 16], count: usize) -> usi
 // The tasks of some of the first steps, a blank before each.
 fn task_numbers(out: &mut [u8], at: usize, steps: [Step; 16], from: usize, count: usize) -> usize
     requires { ⌜ (at + 832 ≤ length (now out)) × (from ≤ count) × (count ≤ 16) ⌝ }
-    ensures { λ r. ⌜ Adds (now (out .entry)) at (now (out .exit)) r (taskNumbers (drop from (take count steps))) × (r ≤ at + 832) ⌝ }
+    ensures { λ r. ⌜ Adds (now (out .entry)) at (now (out .exit)) r (taskNumbers (drop from (take count steps)))
+        × (r ≤ at + 832) ⌝ }
 {
     let mut place = at;
     let mut i: usize = 0;
@@ -192,7 +197,8 @@ fn task_numbers(out: &mut [u8], at: usize, steps: [Step; 16], from: usize, count
 // The line of the ring; none where there is no ring.
 fn ring_line(out: &mut [u8], at: usize, steps: [Step; 16], from: usize, count: usize) -> usize
     requires { ⌜ (at + 896 ≤ length (now out)) × (count ≤ 16) ⌝ }
-    ensures { λ r. ⌜ Adds (now (out .entry)) at (now (out .exit)) r (ringLine (drop from (take count steps))) × (r ≤ at + 896) ⌝ }
+    ensures { λ r. ⌜ Adds (now (out .entry)) at (now (out .exit)) r (ringLine (drop from (take count steps)))
+        × (r ≤ at + 896) ⌝ }
 {
     if count <= from {
         return at;
