@@ -5,11 +5,10 @@ use crate::Task;
 use crate::messages;
 use crate::places;
 use crate::rules;
-use crate::states;
 ghost use mathlib.Core.Path.{_≡_};
 ghost use Prim.Native.Nat.{_≤_};
 ghost use lib.ListN.{drop, take};
-ghost use Rattle.executive.specs.Lists.{allOf, upTo};
+ghost use Rattle.executive.specs.Lists.{allOf};
 ghost use Rattle.executive.specs.Check.{isUntaken, isNoMessage, lettersRight, sentRight, mailRight};
 
 // No message that its addressee waits for.

@@ -11,7 +11,6 @@ use crate::flags;
 use crate::states;
 ghost use mathlib.Core.Path.{_≡_};
 ghost use Prim.Native.Nat.{_<_};
-ghost use Rattle.executive.specs.States.{ready};
 ghost use Rattle.executive.specs.Check.{inBounds, awaitsInRange, numbersInRange, entryInRange, isZero, isBlank, requestInRange};
 ghost use Rattle.executive.specs.Check.{isStored, isTimely, alarmRight, isUnmet, namesOthers, dormantEntryRight, isFree, entryRight, requestFits};
 ghost use Rattle.executive.specs.Check.{messageInRange, isNoMessage, isNoMail, isEmptied};

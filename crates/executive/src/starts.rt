@@ -10,7 +10,6 @@ use crate::decisions::Decision;
 use crate::decisions::Deed;
 use crate::decisions::How;
 use crate::decisions::Leave;
-use crate::entries;
 use crate::refusals;
 use crate::states;
 use records::TaskNo;

@@ -14,7 +14,7 @@ use records::FlagNo;
 use records::TaskNo;
 ghost use mathlib.Core.Path.{_≡_};
 ghost use Prim.Native.Nat.{_<_, _≤_};
-ghost use lib.ListN.{length, set};
+ghost use lib.ListN.{length};
 ghost use Rattle.executive.specs.declared.Table.{Table};
 ghost use Rattle.executive.specs.Numbers.{flagCount};
 ghost use Rattle.executive.specs.Places.{entryPlace, taskAt};

@@ -14,7 +14,7 @@ ghost use Prim.Native.Nat.{_+_, _≤_, _<_};
 ghost use lib.ListN.{length};
 ghost use Rattle.image.specs.Blocks.{row, written};
 ghost use Rattle.image.specs.Image.{imageLength};
-ghost use Rattle.image.specs.Mending.{isPlain, noRule, ruleFor, listRule, notesFrom, placed, withNote, listLength, noteBytes, notesBytes, MendsImage};
+ghost use Rattle.image.specs.Mending.{isPlain, ruleFor, listRule, notesFrom, placed, withNote, listLength, noteBytes, notesBytes, MendsImage};
 
 const NO_NOTE: Note = Note {
     task: TaskNo(0),

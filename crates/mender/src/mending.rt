@@ -9,7 +9,6 @@ use executive::Table;
 use executive::rules;
 ghost use mathlib.Core.Path.{_≡_};
 ghost use mathlib.Core.List.{[]};
-ghost use Prim.Native.Nat.{ℕ};
 ghost use Rattle.mender.specs.Rounds.{round};
 ghost use Rattle.mender.specs.Rebuilding.{rebuilt};
 ghost use Rattle.mender.specs.Mending.{answered, notesAt, Mends, answeredBy};

@@ -4,10 +4,9 @@ use executive::Task;
 use executive::states;
 use records::TaskNo;
 ghost use mathlib.Core.Path.{_≡_};
-ghost use mathlib.Core.List.{_∷_, [], _++_};
-ghost use Prim.Native.Nat.{_<_, suc};
-ghost use lib.ListN.{take};
-ghost use Rattle.mender.specs.Listing.{noteRule, noteAt, notesOf, notedOf, notedWith};
+ghost use mathlib.Core.List.{[]};
+ghost use Prim.Native.Nat.{_<_};
+ghost use Rattle.mender.specs.Listing.{noteRule, notesOf, notedOf, notedWith};
 
 const NO_NOTE: Note = Note {
     task: TaskNo(0),

@@ -13,7 +13,6 @@ use executive::rules;
 use executive::states;
 use records::TaskNo;
 ghost use mathlib.Core.Path.{_≡_};
-ghost use Rattle.mender.specs.Rules.{ownRules};
 ghost use Rattle.mender.specs.Passes.{ownPass, queuedPass, isHolder, subAfter, alarmAfter, subsAfter, alarmsAfter, heldPass, waiterPass, linkPass};
 ghost use Rattle.mender.specs.Rounds.{settled};
 
