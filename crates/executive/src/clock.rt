@@ -135,7 +135,7 @@ fn next_on_grid(start: Millis, now: Millis, every: Millis) -> Aim
     }
 }
 
-// The time, where none is passed over.
+// An aim that passes over no grid time.
 fn straight(at: Millis) -> Aim
     ensures { λ r. ⌜ (r .at ≡ at) × (r .skipped ≡ 0) ⌝ }
 {

@@ -225,8 +225,7 @@ fn message_at(messages: [Message; 32], i: usize, n: usize) -> Message
     NO_MESSAGE
 }
 
-// Kind 15: the first waiting message that fits is handed out; where there is none, the caller departs and waits for
-// one.
+// Kind 15: the first waiting message that fits is handed out; where there is none, the caller departs and waits.
 pub(crate) fn receive(
     messages: [Message; 32],
     sent: u8,
@@ -274,8 +273,7 @@ impl Rest {
         self
     }
 
-    // The rest with a message put behind all of equal or higher priority; where the last place is taken it stays as it
-    // is.
+    // The rest with a message put behind all of equal or higher priority; where the last place is taken, the rest kept.
     pub fn post_in(mut self, m: Message) -> Rest
         ensures { λ r. ⌜ r ≡ postIn m self ⌝ }
     {

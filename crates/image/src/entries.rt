@@ -1,5 +1,4 @@
-// One task's entry in the lent bytes of its image: what departing and entering make of it. Only what changes is
-// written.
+// One task's entry in the lent bytes of its image: what departing and entering write of it, and no more.
 use crate::AWAITED;
 use crate::fields;
 use crate::numbers;

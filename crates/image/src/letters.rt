@@ -123,8 +123,7 @@ fn message_at(b: &[u8], i: usize, n: usize) -> Message
     messages::NO_MESSAGE
 }
 
-// Kind 15: the first waiting message that fits is handed out; where there is none, the caller departs and waits for
-// one.
+// Kind 15: the first waiting message that fits is handed out; where there is none, the caller departs and waits.
 pub(crate) fn receive(b: &[u8], c: TaskNo, s: TaskNo) -> Decision
     requires { ⌜ length (now b) ≡ imageLength ⌝ }
     ensures { λ r. ⌜ ((t : Table) → Laid (now (b .entry)) t → WellFormed t

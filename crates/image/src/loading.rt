@@ -30,8 +30,7 @@ ghost use Rattle.image.specs.Blocks.{blocks};
 ghost use Rattle.image.specs.Image.{stateIn, taskFrom, lineFrom, alarmFrom, requestFrom, subFrom, alarmsAt, poolAt, subsAt, imageLength, subLength, Loads};
 ghost use Rattle.image.specs.Image.{messageFrom, mailFrom, messagesAt, mailsAt, messageLength, mailLength};
 
-// The state of a kind, a time, a mask and a number. A byte that is no kind gives a wait for a subprogram that there is
-// not.
+// The state of a kind, a time, a mask and a number. A byte that is no kind gives a wait for subprogram 255.
 pub(crate) fn state_of(kind: u8, time: Millis, mask: u32, number: u8) -> State
     ensures { λ r. ⌜ r ≡ stateIn kind time mask number ⌝ }
 {

@@ -75,8 +75,8 @@ pub(crate) fn move_down(b: &mut [u8], to: usize, from: usize, n: usize)
     }
 }
 
-// The eleven bytes of a message move towards the end by as many. All are read first: a Cortex-M3 then moves them by
-// fours.
+// The eleven bytes of a message move towards the end by as many. All are read first, so that a Cortex-M3 moves them by
+// fours and not one by one.
 fn letter_down(b: &mut [u8], at: usize)
     requires { ⌜ at + 22 ≤ length (now b) ⌝ }
     ensures { λ _. ⌜ now (b .exit) ≡ written (now (b .entry)) (at + 11) (take 11 (drop at (now (b .entry)))) ⌝ }

@@ -78,8 +78,7 @@ fn letters_right(b: &[u8], sent: u8, count: u8, free: u32) -> bool
     true
 }
 
-// The messages keep their rules. The set is of those who wait for a message, bit i for the task whose entry is the
-// i-th.
+// The messages keep their rules. The set is of those who wait for a message, bit i for the i-th entry's task.
 pub(crate) fn sent_right(b: &[u8], sent: u8, count: u8, receivers: u16) -> bool
     requires { ⌜ (length (now b) ≡ imageLength) × (count ≤ 16)
         × Marked count receivers (passed (isOf awaitMessage) (tasksIn (now b))) ⌝ }

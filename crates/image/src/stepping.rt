@@ -88,8 +88,7 @@ fn step(b: &mut [u8], call: &[u8], timed: u16, flagged: u16, running: u32) -> An
     answer(b, 0, m, walked)
 }
 
-// A step, whatever the bytes are, and its answer. Accepted, the image is rewritten; refused, none of its bytes is
-// changed.
+// A step, whatever the bytes are, and its answer. Accepted, the image is rewritten; refused, every byte is kept.
 pub fn act(image: &mut [u8], call: &[u8]) -> Answer
     ensures { λ r. ⌜ Acts (now (image .entry)) (now (call .entry)) (now (image .exit)) r ⌝ }
 {

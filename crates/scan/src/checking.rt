@@ -1,5 +1,4 @@
-// The check of the second engine's table: the first engine's rules on the entries and the rest, and the arrival
-// numbers.
+// The check of the second engine's table: the first engine's rules of entries and rest, and the arrival numbers.
 use crate::Entry;
 use crate::Scanned;
 use crate::moves;
