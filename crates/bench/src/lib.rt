@@ -8,7 +8,7 @@ mod steps;
 
 // What is told next: the header, with the task that is active in the fresh table; a step; a stop with its number;
 // nothing.
-#[derive(Drop)]
+#[derive(Clone, Copy)]
 pub enum Next {
     Header(TaskNo),
     Step,
@@ -18,7 +18,7 @@ pub enum Next {
 
 // Where a listing stands: what is told next, where in the input the next step begins, that step's number, and the
 // table.
-#[derive(Drop)]
+#[derive(Clone, Copy)]
 pub struct Progress {
     pub next: Next,
     pub at: usize,
@@ -28,7 +28,7 @@ pub struct Progress {
 
 // What filling a buffer answers: how many bytes of it are text, whether there is more to tell, and where the
 // listing stands.
-#[derive(Drop)]
+#[derive(Clone, Copy)]
 pub struct Filled {
     pub used: usize,
     pub more: bool,

@@ -7,7 +7,7 @@ use crate::{lists, refusals, types};
 use records::{Call, Got, kinds};
 
 // The bytes of a block, with zeros after them, and their number; 0 where there is no block.
-#[derive(Drop)]
+#[derive(Clone, Copy)]
 struct Laid([u8; 6], usize);
 
 // The block of a call, with the work address.

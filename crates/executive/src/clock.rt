@@ -75,7 +75,7 @@ pub fn millis_of(unit: u8, count: u8) -> Millis
 }
 
 // A length of time in whole intervals, and what is left of it.
-#[derive(Drop)]
+#[derive(Clone, Copy)]
 struct Parts {
     times: u64,
     rest: u64,
@@ -115,7 +115,7 @@ fn skips_missed(param: u8, count: u8) -> bool
 }
 
 // The time that a restart aims at, and how many grid times it passes over.
-#[derive(Drop)]
+#[derive(Clone, Copy)]
 pub(crate) struct Aim {
     pub at: Millis,
     pub skipped: u64,

@@ -14,7 +14,7 @@ use crate::{
 use records::{Call, Got, TaskNo, kinds, reading};
 
 // What is decided of a record, and the rest as it is after that.
-#[derive(Drop)]
+#[derive(Clone, Copy)]
 pub struct Settled {
     pub decision: Decision,
     pub rest: Rest,

@@ -32,18 +32,18 @@ mod waiters;
 mod waking;
 
 // A time of the clock, or a length of time, in milliseconds.
-#[derive(Drop)]
+#[derive(Clone, Copy)]
 pub struct Millis(pub u64);
 
 // Whether a task waits for any or for all flags of a mask.
-#[derive(Drop)]
+#[derive(Clone, Copy)]
 pub enum Mode {
     Any,
     All,
 }
 
 // A task is in exactly one state. Dormant stands first: an entry of zeros is a dormant task's.
-#[derive(Drop)]
+#[derive(Clone, Copy)]
 pub enum State {
     Dormant,
     Ready,
@@ -58,7 +58,7 @@ pub enum State {
 
 // A task's entry: its own priority; its run's current priority and argument; who waits for its end; its state; its
 // last scheduled start. In this order an entry is 32 bytes long.
-#[derive(Drop)]
+#[derive(Clone, Copy)]
 pub struct Task {
     pub own: u8,
     pub priority: u8,
@@ -69,7 +69,7 @@ pub struct Task {
 }
 
 // A queued start request. It names at most one waiter: for its start, or for the end of the run that it begins.
-#[derive(Drop)]
+#[derive(Clone, Copy)]
 pub struct Request {
     pub target: TaskNo,
     pub priority: u8,
@@ -80,7 +80,7 @@ pub struct Request {
 
 // A controlled subprogram (02): the task inside it, its holder, 0 where it is free; and those who wait to enter, first
 // to last. The first `waiting` places of the line are taken.
-#[derive(Drop)]
+#[derive(Clone, Copy)]
 pub struct Sub {
     pub holder: TaskNo,
     pub line: [TaskNo; 16],
@@ -89,7 +89,7 @@ pub struct Sub {
 
 // A message that waits (02): the task that it is for, the one that sent it, the sender's priority when it was sent, and
 // its text.
-#[derive(Drop)]
+#[derive(Clone, Copy)]
 pub struct Message {
     pub to: TaskNo,
     pub sender: TaskNo,
@@ -99,7 +99,7 @@ pub struct Message {
 
 // The message that stands in a task's entry (02), put there while the task waited for it: its sender and its text,
 // zeros where there is none.
-#[derive(Drop)]
+#[derive(Clone, Copy)]
 pub struct Mail {
     pub sender: TaskNo,
     pub text: Text,
@@ -107,7 +107,7 @@ pub struct Mail {
 
 // What no task's entering or departing touches. An alarm at 0 is not running. The first `sent` places of the messages
 // are taken; the mail of task k is at place k - 1.
-#[derive(Drop)]
+#[derive(Clone, Copy)]
 pub struct Rest {
     pub count: u8,
     pub granule: u8,
@@ -124,7 +124,7 @@ pub struct Rest {
 
 // The table. The first `ready` places of the queue are taken; task k has its entry at place k - 1. Bit p of `levels` is
 // set exactly if some ready task has priority p.
-#[derive(Drop)]
+#[derive(Clone, Copy)]
 pub struct Table {
     pub tasks: [Task; 16],
     pub queue: [TaskNo; 16],
@@ -135,14 +135,14 @@ pub struct Table {
 
 // A step in flight: the table as it stands on the way, and how many ready tasks those who entered so far were put
 // behind, all together (02).
-#[derive(Drop)]
+#[derive(Clone, Copy)]
 struct Work {
     table: Table,
     walked: u8,
 }
 
 // What a caller of kind 05 waits for.
-#[derive(Drop)]
+#[derive(Clone, Copy)]
 enum AwaitedMoment {
     ForNothing,
     ForStart,
@@ -151,7 +151,7 @@ enum AwaitedMoment {
 
 // What an accepted call says of itself: Z, V and C, how many grid times it passed over (docs/CALLS.md, 2), and the
 // sender and the text of the message that it hands out (02), zeros where it hands out none.
-#[derive(Drop)]
+#[derive(Clone, Copy)]
 pub struct Marks {
     pub z: bool,
     pub v: bool,
@@ -164,7 +164,7 @@ pub struct Marks {
 // What a step answers: its number, Z, V and C, the active task (0 when idle) and its run's argument; how many grid
 // times a restart passed over; how many ready tasks were passed over by those that entered; the sender and the text of
 // the message that a receive hands out.
-#[derive(Drop)]
+#[derive(Clone, Copy)]
 pub struct Answer {
     pub number: u8,
     pub z: bool,
@@ -179,21 +179,21 @@ pub struct Answer {
 }
 
 // What a step hands back: its answer, and the table's state.
-#[derive(Drop)]
+#[derive(Clone, Copy)]
 pub struct Outcome {
     pub answer: Answer,
     pub table: Table,
 }
 
 // What the status lamp shows: nothing when the executive is idle, else the highest ready priority.
-#[derive(Drop)]
+#[derive(Clone, Copy)]
 pub enum Lamp {
     Dark,
     Level(u8),
 }
 
 // What a configuration makes: an answer with number 0 and the table, or one with number 2 and a table of zeros.
-#[derive(Drop)]
+#[derive(Clone, Copy)]
 pub struct Fresh {
     pub answer: Answer,
     pub table: Table,

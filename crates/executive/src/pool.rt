@@ -17,7 +17,7 @@ pub const NO_REQUEST: Request = Request {
 };
 
 // Where a request stands in the pool.
-#[derive(Drop)]
+#[derive(Clone, Copy)]
 pub(crate) enum Found {
     At(usize),
     Nothing,

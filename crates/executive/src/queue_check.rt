@@ -60,7 +60,7 @@ pub(crate) fn plus_if(c: u8, k: u8, x: u8) -> u8
 }
 
 // How often each number stands in a line: that of k at place k - 1. Place 16 is for the numbers that no task can have.
-#[derive(Drop)]
+#[derive(Clone, Copy)]
 struct Counts {
     of: [u8; 17],
 }

@@ -9,7 +9,7 @@ use crate::{Request, Task, queue_check, states};
 use records::TaskNo;
 
 // What a request's waiter waits for: its start, or the end of the run that it begins.
-#[derive(Drop)]
+#[derive(Clone, Copy)]
 enum Link {
     AtStart,
     AtEnd,

@@ -19,7 +19,7 @@ const NO_NOTE: Note = Note {
 const NO_RULE: u8 = 255;
 
 // The list: its first `noted` places are taken.
-#[derive(Drop)]
+#[derive(Clone, Copy)]
 pub(crate) struct Notes {
     pub(crate) list: [Note; 16],
     pub(crate) noted: u8,

@@ -15,7 +15,7 @@ use executive::{Millis, rules};
 
 // What the check finds: whether all is right; those of each kind, bit i for the task whose entry is the i-th; the
 // alarms that are running.
-#[derive(Drop)]
+#[derive(Clone, Copy)]
 pub(crate) struct Seen {
     pub(crate) sets: [u16; 10],
     pub(crate) right: bool,

@@ -182,7 +182,7 @@ pub(crate) fn kind_sets(b: &[u8], count: u8) -> [u16; 10]
 }
 
 // What a look at the alarms finds: whether each that is running has a stored time, and which are running.
-#[derive(Drop)]
+#[derive(Clone, Copy)]
 pub(crate) struct Alarms {
     pub(crate) right: bool,
     pub(crate) running: u32,

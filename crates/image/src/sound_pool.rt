@@ -58,7 +58,7 @@ pub(crate) fn named(b: &[u8], set: u32, at: usize, step: usize, n: u8, count: u8
 
 // What a look at the requests finds: whether they keep the rules on one request and name busy tasks only; whom they
 // name as waiters for a start, and, with those of the runs, for an end.
-#[derive(Drop)]
+#[derive(Clone, Copy)]
 struct Waiters {
     right: bool,
     starts: u32,

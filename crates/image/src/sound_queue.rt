@@ -13,7 +13,7 @@ use records::TaskNo;
 
 // What a walk over a line finds: whether those who stand there are tasks, in descending priority, and nobody
 // twice; who they are, bit i for the task whose entry is the i-th; the word of their levels.
-#[derive(Drop)]
+#[derive(Clone, Copy)]
 pub(crate) struct Walked {
     pub(crate) right: bool,
     pub(crate) seen: u32,

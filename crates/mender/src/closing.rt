@@ -7,14 +7,14 @@ ghost use Rattle.mender.specs.Passes.{keeps_request, pooled_of, pooled_with, pos
 use executive::{Message, Request, Task, messages, places, pool, rules, states};
 
 // The first `queued` places are taken.
-#[derive(Drop)]
+#[derive(Clone, Copy)]
 pub(crate) struct Pooled {
     pub(crate) pool: [Request; 32],
     pub(crate) queued: u8,
 }
 
 // The first `sent` places are taken.
-#[derive(Drop)]
+#[derive(Clone, Copy)]
 pub(crate) struct Posted {
     pub(crate) messages: [Message; 32],
     pub(crate) sent: u8,

@@ -15,14 +15,14 @@ mod rules;
 pub mod telling;
 
 // A task whose entry differs, and the number of the rule that it broke first, or 13 for a waiter whose link was lost.
-#[derive(Drop)]
+#[derive(Clone, Copy)]
 pub struct Note {
     pub task: TaskNo,
     pub rule: u8,
 }
 
 // What mending makes: its number, 0 or 17, the table, and the list: its first `noted` places are taken.
-#[derive(Drop)]
+#[derive(Clone, Copy)]
 pub struct Mended {
     pub number: u8,
     pub table: Table,

@@ -7,28 +7,28 @@ use executive::{Request, Table, Task, places, states};
 use records::TaskNo;
 
 // The entries, and who is named so far, by place.
-#[derive(Drop)]
+#[derive(Clone, Copy)]
 struct Runs {
     tasks: [Task; 16],
     named: [bool; 16],
 }
 
 // A request, and who is named so far.
-#[derive(Drop)]
+#[derive(Clone, Copy)]
 struct Asked {
     request: Request,
     named: [bool; 16],
 }
 
 // The pool, and who is named so far.
-#[derive(Drop)]
+#[derive(Clone, Copy)]
 struct Links {
     pool: [Request; 32],
     named: [bool; 16],
 }
 
 // The table with its links right, and who is named.
-#[derive(Drop)]
+#[derive(Clone, Copy)]
 pub(crate) struct Linked {
     pub(crate) table: Table,
     pub(crate) named: [bool; 16],

@@ -12,7 +12,7 @@ const NO_NOTE: Note = Note {
 };
 
 // The first `noted` places are taken.
-#[derive(Drop)]
+#[derive(Clone, Copy)]
 pub(crate) struct Notes {
     pub(crate) list: [Note; 16],
     pub(crate) noted: u8,

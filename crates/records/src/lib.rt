@@ -1,4 +1,6 @@
 // The records of the executive's calls, of its tick and of its configuration: what one holds.
+#![tactic(auto)]
+
 pub mod kinds;
 mod promises;
 pub mod reading;
@@ -6,23 +8,23 @@ pub mod trips;
 pub mod writing;
 
 // A task's number, as it came.
-#[derive(Drop)]
+#[derive(Clone, Copy)]
 pub struct TaskNo(pub u8);
 
 // A flag's number, as it came.
-#[derive(Drop)]
+#[derive(Clone, Copy)]
 pub struct FlagNo(pub u8);
 
 // A controlled subprogram's number, as it came.
-#[derive(Drop)]
+#[derive(Clone, Copy)]
 pub struct SubNo(pub u8);
 
 // A message's text, as it came: its eight bytes as one number, the first the highest.
-#[derive(Drop)]
+#[derive(Clone, Copy)]
 pub struct Text(pub u64);
 
 // The kinds of records, and Unknown for a first byte that is no carried kind.
-#[derive(Drop)]
+#[derive(Clone, Copy)]
 pub enum Kind {
     Unknown,
     Terminate,
@@ -45,7 +47,7 @@ pub enum Kind {
 }
 
 // A record's kind with the numbers of its body as they came, unused bits too.
-#[derive(Drop)]
+#[derive(Clone, Copy)]
 pub enum Call {
     Terminate,
     Restart {
@@ -106,14 +108,14 @@ pub enum Call {
 }
 
 // What reading a record answers: the call, or the number of the refusal.
-#[derive(Drop)]
+#[derive(Clone, Copy)]
 pub enum Got {
     Call(Call),
     Refused(u8),
 }
 
 // What writing a record answers: its length, or the number of the refusal.
-#[derive(Drop)]
+#[derive(Clone, Copy)]
 pub enum Written {
     Length(usize),
     Refused(u8),

@@ -6,7 +6,7 @@ ghost use Rattle.records.specs.declared.Call.TheVariants as call;
 use crate::{Call, TaskNo, Text, Written};
 
 // The bytes of a record, with zeros after them, and their number.
-#[derive(Drop)]
+#[derive(Clone, Copy)]
 struct Encoded([u8; 10], usize);
 
 // A record of up to four bytes.

@@ -12,7 +12,7 @@ mod step;
 mod tallies;
 
 // A task's entry, and its arrival number: 0 where it is not ready.
-#[derive(Drop)]
+#[derive(Clone, Copy)]
 pub struct Entry {
     pub task: Task,
     pub arrival: u32,
@@ -20,7 +20,7 @@ pub struct Entry {
 
 // The table: task k has its entry at place k - 1; the last arrival number that was given; what no task's entering or
 // departing touches.
-#[derive(Drop)]
+#[derive(Clone, Copy)]
 pub struct Scanned {
     pub entries: [Entry; 16],
     pub last: u32,
@@ -28,7 +28,7 @@ pub struct Scanned {
 }
 
 // The best entry so far, if one is found: where it stands, its priority and its arrival number.
-#[derive(Drop)]
+#[derive(Clone, Copy)]
 pub struct Best {
     pub found: bool,
     pub at: usize,
@@ -38,21 +38,21 @@ pub struct Best {
 
 // A step in flight: the table as it stands on the way, and how many ready tasks those who entered so far were put
 // behind, all together.
-#[derive(Drop)]
+#[derive(Clone, Copy)]
 struct Work {
     table: Scanned,
     walked: u8,
 }
 
 // What a step hands back: its answer, which is the first engine's, and the table's state.
-#[derive(Drop)]
+#[derive(Clone, Copy)]
 pub struct Scan {
     pub answer: Answer,
     pub table: Scanned,
 }
 
 // What a configuration makes: number 0 and the table, or number 2 and a table of zeros.
-#[derive(Drop)]
+#[derive(Clone, Copy)]
 pub struct Made {
     pub number: u8,
     pub table: Scanned,

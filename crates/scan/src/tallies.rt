@@ -7,7 +7,7 @@ use executive::{places, states};
 
 // Which entries are counted: the ready ones; of these the ones with a number under one, and the ones with a priority or
 // a higher one; all that bear a number.
-#[derive(Drop)]
+#[derive(Clone, Copy)]
 pub(crate) enum Tally {
     IsReady,
     Earlier(u32),

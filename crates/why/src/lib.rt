@@ -11,7 +11,7 @@ pub mod telling;
 // missing; Start and EndOfRequest with the request's place among the queued ones, from 1, and its task; EndOfRun with
 // the task whose run is waited for; Subprogram with its number and its holder; Message with its sender, 0 for any.
 // Dormant stands first: a blank step is a dormant task's.
-#[derive(Drop)]
+#[derive(Clone, Copy)]
 pub enum Cause {
     Dormant,
     Active,
@@ -27,7 +27,7 @@ pub enum Cause {
 }
 
 // A task on the path, and why it is not running.
-#[derive(Drop)]
+#[derive(Clone, Copy)]
 pub struct Step {
     pub task: TaskNo,
     pub cause: Cause,
@@ -35,7 +35,7 @@ pub struct Step {
 
 // What is asked of a table is answered by a number (docs/CALLS.md, 6), V with 6, and the path: its first `length`
 // steps. The last `ring` of them wait for each other in a ring; 0: no ring.
-#[derive(Drop)]
+#[derive(Clone, Copy)]
 pub struct Reasons {
     pub number: u8,
     pub v: bool,
@@ -45,7 +45,7 @@ pub struct Reasons {
 }
 
 // What a task waits for: the queued request at a place, from 1, a task's run, or a subprogram that is held.
-#[derive(Drop)]
+#[derive(Clone, Copy)]
 enum On {
     Request(u8),
     Run(TaskNo),

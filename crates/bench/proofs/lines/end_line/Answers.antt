@@ -1,0 +1,11 @@
+-- `lines::end_line` meets its contract: there is room for it.
+use native.Mathlib.Omega.{arith}
+use Rattle.text.proofs.Assured.{put_last}
+use borrow.Author.Rules.{rules}
+use Rattle.bench.proofs.lines.end_line.Goals as goal
+
+pub returns : goal.returns
+returns c =
+    let at-text = (goal.at.returns c).After-text in
+    let start = at-text.before.before.before.before in
+    put_last at-text.text.ensures (omega (arith, start.requires))

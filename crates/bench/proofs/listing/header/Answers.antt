@@ -1,0 +1,5 @@
+use borrow.Author.Rules.{rules}
+use Rattle.bench.proofs.listing.header.Goals as goal
+
+pub returns : goal.returns
+returns c = c.header_line.ensures

@@ -1,0 +1,16 @@
+-- `asking::list_in` meets its contract: the invariant is that the array begins with the addresses that were read.
+use mathlib.Core.List.{[], ◌∷◌}
+use mathlib.Core.Path.{◌≡◌, refl, sym, ap, ◌∙◌}
+use native.Mathlib.Omega.{arith}
+use borrow.Author.Rules.{rules}
+use Rattle.blocks.proofs.asking.Laws.{list-turn}
+use Prim.Native.Nat.{ℕ, ◌≤◌, ◌-◌}
+use lib.ListN.{length, take, replicate, length-replicate, length-set}
+use Rattle.records.specs.Numbers.{number_of, cut}
+use Rattle.blocks.proofs.asking.list_in.Given as goal
+
+abbrev pub invariant-loop-i : goal.invariant-loop-i
+invariant-loop-i l = (l.i ≤ l.count) × (length l.list ≡ 255) × (take l.i l.list ≡ cut (replicate l.i 2) 8 l.head)
+
+abbrev pub decreases-loop-i : goal.decreases-loop-i
+decreases-loop-i l = l.count - l.i

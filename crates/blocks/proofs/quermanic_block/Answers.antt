@@ -1,0 +1,95 @@
+-- `quermanic_block` meets its contract: each test picks its case of the answer, with what the head says.
+use Prim.Native.Nat.{ℕ}
+use mathlib.Core.Path.{sym, ◌∙◌, ◌≡◌}
+use mathlib.Core.Bool.{false}
+use mathlib.Core.List.{List}
+use native.Mathlib.Omega.{arith}
+use lib.ListN.{length, get_or, take}
+use borrow.Author.Rules.{rules}
+use Rattle.blocks.specs.Asking.{list_in, is_no_head, read_in}
+use Rattle.blocks.proofs.asking.Laws.{list-is, count-is, record_is, read_is, ends, not-asked, asked_write, read_no, read_told, read_short}
+use Rattle.blocks.proofs.quermanic_block.Goals as goal
+use Rattle.blocks.proofs.quermanic_block.Goals.{After-count_in-count, After-read}
+
+abbrev head : After-count_in-count → List ℕ
+head m = m.args.head.now
+
+abbrev image : After-count_in-count → List ℕ
+image m = m.args.image.now
+
+abbrev room : After-count_in-count → List ℕ
+room m = m.args.room.now
+
+-- the head is one, and the code's list is its own
+is-head : (m : After-count_in-count) → is_no_head (head m) ≡ false
+is-head m = sym m.is_no_head.ensures ∙ m.if-is_no_head.false
+
+list : (m : After-count_in-count) → take m.count_in-count.result m.list_in-list.result ≡ list_in (head m)
+list m = list-is (head m) m.list_in-list.result m.count_in-count.result m.count_in-count.ensures.0 m.list_in-list.ensures
+
+counts : (m : After-count_in-count) → m.count_in-count.result ≡ length (take m.count_in-count.result m.list_in-list.result)
+counts m = count-is (head m) m.list_in-list.result m.count_in-count.result m.count_in-count.ensures.1 m.list_in-list.ensures
+
+-- what is asked is a read, and this is what it gives
+is_read : (x : After-read) → get_or (head (goal.at.After-read x).After-list_in-list) 0 0 ≡ 1 → ⊥
+is_read x z = x.if-byte_at-eq1.false (x.byte_at.ensures ∙ z)
+
+given : (x : After-read) → let m = (goal.at.After-read x).After-list_in-list in read_in (head m) (image m) ≡ x.read.result
+given x =
+    let m = (goal.at.After-read x).After-list_in-list in
+    let a = m.address_in-address.ensures in
+    let b = m.beside_in-beside.ensures in
+    read_is (head m) (image m) _ _ _ a (list m) b x.read.result x.read.ensures
+
+pub returns-then-is_no_head : goal.returns-then-is_no_head
+returns-then-is_no_head c =
+    let d = c.args in
+    not-asked d.head.now d.image.now d.room.now (sym c.is_no_head.ensures ∙ c.if-is_no_head.true)
+
+pub slice_bounds-write_record-end : goal.slice_bounds-write_record-end
+slice_bounds-write_record-end c = counts (goal.at.slice_bounds-write_record-end c).After-count_in-count
+
+pub slice_bounds-write_record-end-then-byte_at-eq1 : goal.slice_bounds-write_record-end-then-byte_at-eq1
+slice_bounds-write_record-end-then-byte_at-eq1 c =
+    let m = (goal.at.slice_bounds-write_record-end-then-byte_at-eq1 c).After-count_in-count in
+    let h = ends (head m) (is-head m) in
+    omega (arith, c.end_of_lem.ensures)
+
+pub returns-then-byte_at-eq1 : goal.returns-then-byte_at-eq1
+returns-then-byte_at-eq1 c =
+    let m = (goal.at.returns-then-byte_at-eq1 c).After-count_in-count in
+    let q = head m in
+    let a = m.address_in-address.ensures in
+    let b = m.beside_in-beside.ensures in
+    let x = c.record_at-from in
+    let r = record_is q x.result c.end_of_lem.result x.ensures.0 c.end_of_lem.ensures in
+    let w = sym c.byte_at.ensures ∙ c.if-byte_at-eq1.true in
+    asked_write q (image m) (room m) (is-head m) _ _ _ _ _ _ w a (list m) r b c.write_record.ensures
+
+pub slice_bounds-read-end : goal.slice_bounds-read-end
+slice_bounds-read-end c = counts (goal.at.slice_bounds-read-end c).After-list_in-list
+
+pub returns-in-Length : goal.returns-in-Length
+returns-in-Length c =
+    let x = (goal.at.returns-in-Length c).After-read in
+    let m = (goal.at.After-read x).After-list_in-list in
+    let k = c.call-1.given in
+    let w = c.write.ensures in
+    let n = sym w.answer ∙ c.in-Length.is in
+    read_told (head m) (image m) (room m) (is-head m) (is_read x) k.0.0 _ (given x ∙ k.1) w.buffer _ n
+
+pub returns-in-Refused-write : goal.returns-in-Refused-write
+returns-in-Refused-write c =
+    let x = (goal.at.returns-in-Refused-write c).After-read in
+    let m = (goal.at.After-read x).After-list_in-list in
+    let k = c.call-1.given in
+    let w = c.write.ensures in
+    let n = c.number-1.given in
+    read_short (head m) (image m) (room m) (is-head m) (is_read x) k.0.0 _ (given x ∙ k.1) w.buffer n.0.0 (sym w.answer ∙ n.1)
+
+pub returns-in-Refused : goal.returns-in-Refused
+returns-in-Refused c =
+    let x = (goal.at.returns-in-Refused c).After-read in
+    let m = (goal.at.After-read x).After-list_in-list in
+    let n = c.number-in-Refused-read-1.given in
+    read_no (head m) (image m) (room m) (is-head m) (is_read x) n.0.0 (given x ∙ n.1)

@@ -1,0 +1,7 @@
+use Rattle.executive.proofs.queue.ArraysAreLists.{made-removed}
+use borrow.Author.Rules.{rules}
+use Rattle.executive.proofs.Rest.without.Goals as goal
+
+pub returns : goal.returns
+returns c =
+    rw c.dropped_at-left.ensures (made-removed c.args.self c.requires.0 c.args.i c.requires.1)

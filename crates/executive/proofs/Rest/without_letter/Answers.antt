@@ -1,0 +1,7 @@
+use borrow.Author.Rules.{rules}
+use Rattle.executive.proofs.messages.Arrays.{made-without}
+use Rattle.executive.proofs.Rest.without_letter.Goals as goal
+
+pub returns : goal.returns
+returns c =
+    rw c.dropped_at-left.ensures (made-without c.args.self c.requires.0 c.args.i c.requires.1)

@@ -1,0 +1,13 @@
+use mathlib.Core.Path.{refl}
+use borrow.Author.Tests.{ne_eqb}
+use Rattle.executive.specs.Step.{refused}
+use borrow.Author.Rules.{rules}
+use Rattle.executive.proofs.Table.refuse.Goals as goal
+
+pub returns-then-number-eq1 : goal.returns-then-number-eq1
+unfolding refused
+returns-then-number-eq1 c = rw (c.no_table-answer.ensures, c.if-number-eq1.true) refl
+
+pub returns : goal.returns
+unfolding refused
+returns c = rw (c.answer-answer.ensures, c.marked-m.ensures, c.has_v-v.ensures, ne_eqb _ _ c.if-number-eq1.false) refl

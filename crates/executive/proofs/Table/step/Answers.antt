@@ -1,0 +1,10 @@
+use mathlib.Core.Path.{sym, ◌∙◌}
+use Rattle.executive.proofs.step.CodeIsStep.{step-queue}
+use borrow.Author.Rules.{rules}
+use Rattle.executive.proofs.Table.step.Goals as goal
+
+pub perform-requires : goal.perform-requires
+perform-requires c = sym c.queue_right.ensures ∙ c.if-queue_right.true
+
+pub returns : goal.returns
+returns c = c.refuse.ensures ∙ step-queue c.args.self c.args.bytes.now (sym c.queue_right.ensures ∙ c.if-queue_right.false)

@@ -1,0 +1,42 @@
+use mathlib.Core.Path.{◌≡◌}
+use mathlib.Core.Logic.{⊎_elim}
+use Prim.Native.Nat.{◌+◌, ◌*◌, ◌%◌, ◌<◌}
+use native.Mathlib.Nat.{mod-eq_of_lt}
+use native.Mathlib.Omega.{arith}
+use lib.Bits.{bit_and, and_mask}
+use borrow.Author.Rules.{rules}
+use Rattle.executive.specs.Numbers.{longest}
+use Rattle.executive.proofs.clock.Interval.{turned, step-within}
+use Rattle.executive.proofs.clock.added_up.Goals as goal
+
+pub overflow_add-sum : goal.overflow_add-sum
+overflow_add-sum c =
+    let v = c.loop-left in
+    let p = c.requires in
+    let s = step-within v.left v.step longest (omega arith) (omega (arith, v.invariant.1)) in
+    omega (arith, v.invariant.1)
+
+pub loop-left-smaller : goal.loop-left-smaller
+loop-left-smaller c = omega arith
+
+pub loop-left-preserved : goal.loop-left-preserved
+loop-left-preserved c =
+    let v = c.loop-left in
+    let p = c.requires in
+    let s = step-within v.left v.step longest (omega arith) (omega (arith, v.invariant.1)) in
+    let e : v.step * 2 % 18446744073709551616 ≡ v.step * 2 = mod-eq_of_lt (omega arith) in
+    let m : bit_and v.left 1 ≡ v.left % 2 = and_mask v.left 1 in
+    let r = v.invariant.1 in (
+      omega arith,
+      rw e (⊎_elim
+          (λ w. omega (arith, turned v.left v.step 1 (omega arith)))
+          (λ w. omega (arith, turned v.left v.step 0 (omega arith)))
+          c.if-left-eq1.branch),
+    )
+
+pub returns : goal.returns
+returns c =
+    let v = c.loop-left in
+    let z : v.left ≡ 0 = omega arith in
+    let e = rw z at v.invariant.1 in
+    omega arith

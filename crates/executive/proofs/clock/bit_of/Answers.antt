@@ -1,0 +1,7 @@
+use native.Mathlib.Nat.{one-mul, mod-eq_of_lt}
+use lib.Pow.{pow-lt}
+use borrow.Author.Rules.{rules}
+use Rattle.executive.proofs.clock.bit_of.Goals as goal
+
+pub returns : goal.returns
+returns c = simp (one-mul, mod-eq_of_lt (pow-lt {j = 32} c.requires))

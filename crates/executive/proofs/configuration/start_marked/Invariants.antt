@@ -1,0 +1,18 @@
+-- `executive::configuration::start_marked` meets its contract.
+use mathlib.Core.Path.{◌≡◌, ap, ◌∙◌}
+use native.Mathlib.Omega.{arith}
+use Prim.Native.Nat.{ℕ, ◌≤◌, ◌<◌, ◌+◌, ◌-◌}
+use Rattle.executive.specs.declared.Work.{Work}
+use Rattle.executive.specs.Queue.{count}
+use Rattle.executive.specs.Table.{InFlight, view, enter_all_in_flight, lit_in_flight}
+use Rattle.executive.specs.Configuration.{marked_start, starters}
+use Rattle.executive.proofs.configuration.Loops.{marked-short, start-more, nobody_in, start-vacant}
+use Rattle.executive.proofs.queue.InFlight.{fewer-flying, enters-flying, lit-on_the_way, lit-flying}
+use Rattle.executive.proofs.configuration.start_marked.Given as goal
+
+abbrev pub invariant-loop-k : goal.invariant-loop-k
+invariant-loop-k l =
+    (l.k ≤ l.n) × InFlight (l.n - l.k) l.v × (l.v ≡ lit_in_flight (enter_all_in_flight (starters l.s l.k 1) l.initial.v)) × ((j : ℕ) → l.k < j → count j (view l.v.table) ≡ 0)
+
+abbrev pub decreases-loop-k : goal.decreases-loop-k
+decreases-loop-k l = l.n - l.k

@@ -1,0 +1,6 @@
+use mathlib.Core.Path.{refl}
+use borrow.Author.Rules.{rules}
+use Rattle.executive.proofs.flags.flag_reset.Goals as goal
+
+pub returns : goal.returns
+returns c = rw c.bit_of-bit.ensures refl

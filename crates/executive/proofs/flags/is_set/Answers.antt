@@ -1,0 +1,8 @@
+use mathlib.Core.Path.{refl}
+use Rattle.executive.specs.Flags.{is_set}
+use borrow.Author.Rules.{rules}
+use Rattle.executive.proofs.flags.is_set.Goals as goal
+
+pub returns : goal.returns
+unfolding is_set
+returns c = rw c.bit_of-bit.ensures refl

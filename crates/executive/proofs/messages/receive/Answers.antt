@@ -1,0 +1,19 @@
+use mathlib.Core.Path.{◌≡◌, refl}
+use borrow.Author.Tests.{lt-ltb, le-ltb}
+use native.Mathlib.Omega.{arith}
+use lib.ListN.{length, take}
+use lib.Seq.{length-take-le}
+use borrow.Author.Rules.{rules}
+use Rattle.executive.specs.Decisions.{receive_deed}
+use Rattle.executive.proofs.messages.receive.Goals as goal
+
+pub returns-then-count-s : goal.returns-then-count-s
+returns-then-count-s c = rw (c.refused.ensures, lt-ltb _ _ c.if-count-s.true) refl
+
+pub returns : goal.returns
+unfolding receive_deed
+returns c =
+    let a = c.args in
+    let l = c.well_formed.0.1.0.1 in
+    let n : length (take a.sent a.messages) ≡ a.sent = length-take-le a.sent a.messages (omega (arith, c.requires)) in
+    rw (c.accepted.ensures, c.receiving-deed.ensures, c.handing-marks.ensures, c.message_at-m.ensures, c.first_fit-i.ensures, le-ltb _ _ c.if-count-s.false, n) refl

@@ -1,0 +1,17 @@
+use lib.ListN.{drop}
+use lib.Dec.{eqb}
+use mathlib.Core.Path.{◌≡◌, refl, sym, ◌∙◌}
+use native.Mathlib.Omega.{arith}
+use borrow.Author.Rules.{rules}
+use Prim.Native.Nat.{◌≤◌, ◌-◌}
+use Rattle.executive.specs.Lists.{all_of, ◌and◌}
+use Rattle.executive.specs.Check.{is_free_sub}
+use Rattle.executive.proofs.check.Subprograms.{placeless}
+use Rattle.executive.proofs.check.PutTogether.{every_put, every-done}
+use Rattle.executive.proofs.subprogram_check.all_free.Given as goal
+
+abbrev pub invariant-loop-i : goal.invariant-loop-i
+invariant-loop-i l = (l.i ≤ 8) × ((eqb l.all 0 and all_of is_free_sub (drop l.i l.subs)) ≡ all_of is_free_sub l.subs)
+
+abbrev pub decreases-loop-i : goal.decreases-loop-i
+decreases-loop-i l = 8 - l.i

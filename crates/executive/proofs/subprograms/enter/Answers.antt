@@ -1,0 +1,19 @@
+use mathlib.Core.Path.{refl}
+use borrow.Author.Tests.{lt-ltb, le-ltb, eq-eqb, ne_eqb}
+use Rattle.executive.specs.Decisions.{enter_deed}
+use borrow.Author.Rules.{rules}
+use Rattle.executive.proofs.subprograms.enter.Goals as goal
+
+pub returns-then-m-gt7 : goal.returns-then-m-gt7
+returns-then-m-gt7 c = rw (c.refused.ensures, lt-ltb _ _ c.if-m-gt7.true) refl
+
+pub returns-then-c-s : goal.returns-then-c-s
+returns-then-c-s c = rw (c.refused-then-c-s.ensures, le-ltb _ _ c.if-m-gt7.false, eq-eqb _ _ c.if-c-s.true) refl
+
+pub returns-then-s-eq0 : goal.returns-then-s-eq0
+unfolding enter_deed
+returns-then-s-eq0 c = rw (c.accepted.ensures, c.alone-gets_in.ensures, c.only_z-marks.ensures, le-ltb _ _ c.if-m-gt7.false, ne_eqb _ _ c.if-c-s.false, eq-eqb _ _ c.if-s-eq0.true) refl
+
+pub returns : goal.returns
+unfolding enter_deed
+returns c = rw (c.accepted-2.ensures, c.alone-waits.ensures, c.ahead-at.ensures, c.task_at-e.ensures, c.only_z-marks.ensures, le-ltb _ _ c.if-m-gt7.false, ne_eqb _ _ c.if-c-s.false, ne_eqb _ _ c.if-s-eq0.false) refl

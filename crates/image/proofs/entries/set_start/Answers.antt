@@ -1,0 +1,6 @@
+use Rattle.image.proofs.EntryLaid.{start-laid}
+use borrow.Author.Rules.{rules}
+use Rattle.image.proofs.entries.set_start.Goals as goal
+
+pub returns : goal.returns
+returns c = λ t l. start-laid t l c.args.i c.requires.1 c.args.start c.put_long.ensures

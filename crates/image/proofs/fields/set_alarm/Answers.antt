@@ -1,0 +1,6 @@
+use Rattle.image.proofs.Parts.{alarm-laid}
+use borrow.Author.Rules.{rules}
+use Rattle.image.proofs.fields.set_alarm.Goals as goal
+
+pub returns : goal.returns
+returns c = λ t h. rw c.put_alarm.ensures (alarm-laid t h _ _ c.requires.1)

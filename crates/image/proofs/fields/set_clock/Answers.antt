@@ -1,0 +1,6 @@
+use Rattle.image.proofs.Parts.{clock-laid}
+use borrow.Author.Rules.{rules}
+use Rattle.image.proofs.fields.set_clock.Goals as goal
+
+pub returns : goal.returns
+returns c = λ t h. rw c.put_long.ensures (clock-laid t h c.args.time)

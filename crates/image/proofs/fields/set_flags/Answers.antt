@@ -1,0 +1,6 @@
+use Rattle.image.proofs.Parts.{flags-laid}
+use borrow.Author.Rules.{rules}
+use Rattle.image.proofs.fields.set_flags.Goals as goal
+
+pub returns : goal.returns
+returns c = λ t h. rw c.put_word.ensures (flags-laid t h _)

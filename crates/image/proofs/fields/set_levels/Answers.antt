@@ -1,0 +1,6 @@
+use Rattle.image.proofs.Parts.{levels-laid}
+use borrow.Author.Rules.{rules}
+use Rattle.image.proofs.fields.set_levels.Goals as goal
+
+pub returns : goal.returns
+returns c = λ t h. rw c.put_pair.ensures (levels-laid t h _)

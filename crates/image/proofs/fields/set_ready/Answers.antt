@@ -1,0 +1,6 @@
+use Rattle.image.proofs.Parts.{ready-laid}
+use borrow.Author.Rules.{rules}
+use Rattle.image.proofs.fields.set_ready.Goals as goal
+
+pub returns : goal.returns
+returns c = λ t h. rw c.put_byte.ensures (ready-laid t h _)

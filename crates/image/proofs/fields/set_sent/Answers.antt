@@ -1,0 +1,6 @@
+use Rattle.image.proofs.Parts.{sent-laid}
+use borrow.Author.Rules.{rules}
+use Rattle.image.proofs.fields.set_sent.Goals as goal
+
+pub returns : goal.returns
+returns c = λ t h. rw c.put_byte.ensures (sent-laid t h _)

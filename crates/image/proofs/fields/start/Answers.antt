@@ -1,0 +1,13 @@
+use mathlib.Core.Path.{ap, ◌∙◌}
+use native.Mathlib.Omega.{arith}
+use Prim.Native.Nat.{ℕ}
+use Rattle.executive.specs.declared.Task.{Task}
+use Rattle.image.proofs.ReadOff.{start_of, entry-none}
+use borrow.Author.Rules.{rules}
+use Rattle.image.proofs.fields.start.Goals as goal
+
+pub returns-then-i-gt15 : goal.returns-then-i-gt15
+returns-then-i-gt15 c = λ t l. ap (λ (x : Task). x.start) (entry-none t l _ _ c.place-i.ensures c.if-i-gt15.true)
+
+pub returns : goal.returns
+returns c = λ t l. ap (λ (n : ℕ). record { 0 = n }) (c.long_in.ensures ∙ start_of t l _ _ c.place-i.ensures (omega (arith, c.if-i-gt15.false)))

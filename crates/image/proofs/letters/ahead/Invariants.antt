@@ -1,0 +1,16 @@
+use native.Mathlib.Omega.{arith}
+use mathlib.Core.Path.{◌≡◌}
+use Prim.Native.Nat.{◌+◌, ◌-◌, ◌≤◌}
+use lib.ListN.{take, drop}
+use Rattle.executive.specs.declared.Table.{Table}
+use Rattle.image.specs.Laid.{Laid}
+use Rattle.executive.specs.Messages.{no_message, stay_ahead, urgency}
+use Rattle.executive.proofs.Assured.{stay-stop, stay-pass, stay-end}
+use Rattle.image.proofs.Finds.{urgency-read}
+use Rattle.image.proofs.letters.ahead.Given as goal
+
+abbrev pub invariant-loop-i : goal.invariant-loop-i
+invariant-loop-i l = (l.i ≤ l.n) × ((t : Table) → Laid l.b t → stay_ahead urgency l.p (take l.n t.rest.messages) ≡ l.i + stay_ahead urgency l.p (drop l.i (take l.n t.rest.messages)))
+
+abbrev pub decreases-loop-i : goal.decreases-loop-i
+decreases-loop-i l = l.n - l.i

@@ -1,0 +1,16 @@
+use native.Mathlib.Omega.{arith}
+use mathlib.Core.Path.{◌≡◌, refl, sym, ◌∙◌}
+use Prim.Native.Nat.{◌-◌, ◌≤◌}
+use lib.ListN.{take, drop}
+use Rattle.executive.specs.declared.Table.{Table}
+use Rattle.image.specs.Laid.{Laid}
+use Rattle.executive.specs.Lists.{next_of}
+use Rattle.executive.specs.Messages.{no_message, fits}
+use Rattle.image.proofs.Finds.{fit-hit, fit-pass, fit-end}
+use Rattle.image.proofs.letters.first_fit.Given as goal
+
+abbrev pub invariant-loop-i : goal.invariant-loop-i
+invariant-loop-i l = (l.i ≤ l.n) × ((t : Table) → Laid l.b t → next_of (fits l.k.0 l.s.0) l.i (drop l.i (take l.n t.rest.messages)) ≡ next_of (fits l.k.0 l.s.0) 0 (take l.n t.rest.messages))
+
+abbrev pub decreases-loop-i : goal.decreases-loop-i
+decreases-loop-i l = l.n - l.i

@@ -1,0 +1,17 @@
+-- `loading::line_in` meets its contract. The invariant: what stands up to i is what the bytes hold.
+use Prim.Native.Nat.{◌+◌, ◌-◌, ◌≤◌}
+use mathlib.Core.Path.{◌≡◌, refl, ap}
+use native.Mathlib.Omega.{arith}
+use lib.ListN.{length, take, length-set}
+use borrow.Author.Rules.{rules}
+use Rattle.records.specs.declared.TaskNo.{TaskNo}
+use Rattle.image.specs.Blocks.{blocks}
+use Rattle.image.specs.Image.{place_from}
+use Rattle.image.proofs.Spans.{block-turn, block-end}
+use Rattle.image.proofs.loading.line_in.Given as goal
+
+abbrev pub invariant-loop-i : goal.invariant-loop-i
+invariant-loop-i l = (l.i ≤ 16) × (length l.line ≡ 16) × (take l.i l.line ≡ take l.i (blocks (place_from l.bytes) 1 16 l.at))
+
+abbrev pub decreases-loop-i : goal.decreases-loop-i
+decreases-loop-i l = 16 - l.i

@@ -1,0 +1,7 @@
+-- Of an alarm that is running the time alone is read: it is due where that has come.
+use Rattle.image.proofs.RingLaid.{due-by}
+use borrow.Author.Rules.{rules}
+use Rattle.image.proofs.ringing.is_due.Goals as goal
+
+pub returns : goal.returns
+returns c = λ t l z. due-by t l c.args.i c.requires.1 c.args.time _ c.long_in.ensures z

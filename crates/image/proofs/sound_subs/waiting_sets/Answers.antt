@@ -1,0 +1,70 @@
+-- `sound_subs::waiting_sets` meets its contract. The invariant: k is one who waits or past them all, and these are the sets of those before k.
+use Prim.Native.Nat.{◌-◌, ◌*◌, ◌%◌, ◌^◌, ◌≤◌, ◌<◌, min}
+use mathlib.Core.Path.{◌≡◌}
+use mathlib.Core.Bool.{true}
+use mathlib.Core.Logic.{⊎_elim}
+use native.Mathlib.Omega.{arith}
+use native.Mathlib.Nat.{one-mul, mod-eq_of_lt}
+use borrow.Author.Rules.{rules}
+use lib.Pow.{pow-lt}
+use Rattle.executive.specs.Flags.{is_set}
+use Rattle.image.specs.Sound.{tasks_in}
+use Rattle.image.specs.Marks.{Waiting}
+use Rattle.image.proofs.LinesRead.{waiting-first, waiting-next, waiting-kind, waiting-past, waiting-one}
+use Rattle.image.proofs.sound_subs.waiting_sets.Goals as goal
+
+pub next_in-k-requires : goal.next_in-k-requires
+next_in-k-requires c = omega arith
+
+pub loop-k-init : goal.loop-k-init
+loop-k-init c =
+    let a = c.args in
+    let g = c.requires in
+    let r = c.next_in-k.ensures in
+    (r.most, r.member, waiting-first a.b.now a.count a.waiters g.1 g.3 c.next_in-k.result r)
+
+pub overflow_add-m : goal.overflow_add-m
+overflow_add-m c = omega (arith, c.requires.0, c.requires.1, c.loop-k-test.true)
+
+pub bounds-b-k : goal.bounds-b-k
+bounds-b-k c = omega (arith, c.requires.0, c.requires.1, c.loop-k-test.true)
+
+pub overflow_shl-sets : goal.overflow_shl-sets
+overflow_shl-sets c = omega (arith, c.requires.0, c.requires.1, c.loop-k-test.true)
+
+pub overflow_add-k : goal.overflow_add-k
+overflow_add-k c = omega (arith, c.requires.0, c.requires.1, c.loop-k-test.true)
+
+pub next_in-k-requires-in-loop-k : goal.next_in-k-requires-in-loop-k
+next_in-k-requires-in-loop-k c = omega (arith, c.requires.0, c.requires.1, c.loop-k-test.true)
+
+pub loop-k-smaller : goal.loop-k-smaller
+loop-k-smaller c = omega (arith, c.requires.1, c.loop-k-test.true, c.next_in-k-in-loop-k.ensures.least, c.next_in-k-in-loop-k.ensures.most)
+
+pub loop-k-preserved : goal.loop-k-preserved
+loop-k-preserved c =
+    let s = c.args.b.now in
+    let a = c.args in
+    let g = c.requires in
+    let v = c.loop-k in
+    let l = c.loop-k-test.true in
+    let h : v.k < 16 = omega (arith, g.1, l) in
+    let bit : 1 * 2 ^ v.k % 65536 ≡ 2 ^ v.k = simp (one-mul, mod-eq_of_lt (pow-lt {j = 16} h)) in
+    let e : min v.k a.count ≡ v.k = omega (arith, l) in
+    let w₀ : Waiting v.k v.sets (tasks_in s) = rw e at v.invariant.2 in
+    let q = waiting-kind s a.count a.waiters g.1 g.3 g.2 v.k l (v.invariant.1 (omega arith)) in (
+      c.next_in-k-in-loop-k.ensures.most,
+      c.next_in-k-in-loop-k.ensures.member,
+      waiting-next s a.count a.waiters g.1 g.3 v.k c.next_in-k-in-loop-k.result c.if-m-lt8.sets l c.next_in-k-in-loop-k.ensures
+          (⊎_elim
+          (λ w. rw w.1 (waiting-one s v.k h q v.sets w₀ (1 * 2 ^ v.k % 65536) bit w.0.taken))
+          (λ w. rw w.1 (waiting-past s v.k h q v.sets w₀ w.0.left))
+          c.if-m-lt8.branch),
+    )
+
+pub returns : goal.returns
+returns c =
+    let a = c.args in
+    let v = c.loop-k in
+    let e : min v.k a.count ≡ a.count = omega (arith, c.loop-k-test.false) in
+    rw e at v.invariant.2

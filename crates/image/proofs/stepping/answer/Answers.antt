@@ -1,0 +1,6 @@
+use Rattle.image.proofs.Stepwise.{answer-is}
+use borrow.Author.Rules.{rules}
+use Rattle.image.proofs.stepping.answer.Goals as goal
+
+pub returns : goal.returns
+returns c = λ t l. answer-is t _ c.args.m _ _ _ (c.active-active.ensures t l) (c.argument-argument.ensures t l)

@@ -1,0 +1,17 @@
+-- `storing::put_messages` meets its contract. The invariant: the blocks up to i are written, and nothing else.
+use Prim.Native.Nat.{◌+◌, ◌-◌, ◌*◌, ◌≤◌}
+use mathlib.Core.Path.{◌≡◌, refl, ◌∙◌}
+use native.Mathlib.Omega.{arith}
+use lib.ListN.{length, take}
+use borrow.Author.Rules.{rules}
+use Rattle.executive.specs.Messages.{no_message}
+use Rattle.image.specs.Blocks.{row, written}
+use Rattle.image.specs.Image.{message_bytes, messages_at, message_length}
+use Rattle.image.proofs.Spans.{row-start, row-turn, row-end}
+use Rattle.image.proofs.storing.put_messages.Given as goal
+
+abbrev pub invariant-loop-i : goal.invariant-loop-i
+invariant-loop-i l = (l.i ≤ 32) × (length l.messages ≡ 32) × (length l.out ≡ length l.initial.out) × (l.out ≡ written l.initial.out messages_at (row message_bytes (take l.i l.messages)))
+
+abbrev pub decreases-loop-i : goal.decreases-loop-i
+decreases-loop-i l = 32 - l.i

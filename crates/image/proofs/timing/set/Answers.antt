@@ -1,0 +1,20 @@
+-- `timing::set` meets its contract: those who wake are those whose condition holds.
+use mathlib.Core.Path.{ap, ◌∙◌}
+use lib.Bits.{bit_or}
+use Rattle.image.proofs.Timings.{set_is, set-woken}
+use borrow.Author.Rules.{rules}
+use Rattle.image.proofs.timing.set.Goals as goal
+
+pub bit_of-requires : goal.bit_of-requires
+bit_of-requires c = c.requires.1
+
+pub woken-entrants-requires : goal.woken-entrants-requires
+woken-entrants-requires c = c.requires.0
+
+pub returns : goal.returns
+returns c =
+    let a = c.args in
+    let m = bit_or a.flags c.bit_of.result in
+    λ t l k.
+    c.letting_in.ensures _ (set-woken t.tasks m a.flagged l.sizes.tasks k _ (c.woken-entrants.ensures t l))
+    ∙ set_is t.tasks a.flags a.f m (ap (bit_or a.flags) c.bit_of.ensures)

@@ -1,0 +1,28 @@
+-- `zeros::are_zero` meets its contract. The invariant of each of the three loops: what is put together is zero where the bytes passed are.
+use Prim.Native.Nat.{ℕ, ◌-◌, ◌≤◌}
+use mathlib.Core.Path.{◌≡◌, refl, sym, ap, ◌∙◌}
+use native.Mathlib.Omega.{arith}
+use borrow.Author.Rules.{rules}
+use borrow.Author.Tests.{eq-eqb}
+use lib.Dec.{eqb}
+use Rattle.image.specs.Sound.{noughts}
+use Rattle.image.proofs.Noughts.{noughts-none, byte-nought, or-past}
+use Rattle.image.proofs.zeros.are_zero.Given as goal
+
+abbrev pub invariant-loop-at : goal.invariant-loop-at
+invariant-loop-at l = (l.from ≤ l.at) × (l.at ≤ l.to) × (eqb l.all 0 ≡ noughts l.b (l.at - l.from) l.from)
+
+abbrev pub decreases-loop-at : goal.decreases-loop-at
+decreases-loop-at l = l.to - l.at
+
+abbrev pub invariant-loop-at-2 : goal.invariant-loop-at-2
+invariant-loop-at-2 l = (l.from ≤ l.at) × (l.at ≤ l.to) × (eqb l.all 0 ≡ noughts l.b (l.at - l.from) l.from)
+
+abbrev pub decreases-loop-at-2 : goal.decreases-loop-at-2
+decreases-loop-at-2 l = l.to - l.at
+
+abbrev pub invariant-loop-at-3 : goal.invariant-loop-at-3
+invariant-loop-at-3 l = (l.from ≤ l.at) × (l.at ≤ l.to) × (eqb l.all 0 ≡ noughts l.b (l.at - l.from) l.from)
+
+abbrev pub decreases-loop-at-3 : goal.decreases-loop-at-3
+decreases-loop-at-3 l = l.to - l.at

@@ -1,0 +1,11 @@
+use mathlib.Core.Path.{refl, sym, ◌∙◌}
+use borrow.Author.Rules.{rules}
+use borrow.Author.Tests.{not-true, not-false}
+use Rattle.mender.proofs.CodeTests.{yes, no}
+use Rattle.mender.proofs.closing.request_turn.Goals as goal
+
+pub returns-then-not-keeps_request : goal.returns-then-not-keeps_request
+returns-then-not-keeps_request c = no _ _ _ (sym c.keeps_request.ensures ∙ not-true _ c.if-not-keeps_request.true) refl
+
+pub returns : goal.returns
+returns c = yes _ _ _ (sym c.keeps_request.ensures ∙ not-false _ c.if-not-keeps_request.false) c.with_request.ensures

@@ -1,0 +1,6 @@
+use mathlib.Core.Path.{refl}
+use borrow.Author.Rules.{rules}
+use Rattle.mender.proofs.entries.slept.Goals as goal
+
+pub returns : goal.returns
+returns c = rw c.own_kept-own.ensures refl

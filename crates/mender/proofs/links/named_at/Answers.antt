@@ -1,0 +1,12 @@
+use mathlib.Core.Path.{sym}
+use borrow.Author.Rules.{rules}
+use Rattle.mender.proofs.CodeLinks.{named-place, named-no-place}
+use Rattle.mender.proofs.links.named_at.Goals as goal
+
+pub returns-then-i-gt15 : goal.returns-then-i-gt15
+returns-then-i-gt15 c =
+    sym (named-no-place c.args.named c.well_formed.0.1.0.1 c.args.w.0 _ c.entry_IsPlace.ensures c.if-i-gt15.true)
+
+pub returns : goal.returns
+returns c =
+    rw c.entry_IsPlace.ensures (sym (named-place c.args.named c.well_formed.0.1.0.1 c.args.w.0))

@@ -1,0 +1,6 @@
+use mathlib.Core.Path.{refl}
+use borrow.Author.Rules.{rules}
+use Rattle.mender.proofs.mending.as_given.Goals as goal
+
+pub returns : goal.returns
+returns c = rw (c.answer.ensures, c.none-none.ensures) refl

@@ -1,0 +1,18 @@
+use mathlib.Core.Path.{◌≡◌, refl, sym, ap, ◌∙◌}
+use native.Mathlib.Omega.{arith}
+use lib.ListN.{length, length-map}
+use borrow.Author.Rules.{rules}
+use Rattle.executive.specs.declared.Table.{Table}
+use Rattle.mender.specs.Rounds.{round}
+use Rattle.mender.proofs.CodeNotes.{few-sent}
+use Rattle.mender.proofs.mending.mended.Goals as goal
+
+pub rebuilt-whole-requires : goal.rebuilt-whole-requires
+rebuilt-whole-requires c =
+    let t = c.args.table in
+    let l : length t.rest.messages ≡ 32 = sym (length-map t.rest.messages _) ∙ c.well_formed.0.1.1.1.1.1.1.0.1.1.1.1.1.1.1.1.1.1.0.1.0.1 in
+    omega (arith, ap (λ (u : Table). u.rest.sent) c.round-settled.ensures, few-sent c.own_rules-broken.result t l)
+
+pub returns : goal.returns
+unfolding round
+returns c = rw (c.answer.ensures, c.notes_of-list.ensures, c.rebuilt-whole.ensures, c.round-settled.ensures, c.own_rules-broken.ensures) refl

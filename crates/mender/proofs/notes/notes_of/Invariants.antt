@@ -1,0 +1,18 @@
+use Prim.Native.Nat.{◌+◌, ◌-◌, ◌≤◌}
+use mathlib.Core.Path.{◌≡◌, sym, ap, ◌∙◌}
+use native.Mathlib.Omega.{arith}
+use borrow.Author.Rules.{rules}
+use Rattle.executive.specs.Lists.{each}
+use Rattle.executive.proofs.Assured.{each_turn, each-end}
+use Rattle.mender.specs.declared.notes.Notes.{Notes}
+use Rattle.mender.specs.Listing.{noted_of, note_turn, notes_of}
+use Rattle.mender.proofs.CodeNotes.{standing, notes_on}
+use Rattle.mender.proofs.notes.notes_of.Given as goal
+
+abbrev pub invariant-loop-i : goal.invariant-loop-i
+invariant-loop-i l =
+    (l.i ≤ 16) × (l.l ≡ noted_of (standing l.l)) × (l.l.noted ≤ l.i)
+    × (each (note_turn l.count l.broken l.given l.mended) (16 - l.i) l.i (standing l.l) ≡ notes_of l.count l.broken l.given l.mended)
+
+abbrev pub decreases-loop-i : goal.decreases-loop-i
+decreases-loop-i l = 16 - l.i

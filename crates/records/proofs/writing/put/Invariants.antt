@@ -1,0 +1,15 @@
+-- `writing::put` meets its contract. The invariant: the first i bytes are those to copy, and the rest are out's own.
+use Prim.Native.Nat.{◌≤◌, ◌-◌}
+use mathlib.Core.Path.{◌≡◌, ap, ◌∙◌}
+use mathlib.Core.List.{◌++◌}
+use native.Mathlib.Omega.{arith}
+use lib.ListN.{length, take, drop, set, get_or, length-set}
+use Rattle.records.proofs.writing.Laws.{copy_more}
+use borrow.Author.Rules.{rules}
+use Rattle.records.proofs.writing.put.Given as goal
+
+abbrev pub invariant-loop-i : goal.invariant-loop-i
+invariant-loop-i l = (l.i ≤ l.n) × (length l.bytes ≡ 10) × (length l.out ≡ length l.initial.out) × (l.out ≡ take l.i l.bytes ++ drop l.i l.initial.out)
+
+abbrev pub decreases-loop-i : goal.decreases-loop-i
+decreases-loop-i l = l.n - l.i

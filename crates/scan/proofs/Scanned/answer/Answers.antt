@@ -1,0 +1,8 @@
+use mathlib.Core.Path.{refl}
+use Rattle.scan.proofs.Places.{tasks-at}
+use borrow.Author.Rules.{rules}
+use Rattle.scan.proofs.Scanned.answer.Goals as goal
+
+pub returns : goal.returns
+returns c =
+    rw (c.task_at-e.ensures, c.tasks_in-tasks.ensures, c.active-active.ensures, tasks-at c.args.self.entries _) refl

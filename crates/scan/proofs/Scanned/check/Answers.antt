@@ -1,0 +1,10 @@
+use mathlib.Core.Path.{sym, ◌∙◌}
+use Rattle.scan.proofs.Stepping.{checked_right, checked_wrong}
+use borrow.Author.Rules.{rules}
+use Rattle.scan.proofs.Scanned.check.Goals as goal
+
+pub returns-then-is_sound : goal.returns-then-is_sound
+returns-then-is_sound c = checked_right c.args.self (sym c.is_sound.ensures ∙ c.if-is_sound.true)
+
+pub returns : goal.returns
+returns c = checked_wrong c.args.self (sym c.is_sound.ensures ∙ c.if-is_sound.false)

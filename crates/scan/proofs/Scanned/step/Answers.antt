@@ -1,0 +1,13 @@
+use mathlib.Core.Path.{sym, ◌∙◌}
+use borrow.Author.Rules.{rules}
+use Rattle.scan.proofs.Stepping.{step-broken}
+use Rattle.scan.proofs.Scanned.step.Goals as goal
+
+pub perform-requires : goal.perform-requires
+perform-requires c = sym c.arrivals_right.ensures ∙ c.if-arrivals_right.true
+
+pub returns-then-arrivals_right : goal.returns-then-arrivals_right
+returns-then-arrivals_right c = c.perform.ensures
+
+pub returns : goal.returns
+returns c = c.refuse.ensures ∙ step-broken c.args.self c.args.bytes.now (sym c.arrivals_right.ensures ∙ c.if-arrivals_right.false)

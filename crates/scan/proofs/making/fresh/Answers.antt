@@ -1,0 +1,8 @@
+use mathlib.Core.Path.{refl}
+use Rattle.scan.specs.Making.{made_of}
+use borrow.Author.Rules.{rules}
+use Rattle.scan.proofs.making.fresh.Goals as goal
+
+pub returns : goal.returns
+unfolding made_of
+returns c = rw (c.count_of-last.ensures.0, c.numbered-entries.ensures, c.fresh-f.ensures) refl

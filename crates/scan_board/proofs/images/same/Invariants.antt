@@ -1,0 +1,18 @@
+-- `images::same` meets its contract. The invariant: all is the same exactly where nothing differed so far
+-- and what is left is the same.
+use Prim.Native.Nat.{◌-◌, ◌≤◌}
+use mathlib.Core.Path.{◌≡◌, refl, sym, ap, ◌∙◌}
+use mathlib.Core.Bool.{Bool, true, false, cond}
+use mathlib.Core.Logic.{⊎_elim}
+use native.Mathlib.Omega.{arith}
+use lib.ListN.{length, drop}
+use borrow.Author.Rules.{rules}
+use Rattle.image.specs.Blocks.{same}
+use Rattle.scan_board.proofs.Same.{same_turn, same-differ, same_end}
+use Rattle.scan_board.proofs.images.same.Given as goal
+
+abbrev pub invariant-loop-i : goal.invariant-loop-i
+invariant-loop-i l = (l.i ≤ length l.a) × (length l.a ≡ length l.b) × (cond l.right (same (drop l.i l.a) (drop l.i l.b)) false ≡ same l.a l.b)
+
+abbrev pub decreases-loop-i : goal.decreases-loop-i
+decreases-loop-i l = length l.a - l.i

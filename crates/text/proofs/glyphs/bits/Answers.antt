@@ -1,0 +1,6 @@
+-- `glyphs::bits` meets its contract: three digits as one text.
+use borrow.Author.Rules.{rules}
+use Rattle.text.proofs.glyphs.bits.Goals as goal
+
+pub returns : goal.returns
+returns c = rw (← c.bit.ensures, ← c.bit-2.ensures, ← c.bit-3.ensures) c.text.ensures

@@ -1,0 +1,17 @@
+-- `telling::bit` meets its contract: a bit that is not set adds nothing.
+use native.Mathlib.Omega.{arith}
+use Prim.Native.Nat.{◌-◌}
+use Rattle.text.proofs.Assured.{nothing}
+use borrow.Author.Tests.{eq-eqb, ne_eqb}
+use borrow.Author.Rules.{rules}
+use Rattle.why.proofs.telling.bit.Goals as goal
+
+pub returns-then-left-eq1 : goal.returns-then-left-eq1
+returns-then-left-eq1 c =
+    let at-worded = (goal.at.returns-then-left-eq1 c).After-worded in
+    let at-if1 = at-worded.before.before.before in
+    rw (eq-eqb _ _ at-if1.if1.true) at-worded.worded.ensures
+
+pub returns : goal.returns
+returns c =
+    rw (ne_eqb _ _ c.if-left-eq1.false) (nothing c.args.out.now c.args.at, omega arith)

@@ -1,0 +1,45 @@
+-- `telling::bits` meets its contract: bit after bit, what is left is the word shifted.
+use borrow.Author.Rules.{rules}
+use native.Mathlib.Omega.{arith}
+use Prim.Native.Nat.{◌+◌, ◌-◌, ◌*◌, ◌≤◌}
+use mathlib.Core.Path.{◌≡◌, ap}
+use Rattle.text.specs.Glyphs.{Adds}
+use Rattle.text.proofs.Assured.{nothing, then, named}
+use Prim.Native.Nat.{◌/◌, ◌^◌}
+use Rattle.why.specs.Texts.{bits_of}
+use Rattle.why.proofs.Told.{bits_none, bits-more, left-first, left-next}
+use Rattle.why.proofs.telling.bits.Goals as goal
+
+pub loop-n-init : goal.loop-n-init
+loop-n-init c =
+    let a = c.args in
+    (omega arith, left-first a.x, named (bits_none a.x) (nothing a.out.now a.at), omega arith)
+
+pub bit-place-requires : goal.bit-place-requires
+bit-place-requires c =
+    let at-loop = (goal.at.bit-place-requires c).At-loop-n in
+    let start = at-loop.before.before in
+    let l = at-loop.loop in
+    omega (arith, l.invariant.3, l.invariant.2.size, start.requires)
+
+pub loop-n-preserved : goal.loop-n-preserved
+loop-n-preserved c =
+    let at-bit = (goal.at.loop-n-preserved c).After-bit-place in
+    let at-loop = at-bit.before.before.before in
+    let start = at-loop.before.before in
+    let l = at-loop.loop in
+    let a = start.args in
+    (omega arith, left-next a.x l.n l.left l.invariant.1, named (bits-more a.x l.n l.left l.invariant.1) (then l.invariant.2 at-bit.bit.ensures.0), omega (arith, l.invariant.3, at-bit.bit.ensures.1))
+
+pub shape_of-out : goal.shape_of-out
+shape_of-out c =
+    let at-loop = (goal.at.shape_of-out c).At-loop-n in
+    at-loop.loop.invariant.2.size
+
+pub returns : goal.returns
+returns c =
+    let at-loop = (goal.at.returns c).At-loop-n in
+    let start = at-loop.before.before in
+    let l = at-loop.loop in
+    let e : l.n ≡ 32 = omega (arith, l.invariant.0, c.loop-n-test.false) in
+    (named (ap (bits_of start.args.x) e) l.invariant.2, omega (arith, l.invariant.3, e))

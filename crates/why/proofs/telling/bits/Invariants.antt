@@ -1,0 +1,17 @@
+-- `telling::bits` meets its contract: bit after bit, what is left is the word shifted.
+use borrow.Author.Rules.{rules}
+use native.Mathlib.Omega.{arith}
+use Prim.Native.Nat.{◌+◌, ◌-◌, ◌*◌, ◌≤◌}
+use mathlib.Core.Path.{◌≡◌, ap}
+use Rattle.text.specs.Glyphs.{Adds}
+use Rattle.text.proofs.Assured.{nothing, then, named}
+use Prim.Native.Nat.{◌/◌, ◌^◌}
+use Rattle.why.specs.Texts.{bits_of}
+use Rattle.why.proofs.Told.{bits_none, bits-more, left-first, left-next}
+use Rattle.why.proofs.telling.bits.Given as goal
+
+abbrev pub invariant-loop-n : goal.invariant-loop-n
+invariant-loop-n l = (l.n ≤ 32) × (l.left ≡ l.x / 2 ^ l.n) × Adds l.initial.out l.at l.out l.place (bits_of l.x l.n) × (l.place ≤ l.at + 52 * l.n)
+
+abbrev pub decreases-loop-n : goal.decreases-loop-n
+decreases-loop-n l = 32 - l.n

@@ -1,0 +1,52 @@
+-- `telling::step_lines` meets its contract: line after line.
+use borrow.Author.Rules.{rules}
+use native.Mathlib.Omega.{arith}
+use Prim.Native.Nat.{◌+◌, ◌-◌, ◌*◌, ◌≤◌, ◌<◌}
+use mathlib.Core.Path.{◌≡◌, ap}
+use lib.ListN.{length, take}
+use Rattle.text.specs.Glyphs.{Adds}
+use Rattle.text.proofs.Assured.{nothing, then, named}
+use Rattle.why.specs.Texts.{step_lines}
+use Rattle.why.proofs.Told.{lines_none, lines_more}
+use Rattle.why.proofs.telling.step_lines.Goals as goal
+
+pub loop-i-init : goal.loop-i-init
+loop-i-init c =
+    let a = c.args in
+    (omega arith, named (lines_none a.steps) (nothing a.out.now a.at), omega arith)
+
+pub step_line-place-requires : goal.step_line-place-requires
+step_line-place-requires c =
+    let at-loop-test = (goal.at.step_line-place-requires c).In-loop-i in
+    let at-loop = at-loop-test.before in
+    let start = at-loop.before.before in
+    let l = at-loop.loop in
+    omega (arith, l.invariant.0, l.invariant.1.size, l.invariant.2, at-loop-test.loop-test.true, start.requires.0, start.requires.1)
+
+pub loop-i-preserved : goal.loop-i-preserved
+loop-i-preserved c =
+    let at-step-line = (goal.at.loop-i-preserved c).After-step_line-place in
+    let at-loop-test = at-step-line.before.before.before in
+    let at-loop = at-loop-test.before in
+    let start = at-loop.before.before in
+    let l = at-loop.loop in
+    let s = start in
+    let a = s.args in
+    let len : length a.steps ≡ 16 = s.well_formed.1.1.0.1.0.1 in
+    let h : l.i < length a.steps = omega (arith, at-loop-test.loop-test.true, s.requires.1) in
+    (omega arith, named (lines_more a.steps l.i h) (then l.invariant.1 at-step-line.step_line.ensures.0), omega (arith, l.invariant.2, at-step-line.step_line.ensures.1))
+
+pub shape_of-out : goal.shape_of-out
+shape_of-out c =
+    let at-loop = (goal.at.shape_of-out c).At-loop-i in
+    at-loop.loop.invariant.1.size
+
+pub returns : goal.returns
+returns c =
+    let at-loop = (goal.at.returns c).At-loop-i in
+    let start = at-loop.before.before in
+    let l = at-loop.loop in
+    let s = start in
+    let a = s.args in
+    let e : l.i ≡ a.count = omega (arith, l.invariant.0, c.loop-i-test.false) in
+    (named (ap (λ n. step_lines (take n a.steps)) e) l.invariant.1, omega (arith, l.invariant.2, e, s.requires.1))

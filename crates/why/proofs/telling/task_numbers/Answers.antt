@@ -1,0 +1,71 @@
+-- `telling::task_numbers` meets its contract: task after task.
+use borrow.Author.Rules.{rules}
+use native.Mathlib.Omega.{arith}
+use Prim.Native.Nat.{◌+◌, ◌-◌, ◌*◌, ◌≤◌, ◌<◌}
+use mathlib.Core.Path.{◌≡◌, sym, ap, ◌∙◌}
+use lib.ListN.{length, get_or, take, drop}
+use Rattle.text.specs.Glyphs.{Adds}
+use Rattle.text.proofs.Assured.{nothing, then, named}
+use mathlib.Core.List.{◌∷◌, ◌++◌}
+use lib.ListN.{length-drop}
+use lib.Seq.{get_or-drop, get_or-take, length-take-le, take_all}
+use Rattle.text.specs.Glyphs.{decimal_of}
+use Rattle.why.specs.declared.Step.{Step}
+use Rattle.why.specs.Paths.{no_step}
+use Rattle.why.specs.Texts.{task_numbers}
+use Rattle.why.proofs.Told.{numbers-none, numbers_more}
+use Rattle.why.proofs.telling.task_numbers.Goals as goal
+
+loop-holds : tie.Need-loop-init
+loop-holds c =
+    let start = c.before in
+    let a = start.args in
+    (omega arith, named (numbers-none (drop a.from (take a.count a.steps))) (nothing a.out.now a.at), omega arith)
+
+pub worded-place-requires : goal.worded-place-requires
+worded-place-requires c =
+    let at-loop-test = (goal.at.worded-place-requires c).After-s-1 in
+    let at-loop = at-loop-test.before in
+    let start = at-loop.before.before in
+    let l = at-loop.loop in
+    (omega (arith, l.invariant.0, l.invariant.1.size, l.invariant.2, at-loop-test.loop-test.true, start.requires.0, start.requires.1, start.requires.2), omega arith)
+
+loop-again : tie.Need-loop-preserved
+loop-again c =
+    let at-worded = c.before.before in
+    let at-loop-test = at-worded.before.before.before.before.before.before in
+    let at-loop = at-loop-test.before in
+    let start = at-loop.before.before in
+    let l = at-loop.loop in
+    let s = start in
+    let a = s.args in
+    let len : length a.steps ≡ 16 = s.well_formed.1.1.0.1.0.1 in
+    let xs = take a.count a.steps in
+    let ys = drop a.from xs in
+    let lx : length xs ≡ a.count = length-take-le a.count a.steps (omega (arith, s.requires.2)) in
+    let ly : length ys ≡ a.count - a.from = length-drop a.from xs ∙ ap (λ n. n - a.from) lx in
+    let h : l.i < length ys = omega (arith, at-loop-test.loop-test.true) in
+    let e : get_or ys l.i no_step ≡ get_or a.steps (a.from + l.i) no_step = get_or-drop a.from xs l.i no_step ∙ get_or-take a.count a.steps (a.from + l.i) no_step (omega (arith, ly)) in (
+      omega arith,
+      named (ap (λ (x : Step). task_numbers (take l.i ys) ++ (32 ∷ decimal_of x.task.0)) (sym e) ∙ numbers_more ys l.i h) (then l.invariant.1 at-worded.worded.ensures.0),
+      omega (arith, l.invariant.2, at-worded.worded.ensures.1),
+    )
+
+pub shape_of-out : goal.shape_of-out
+shape_of-out c =
+    let at-loop = (goal.at.shape_of-out c).At-loop-i in
+    at-loop.loop.invariant.1.size
+
+pub returns : goal.returns
+returns c =
+    let at-loop = (goal.at.returns c).At-loop-i in
+    let start = at-loop.before.before in
+    let l = at-loop.loop in
+    let s = start in
+    let a = s.args in
+    let len : length a.steps ≡ 16 = s.well_formed.1.1.0.1.0.1 in
+    let xs = take a.count a.steps in
+    let ys = drop a.from xs in
+    let lx : length xs ≡ a.count = length-take-le a.count a.steps (omega (arith, s.requires.2)) in
+    let ly : length ys ≡ a.count - a.from = length-drop a.from xs ∙ ap (λ n. n - a.from) lx in
+    (named (ap task_numbers (take_all l.i ys (omega (arith, c.loop-i-test.false, ly)))) l.invariant.1, omega (arith, l.invariant.0, l.invariant.2, s.requires.1, s.requires.2))
