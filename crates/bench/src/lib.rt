@@ -1,4 +1,6 @@
 // The bench: the listing of a run, from the bytes of its input to the bytes that are printed.
+#![tactic(auto)]
+
 use executive::Table;
 use records::TaskNo;
 

@@ -1,5 +1,7 @@
 // The bench program: reads an input from standard input, at most one byte more than an input may have, and writes
 // its listing to standard output.
+#![tactic(auto)]
+
 use bench::listing;
 use libc::{STDIN_FILENO, STDOUT_FILENO};
 

@@ -1,4 +1,6 @@
 // The blocks of old boards: the guide's data blocks in a memory image, read as calls, and written from them.
+#![tactic(auto)]
+
 ghost use Rattle.blocks.specs.Asking.{Answers};
 
 use records::reading::byte_at;

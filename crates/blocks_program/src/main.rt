@@ -1,5 +1,7 @@
 // The blocks program: reads a question from standard input, its head and then the image, and writes the answer to
 // standard output: its number as one byte and, with 0, the record in hex, one line, or the image.
+#![tactic(auto)]
+
 ghost use Rattle.io.specs.Counts.{IsPrefixLen};
 
 use blocks::{asking, hex};

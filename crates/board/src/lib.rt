@@ -1,5 +1,7 @@
 // The board library: the entry points for C, on byte slices and numbers only. Each is the image's own function of that
 // name: nothing is decided here, so that what is built for a board is proved in seconds once `image` is.
+#![tactic(auto)]
+
 ghost use Rattle.image.specs.EntryPoints.{MakesImage, CheckedImage, StepsImage, ReadsLamp};
 ghost use Rattle.image.specs.Reasons.{ExplainsImage};
 ghost use Rattle.image.specs.Mending.{MendsImage};

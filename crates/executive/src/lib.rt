@@ -1,4 +1,6 @@
 // The executive: the nouns of its table, and the step that takes a table's state and hands the state back.
+#![tactic(auto)]
+
 use records::{SubNo, TaskNo, Text};
 
 pub mod answers;

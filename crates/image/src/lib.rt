@@ -1,4 +1,6 @@
 // The table as bytes: what a board does with it, each on lent bytes; the crate board has these functions for C.
+#![tactic(auto)]
+
 ghost use Rattle.records.specs.declared.TaskNo.{TaskNo};
 ghost use Rattle.image.specs.EntryPoints.{MakesImage, CheckedImage, StepsImage, ReadsLamp};
 ghost use Rattle.image.specs.Reasons.{ExplainsImage};

@@ -1,5 +1,7 @@
 // The mend program: reads an image from standard input, writes the mended image to standard output, and to standard
 // error which entries were changed, or why nothing was.
+#![tactic(auto)]
+
 use libc::{STDERR_FILENO, STDIN_FILENO, STDOUT_FILENO};
 use mender::telling;
 

@@ -1,5 +1,7 @@
 // Mending a table: the tasks whose own entry breaks a rule become dormant, what names nobody right is cleared, the
 // queue and the lines are rebuilt, and every entry that differs is listed.
+#![tactic(auto)]
+
 use executive::Table;
 use records::TaskNo;
 

@@ -1,5 +1,7 @@
 // The second engine (02): it keeps no queue. Its scheduler looks through the sixteen entries and chooses the ready task
 // of highest priority, of equals the one that entered first, by its arrival number.
+#![tactic(auto)]
+
 use executive::{Answer, Rest, Task};
 
 pub mod checking;

@@ -1,4 +1,6 @@
 // The second engine's table as bytes, and its entry points for C, on byte slices and numbers only.
+#![tactic(auto)]
+
 ghost use Rattle.scan_board.specs.EntryPoints.{MakesScan, CheckedScan, StepsScan};
 
 use image::{NO_ROOM, answers};

@@ -1,4 +1,6 @@
 // Why a task is not running: each task's cause, and the path from a task to whom it waits for, with its ring.
+#![tactic(auto)]
+
 use executive::{Millis, Mode};
 use records::{SubNo, TaskNo};
 

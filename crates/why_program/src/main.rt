@@ -1,5 +1,7 @@
 // The why program: reads a question from standard input, a task's number as one byte and then an image, and writes to
 // standard output why that task is not running.
+#![tactic(auto)]
+
 use executive::Millis;
 use image::loading;
 use libc::{STDIN_FILENO, STDOUT_FILENO};

@@ -53,7 +53,7 @@ pub slice_bounds-write_record-end-then-byte_at-eq1 : goal.slice_bounds-write_rec
 slice_bounds-write_record-end-then-byte_at-eq1 c =
     let m = (goal.at.slice_bounds-write_record-end-then-byte_at-eq1 c).After-count_in-count in
     let h = ends (head m) (is-head m) in
-    omega (arith, c.end_of_lem.ensures)
+    omega (arith, c.end_of-to.ensures)
 
 pub returns-then-byte_at-eq1 : goal.returns-then-byte_at-eq1
 returns-then-byte_at-eq1 c =
@@ -62,7 +62,7 @@ returns-then-byte_at-eq1 c =
     let a = m.address_in-address.ensures in
     let b = m.beside_in-beside.ensures in
     let x = c.record_at-from in
-    let r = record_is q x.result c.end_of_lem.result x.ensures.0 c.end_of_lem.ensures in
+    let r = record_is q x.result c.end_of-to.result x.ensures.0 c.end_of-to.ensures in
     let w = sym c.byte_at.ensures ∙ c.if-byte_at-eq1.true in
     asked_write q (image m) (room m) (is-head m) _ _ _ _ _ _ w a (list m) r b c.write_record.ensures
 

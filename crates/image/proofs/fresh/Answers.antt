@@ -15,10 +15,10 @@ returns-then-image-ne-IMAGE c =
 pub returns-then-not-is_configuration : goal.returns-then-not-is_configuration
 returns-then-not-is_configuration c =
     let a = c.args in
-    let e = fresh-refused a.config.now a.image.now (omega (arith, c.if-image-ne-IMAGE.false)) (sym c.is_configuration.ensures ∙ not-true c.is_configuration.result c.if-not-is_configuration.true) in
+    let e = fresh-refused a.config.now a.image.now (omega (arith, c.if-image-ne-IMAGE.false)) (sym c.is_configuration.ensures ∙ c.if-not-is_configuration.true) in
     record { number = e.0; image = e.1; holds = λ z. absurd (omega arith) }
 
 pub returns : goal.returns
 returns c =
     let a = c.args in
-    fresh-made a.config.now a.image.now (omega (arith, c.if-image-ne-IMAGE.false)) (sym c.is_configuration.ensures ∙ not-false c.is_configuration.result c.if-not-is_configuration.false) c.make.ensures
+    fresh-made a.config.now a.image.now (omega (arith, c.if-image-ne-IMAGE.false)) (sym c.is_configuration.ensures ∙ c.if-not-is_configuration.false) c.make.ensures

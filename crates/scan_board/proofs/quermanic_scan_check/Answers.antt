@@ -9,16 +9,16 @@ use Rattle.scan_board.proofs.quermanic_scan_check.Goals as goal
 pub returns-then-not-is_scan : goal.returns-then-not-is_scan
 returns-then-not-is_scan c =
     let i = c.is_scan in
-    check_none c.args.image.now (sym i.ensures ∙ not-true i.result c.if-not-is_scan.true)
+    check_none c.args.image.now (sym i.ensures ∙ c.if-not-is_scan.true)
 
 pub load-table-requires : goal.load-table-requires
 load-table-requires c =
     let i = c.is_scan in
-    (image-parts c.args.image.now (sym i.ensures ∙ not-false i.result c.if-not-is_scan.false)).0
+    (image-parts c.args.image.now (sym i.ensures ∙ c.if-not-is_scan.false)).0
 
 pub returns : goal.returns
 returns c =
     let l = c.load-table in
     let i = c.is_scan in
     check_image c.args.image.now l.result c.check.result l.ensures
-    (sym i.ensures ∙ not-false i.result c.if-not-is_scan.false) c.check.ensures
+    (sym i.ensures ∙ c.if-not-is_scan.false) c.check.ensures

@@ -46,20 +46,20 @@ stepped x =
 -- the bytes are an image, as it was found
 found : (x : After-step-outcome) → is_scan (image (goal.at.After-step-outcome x).Else-answer-lt25) ≡ true
 found x =
-    sym x.is_scan.ensures ∙ not-false x.is_scan.result x.if-not-is_scan.false
+    sym x.is_scan.ensures ∙ x.if-not-is_scan.false
 
 pub returns-then-not-is_scan : goal.returns-then-not-is_scan
 returns-then-not-is_scan c =
     let i = (goal.at.returns-then-not-is_scan c).After-is_scan in
     let none = given (answer i) _ c.no_table-none.result (room i) c.give.ensures ∙ ap (λ x. written (answer i) 0 (answer_bytes x)) c.no_table-none.ensures in
-    let no = sym i.is_scan.ensures ∙ not-true i.is_scan.result c.if-not-is_scan.true in
+    let no = sym i.is_scan.ensures ∙ c.if-not-is_scan.true in
     let e = step-none (image i) (call i) (answer i) (room i) no none in
     record { number = e.0; image = e.1.0; answer = e.1.1; holds = λ z. absurd (omega arith) }
 
 pub load-table-requires : goal.load-table-requires
 load-table-requires c =
     let i = (goal.at.load-table-requires c).Else-answer-lt25 in
-    (image-parts (image i) (sym i.is_scan.ensures ∙ not-false i.is_scan.result c.if-not-is_scan.false)).0
+    (image-parts (image i) (sym i.is_scan.ensures ∙ c.if-not-is_scan.false)).0
 
 pub returns-then-number-ne0 : goal.returns-then-number-ne0
 returns-then-number-ne0 c =

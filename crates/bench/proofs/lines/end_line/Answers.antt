@@ -6,6 +6,4 @@ use Rattle.bench.proofs.lines.end_line.Goals as goal
 
 pub returns : goal.returns
 returns c =
-    let at-text = (goal.at.returns c).After-text in
-    let start = at-text.before.before.before.before in
-    put_last at-text.text.ensures (omega (arith, start.requires))
+    put_last c.text.ensures (omega (arith, c.requires))

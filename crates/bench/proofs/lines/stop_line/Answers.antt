@@ -7,11 +7,7 @@ use Rattle.bench.proofs.lines.stop_line.Goals as goal
 
 pub returns : goal.returns
 returns c =
-    let at-put = (goal.at.returns c).After-put in
-    let at-decimal = at-put.before.before.before.before in
-    let at-text = at-decimal.before.before.before.before in
-    let start = at-text.before.before.before.before in
-    let l = stop-short start.args.n (omega arith) in
-    put_then (omega (arith, l, start.requires)) at-text.text.ensures
-    (λ h. put_then h at-decimal.decimal.ensures
-    (λ h. put_last at-put.put.ensures h))
+    let l = stop-short c.args.n (omega arith) in
+    put_then (omega (arith, l, c.requires)) c.text-a.ensures
+    (λ h. put_then h c.decimal-b.ensures
+    (λ h. put_last c.put.ensures h))

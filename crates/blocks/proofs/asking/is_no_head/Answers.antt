@@ -10,4 +10,4 @@ returns-then-byte_at-gt1 c = no_way c.args.head.now (omega (arith, c.byte_at.ens
 pub returns : goal.returns
 returns c =
     let q = c.args.head.now in
-    by_length q c.end_of_lem.result c.end_of_lem.ensures (omega (arith, c.byte_at.ensures, c.if-byte_at-gt1.false))
+    by_length q c.end_of.result c.end_of.ensures (omega (arith, c.byte_at.ensures, c.if-byte_at-gt1.false))

@@ -41,7 +41,7 @@ returns-then-not-has_block c =
     let i = sym c.is_outside.ensures ∙ c.if-is_outside.false in
     let o = c.if-bytes-eq0.false in
     let b = c.has_block.ensures ∙ ap (λ k. not (is_none (form_of k))) c.kind_of.ensures in
-    let e = not-false _ (sym b ∙ not-true _ c.if-not-has_block.true) in
+    let e = not-false _ (sym b ∙ c.if-not-has_block.true) in
     record_no s a l bs w 4 (record_none s a l bs i o e) (λ z. omega arith)
 
 pub returns-in-Call : goal.returns-in-Call
@@ -67,7 +67,7 @@ returns-in-Refused c =
     let i = sym c.is_outside.ensures ∙ c.if-is_outside.false in
     let o = c.if-bytes-eq0.false in
     let b = c.has_block.ensures ∙ ap (λ k. not (is_none (form_of k))) c.kind_of.ensures in
-    let e = not-true _ (sym b ∙ not-false _ c.if-not-has_block.false) in
+    let e = not-true _ (sym b ∙ c.if-not-has_block.false) in
     let r = c.number-1.given in
     let n = record_misfit s a l bs i o r.0.0 e (sym c.read.ensures ∙ r.1) in
     record_no s a l bs w r.0.0 n.1 (λ z. omega (arith, n.0))

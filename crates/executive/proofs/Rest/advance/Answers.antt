@@ -23,7 +23,7 @@ loop-i-init c =
     let g = c.granule_of-granule.result in
     let a = c.args.self in
     let now : Millis = record { 0 = a.clock.0 + g.0 } in
-    let l : length a.alarms ≡ 32 = sym (length-map a.alarms _) ∙ c.well_formed.0.1.1.1.1.1.1.0.1.0.1 in
+    let l : length a.alarms ≡ 32 = c.well_formed.0.1.1.1.1.1.1.0.1.0.1 in
     let e : c.args.first ≡ next_of (is_due (a.clock.0 + g.0)) 0 a.alarms = rw c.granule_of-granule.ensures c.requires.1 in
     let h = ring-on a now a.alarms a.flags l 0 c.args.first (omega arith) e in
     (h.1, l, h.2, sym h.3)

@@ -15,7 +15,7 @@ pub returns : goal.returns
 unfolding queue_right
 returns c =
     let t = c.args.self in
-    let l : length t.queue ≡ 16 = sym (length-map t.queue _) ∙ c.well_formed.0.1.1.1.0.1.0.1 in
+    let l : length t.queue ≡ 16 = c.well_formed.0.1.1.1.0.1.0.1 in
     rw (eq-eqb _ _ l)
     (c.line_right.ensures
     ∙ lit-order (leb t.rest.count 16) (leb t.ready 16) (falls t.tasks t.rest.count 15 (line t)) (up_to (exact_at is_ready t.tasks (line t)) t.rest.count and all_of is_nobody (drop t.ready t.queue)) (levels_right t))

@@ -11,7 +11,7 @@ use Rattle.executive.proofs.Work.enter_all.Goals as goal
 
 pub loop-i-init : goal.loop-i-init
 loop-i-init c =
-    (fewer-flying _ _ _ (omega arith) c.requires.0, omega arith, omega (arith, c.requires.0.room, sym (length-map c.args.list.places _) ∙ c.well_formed.1.0.1.1.0.1.0.1), c.requires.1, refl)
+    (fewer-flying _ _ _ (omega arith) c.requires.0, omega arith, omega (arith, c.requires.0.room, c.well_formed.1.0.1.1.0.1.0.1), c.requires.1, refl)
 
 pub offset_bounds-entrants-i : goal.offset_bounds-entrants-i
 offset_bounds-entrants-i c = omega arith

@@ -18,7 +18,7 @@ returns-then-not-is_configuration c =
       c.blank_rest-rest.ensures,
       c.all_dormant-none.ensures,
       ← c.is_configuration.ensures,
-      not-true c.is_configuration.result c.if-not-is_configuration.true,
+      c.if-not-is_configuration.true,
     ) refl
 
 pub start_marked-v-requires : goal.start_marked-v-requires
@@ -45,5 +45,5 @@ returns c =
       c.all_dormant-tasks.ensures,
       c.tasks_in-n.ensures.0,
       ← c.is_configuration.ensures,
-      not-false c.is_configuration.result c.if-not-is_configuration.false,
+      c.if-not-is_configuration.false,
     ) refl

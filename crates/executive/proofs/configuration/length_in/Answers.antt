@@ -16,7 +16,7 @@ returns-then-byte_at-ne66 c =
       ← c.byte_at.ensures,
       eq-eqb c.byte_at.result 0x40 c.if-byte_at-ne64.false,
       ← c.tasks_in-n.ensures.0,
-      ← c.IsPlace-in.ensures,
+      ← c.place_in.ensures,
       ← c.byte_at-2.ensures,
       ne_eqb c.byte_at-2.result 0x42 c.if-byte_at-ne66.true,
     ) refl
@@ -28,7 +28,7 @@ returns c =
       ← c.byte_at.ensures,
       eq-eqb c.byte_at.result 0x40 c.if-byte_at-ne64.false,
       ← c.tasks_in-n.ensures.0,
-      ← c.IsPlace-in.ensures,
+      ← c.place_in.ensures,
       ← c.byte_at-2.ensures,
       eq-eqb c.byte_at-2.result 0x42 c.if-byte_at-ne66.false,
     ) refl

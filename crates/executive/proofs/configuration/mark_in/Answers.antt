@@ -4,4 +4,4 @@ use borrow.Author.Rules.{rules}
 use Rattle.executive.proofs.configuration.mark_in.Goals as goal
 
 pub returns : goal.returns
-returns c = rw (c.byte_at.ensures, c.IsPlace-in.ensures) refl
+returns c = rw (c.byte_at.ensures, c.place_in.ensures) refl

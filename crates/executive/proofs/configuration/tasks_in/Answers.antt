@@ -21,7 +21,7 @@ unfolding tasks_in
 returns-then-byte_at-ne65 c =
     let s = c.args.s.now in
     let v = c.loop-n in
-    let e = rw c.IsPlace-in.ensures at c.byte_at.ensures in
+    let e = rw c.place_in.ensures at c.byte_at.ensures in
     (sym (tasks-stop s v.n c.loop-n-test.true (λ z. c.if-byte_at-ne65.true (e ∙ z))) ∙ v.invariant.1, v.invariant.0)
 
 pub overflow_add-n-in-loop-n : goal.overflow_add-n-in-loop-n
@@ -34,7 +34,7 @@ pub loop-n-preserved : goal.loop-n-preserved
 loop-n-preserved c =
     let s = c.args.s.now in
     let v = c.loop-n in
-    let e = rw c.IsPlace-in.ensures at c.byte_at.ensures in
+    let e = rw c.place_in.ensures at c.byte_at.ensures in
     (omega arith, sym (tasks-turn s v.n c.loop-n-test.true (sym e ∙ c.if-byte_at-ne65.false)) ∙ v.invariant.1)
 
 pub returns : goal.returns

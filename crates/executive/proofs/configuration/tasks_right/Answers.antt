@@ -22,7 +22,7 @@ task_right-requires c = omega arith
 pub returns-then-not-task_right : goal.returns-then-not-task_right
 returns-then-not-task_right c =
     let v = c.loop-k in
-    sym (all-not (task_right c.args.s.now) c.args.n v.k c.loop-k-test.true (sym c.task_right.ensures ∙ not-true c.task_right.result c.if-not-task_right.true))
+    sym (all-not (task_right c.args.s.now) c.args.n v.k c.loop-k-test.true (sym c.task_right.ensures ∙ c.if-not-task_right.true))
 
 pub overflow_add-k-in-loop-k : goal.overflow_add-k-in-loop-k
 overflow_add-k-in-loop-k c = omega arith
@@ -33,7 +33,7 @@ loop-k-smaller c = omega arith
 pub loop-k-preserved : goal.loop-k-preserved
 loop-k-preserved c =
     let v = c.loop-k in
-    (omega arith, all_more (task_right c.args.s.now) v.k v.invariant.1 (sym c.task_right.ensures ∙ not-false c.task_right.result c.if-not-task_right.false))
+    (omega arith, all_more (task_right c.args.s.now) v.k v.invariant.1 (sym c.task_right.ensures ∙ c.if-not-task_right.false))
 
 pub returns : goal.returns
 returns c =

@@ -8,8 +8,8 @@ returns-then-bad_wait c = rw (c.refused.ensures, ← c.bad_wait.ensures, c.if-ba
 
 pub returns-then-is_met : goal.returns-then-is_met
 unfolding wait_deed
-returns-then-is_met c = rw (c.accepted.ensures, c.nothing-still.ensures, c.only_z-z.ensures, ← c.bad_wait.ensures, c.if-bad_wait.false, ← c.Mode-of.ensures, ← c.is_met.ensures, c.if-is_met.true) refl
+returns-then-is_met c = rw (c.accepted.ensures, c.nothing-still.ensures, c.only_z-z.ensures, ← c.bad_wait.ensures, c.if-bad_wait.false, ← c.mode_of-m.ensures, ← c.is_met.ensures, c.if-is_met.true) refl
 
 pub returns : goal.returns
 unfolding wait_deed
-returns c = rw (c.accepted-2.ensures, c.alone-deed.ensures, c.only_z-marks.ensures, ← c.bad_wait.ensures, c.if-bad_wait.false, ← c.Mode-of.ensures, ← c.is_met.ensures, c.if-is_met.false) refl
+returns c = rw (c.accepted-2.ensures, c.alone-deed.ensures, c.only_z-marks.ensures, ← c.bad_wait.ensures, c.if-bad_wait.false, ← c.mode_of-m.ensures, ← c.is_met.ensures, c.if-is_met.false) refl

@@ -13,7 +13,7 @@ loop-i-init c = let l = c.well_formed.1.0.1.0.1 in (omega arith, word_none c.arg
 
 pub loop-i-preserved-then-k-lt16 : goal.loop-i-preserved-then-k-lt16
 loop-i-preserved-then-k-lt16 c =
-    let p = c.entry_IsPlace in
+    let p = c.entry_place-k in
     let v = c.loop-i in
     let l = c.well_formed.1.0.1.0.1 in (
       omega arith,
@@ -23,7 +23,7 @@ loop-i-preserved-then-k-lt16 c =
 
 pub loop-i-preserved : goal.loop-i-preserved
 loop-i-preserved c =
-    let p = c.entry_IsPlace in
+    let p = c.entry_place-k in
     let v = c.loop-i in
     let l = c.well_formed.1.0.1.0.1 in (
       omega arith,

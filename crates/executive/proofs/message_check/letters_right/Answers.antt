@@ -14,7 +14,7 @@ returns-then-not-message_in_range c =
     let l = c.well_formed.1.0.1.0.1 in
     let a = c.args in
     sym (sym v.invariant.1 ∙ right-out a.tasks a.count v.p a.messages a.sent (omega arith) v.i (omega arith)
-    (sym c.message_in_range.ensures ∙ not-true _ c.if-not-message_in_range.true))
+    (sym c.message_in_range.ensures ∙ c.if-not-message_in_range.true))
 
 pub returns-then-p-m : goal.returns-then-p-m
 returns-then-p-m c =
@@ -22,7 +22,7 @@ returns-then-p-m c =
     let l = c.well_formed.1.0.1.0.1 in
     let a = c.args in
     sym (sym v.invariant.1 ∙ right-high a.tasks a.count v.p a.messages a.sent (omega arith) v.i (omega arith)
-    (sym c.message_in_range.ensures ∙ not-false _ c.if-not-message_in_range.false) c.if-p-m.true)
+    (sym c.message_in_range.ensures ∙ c.if-not-message_in_range.false) c.if-p-m.true)
 
 pub returns-then-not-is_untaken : goal.returns-then-not-is_untaken
 returns-then-not-is_untaken c =
@@ -30,8 +30,8 @@ returns-then-not-is_untaken c =
     let l = c.well_formed.1.0.1.0.1 in
     let a = c.args in
     sym (sym v.invariant.1 ∙ right-taken a.tasks a.count v.p a.messages a.sent (omega arith) v.i (omega arith)
-    (sym c.message_in_range.ensures ∙ not-false _ c.if-not-message_in_range.false) c.if-p-m.false
-    (sym c.is_untaken.ensures ∙ not-true _ c.if-not-is_untaken.true))
+    (sym c.message_in_range.ensures ∙ c.if-not-message_in_range.false) c.if-p-m.false
+    (sym c.is_untaken.ensures ∙ c.if-not-is_untaken.true))
 
 pub loop-i-preserved : goal.loop-i-preserved
 loop-i-preserved c =
@@ -40,8 +40,8 @@ loop-i-preserved c =
     let a = c.args in (
       omega arith,
       right-on a.tasks a.count v.p a.messages a.sent (omega arith) v.i (omega arith)
-          (sym c.message_in_range.ensures ∙ not-false _ c.if-not-message_in_range.false) c.if-p-m.false
-          (sym c.is_untaken.ensures ∙ not-false _ c.if-not-is_untaken.false) ∙ v.invariant.1,
+          (sym c.message_in_range.ensures ∙ c.if-not-message_in_range.false) c.if-p-m.false
+          (sym c.is_untaken.ensures ∙ c.if-not-is_untaken.false) ∙ v.invariant.1,
     )
 
 pub returns : goal.returns

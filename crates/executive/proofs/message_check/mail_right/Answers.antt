@@ -24,7 +24,7 @@ returns-then-not-is_emptied c =
     let a = c.args in
     let v = c.loop-i in
     sym (all-not (mail_right_at a.tasks a.count a.mail) 16 v.i (omega arith)
-    (mail-next a.tasks a.count a.mail v.i ∙ rw (le-leb _ _ c.if-count-x.false) (sym c.is_emptied.ensures ∙ not-true _ c.if-not-is_emptied.true)))
+    (mail-next a.tasks a.count a.mail v.i ∙ rw (le-leb _ _ c.if-count-x.false) (sym c.is_emptied.ensures ∙ c.if-not-is_emptied.true)))
 
 pub loop-i-preserved : goal.loop-i-preserved
 loop-i-preserved c =
@@ -32,7 +32,7 @@ loop-i-preserved c =
     let v = c.loop-i in (
       omega arith,
       all_more (mail_right_at a.tasks a.count a.mail) v.i v.invariant.1
-          (mail-next a.tasks a.count a.mail v.i ∙ rw (le-leb _ _ c.if-count-x.false) (sym c.is_emptied.ensures ∙ not-false _ c.if-not-is_emptied.false)),
+          (mail-next a.tasks a.count a.mail v.i ∙ rw (le-leb _ _ c.if-count-x.false) (sym c.is_emptied.ensures ∙ c.if-not-is_emptied.false)),
     )
 
 pub returns : goal.returns

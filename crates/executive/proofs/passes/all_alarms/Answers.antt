@@ -23,7 +23,7 @@ pub returns-then-not-alarm_right : goal.returns-then-not-alarm_right
 returns-then-not-alarm_right c =
     let v = c.loop-i in
     let l = c.well_formed.0.1.0.1 in
-    sym (sym v.invariant.1 ∙ every-not (alarm_right c.args.now.0) never c.args.alarms v.i (omega arith) (sym c.alarm_right.ensures ∙ not-true _ c.if-not-alarm_right.true))
+    sym (sym v.invariant.1 ∙ every-not (alarm_right c.args.now.0) never c.args.alarms v.i (omega arith) (sym c.alarm_right.ensures ∙ c.if-not-alarm_right.true))
 
 pub overflow_add-i : goal.overflow_add-i
 overflow_add-i c = omega arith
@@ -35,7 +35,7 @@ pub loop-i-preserved : goal.loop-i-preserved
 loop-i-preserved c =
     let v = c.loop-i in
     let l = c.well_formed.0.1.0.1 in
-    (omega arith, every-turn (alarm_right c.args.now.0) never c.args.alarms v.i (omega arith) (sym c.alarm_right.ensures ∙ not-false _ c.if-not-alarm_right.false) ∙ v.invariant.1)
+    (omega arith, every-turn (alarm_right c.args.now.0) never c.args.alarms v.i (omega arith) (sym c.alarm_right.ensures ∙ c.if-not-alarm_right.false) ∙ v.invariant.1)
 
 pub returns : goal.returns
 returns c =

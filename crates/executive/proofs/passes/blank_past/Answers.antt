@@ -23,7 +23,7 @@ pub returns-then-not-is_blank : goal.returns-then-not-is_blank
 returns-then-not-is_blank c =
     let v = c.loop-i in
     let l = c.well_formed.0.1.0.1 in
-    sym (sym v.invariant.1 ∙ every-not is_blank no_task c.args.tasks v.i (omega arith) (sym c.is_blank.ensures ∙ not-true _ c.if-not-is_blank.true))
+    sym (sym v.invariant.1 ∙ every-not is_blank no_task c.args.tasks v.i (omega arith) (sym c.is_blank.ensures ∙ c.if-not-is_blank.true))
 
 pub overflow_add-i : goal.overflow_add-i
 overflow_add-i c = omega arith
@@ -35,7 +35,7 @@ pub loop-i-preserved : goal.loop-i-preserved
 loop-i-preserved c =
     let v = c.loop-i in
     let l = c.well_formed.0.1.0.1 in
-    (omega arith, every-turn is_blank no_task c.args.tasks v.i (omega arith) (sym c.is_blank.ensures ∙ not-false _ c.if-not-is_blank.false) ∙ v.invariant.1)
+    (omega arith, every-turn is_blank no_task c.args.tasks v.i (omega arith) (sym c.is_blank.ensures ∙ c.if-not-is_blank.false) ∙ v.invariant.1)
 
 pub returns : goal.returns
 returns c =

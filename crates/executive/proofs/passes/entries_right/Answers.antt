@@ -23,7 +23,7 @@ pub returns-then-not-entry_right : goal.returns-then-not-entry_right
 returns-then-not-entry_right c =
     let v = c.loop-i in
     let l = c.well_formed.0.1.0.1 in
-    sym (sym v.invariant.1 ∙ every-not (entry_right c.args.count c.args.now.0 c.args.flags) no_task c.args.tasks v.i (omega arith) (sym c.entry_right.ensures ∙ not-true _ c.if-not-entry_right.true))
+    sym (sym v.invariant.1 ∙ every-not (entry_right c.args.count c.args.now.0 c.args.flags) no_task c.args.tasks v.i (omega arith) (sym c.entry_right.ensures ∙ c.if-not-entry_right.true))
 
 pub overflow_add-i : goal.overflow_add-i
 overflow_add-i c = omega arith
@@ -35,7 +35,7 @@ pub loop-i-preserved : goal.loop-i-preserved
 loop-i-preserved c =
     let v = c.loop-i in
     let l = c.well_formed.0.1.0.1 in
-    (omega arith, every-turn (entry_right c.args.count c.args.now.0 c.args.flags) no_task c.args.tasks v.i (omega arith) (sym c.entry_right.ensures ∙ not-false _ c.if-not-entry_right.false) ∙ v.invariant.1)
+    (omega arith, every-turn (entry_right c.args.count c.args.now.0 c.args.flags) no_task c.args.tasks v.i (omega arith) (sym c.entry_right.ensures ∙ c.if-not-entry_right.false) ∙ v.invariant.1)
 
 pub returns : goal.returns
 returns c =

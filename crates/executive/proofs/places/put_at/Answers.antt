@@ -5,8 +5,8 @@ use Rattle.executive.proofs.places.put_at.Goals as goal
 
 pub returns-then-i-gt15 : goal.returns-then-i-gt15
 returns-then-i-gt15 c =
-    sym (put_no-place c.args.tasks c.well_formed.0.1.0.1 c.args.e c.args.k.0 _ c.entry_IsPlace.ensures c.if-i-gt15.true)
+    sym (put_no-place c.args.tasks c.well_formed.0.1.0.1 c.args.e c.args.k.0 _ c.entry_place-i.ensures c.if-i-gt15.true)
 
 pub returns : goal.returns
 returns c =
-    c.put_in.ensures ∙ rw c.entry_IsPlace.ensures (sym (put_place c.args.tasks c.well_formed.0.1.0.1 c.args.e c.args.k.0))
+    c.put_in.ensures ∙ rw c.entry_place-i.ensures (sym (put_place c.args.tasks c.well_formed.0.1.0.1 c.args.e c.args.k.0))

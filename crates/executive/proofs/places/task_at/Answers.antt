@@ -5,8 +5,8 @@ use Rattle.executive.proofs.places.task_at.Goals as goal
 
 pub returns-then-i-gt15 : goal.returns-then-i-gt15
 returns-then-i-gt15 c =
-    sym (at-no-place c.args.tasks c.well_formed.0.1.0.1 c.args.k.0 _ c.entry_IsPlace.ensures c.if-i-gt15.true)
+    sym (at-no-place c.args.tasks c.well_formed.0.1.0.1 c.args.k.0 _ c.entry_place-i.ensures c.if-i-gt15.true)
 
 pub returns : goal.returns
 returns c =
-    rw c.entry_IsPlace.ensures (sym (at_place c.args.tasks c.well_formed.0.1.0.1 c.args.k.0))
+    rw c.entry_place-i.ensures (sym (at_place c.args.tasks c.well_formed.0.1.0.1 c.args.k.0))

@@ -24,7 +24,7 @@ returns-then-not-exact_at c =
     let a = c.args in
     let f = is_as a.kind a.number in
     sym (sym (tallied_exact f t.result.of a.tasks (take a.ready a.queue) a.count c.requires.1 t.ensures)
-    ∙ all-not (tallied_at f t.result.of a.tasks) a.count v.k c.loop-k-test.true (sym (tallied_next f t.result.of a.tasks v.k) ∙ sym c.exact_at.ensures ∙ not-true _ c.if-not-exact_at.true))
+    ∙ all-not (tallied_at f t.result.of a.tasks) a.count v.k c.loop-k-test.true (sym (tallied_next f t.result.of a.tasks v.k) ∙ sym c.exact_at.ensures ∙ c.if-not-exact_at.true))
 
 pub loop-k-preserved : goal.loop-k-preserved
 loop-k-preserved c =
@@ -32,7 +32,7 @@ loop-k-preserved c =
     let t = c.tally-c in
     let a = c.args in
     let f = is_as a.kind a.number in
-    (omega arith, all_more (tallied_at f t.result.of a.tasks) v.k v.invariant.1 (sym (tallied_next f t.result.of a.tasks v.k) ∙ sym c.exact_at.ensures ∙ not-false _ c.if-not-exact_at.false))
+    (omega arith, all_more (tallied_at f t.result.of a.tasks) v.k v.invariant.1 (sym (tallied_next f t.result.of a.tasks v.k) ∙ sym c.exact_at.ensures ∙ c.if-not-exact_at.false))
 
 pub returns : goal.returns
 returns c =

@@ -18,19 +18,19 @@ pub returns-then-count-k : goal.returns-then-count-k
 returns-then-count-k c =
     let v = c.loop-i in
     let l = c.well_formed.1.0.1.0.1 in
-    and_false_left _ _ (sym v.invariant.1 ∙ falls-off c.args.tasks c.args.count c.args.queue c.args.ready (omega arith) v.i v.p c.loop-i-test.true (omega arith) c.well_formed.0.1.0.1 _ c.entry_IsPlace.ensures c.if-count-k.true)
+    and_false_left _ _ (sym v.invariant.1 ∙ falls-off c.args.tasks c.args.count c.args.queue c.args.ready (omega arith) v.i v.p c.loop-i-test.true (omega arith) c.well_formed.0.1.0.1 _ c.entry_place-k.ensures c.if-count-k.true)
 
 pub returns-then-p-e : goal.returns-then-p-e
 returns-then-p-e c =
     let v = c.loop-i in
     let l = c.well_formed.1.0.1.0.1 in
-    and_false_left _ _ (sym v.invariant.1 ∙ falls-over c.args.tasks c.args.count c.args.queue c.args.ready (omega arith) v.i v.p (omega arith) (omega arith) c.well_formed.0.1.0.1 _ c.entry_IsPlace.ensures c.if-count-k.false c.if-p-e.true)
+    and_false_left _ _ (sym v.invariant.1 ∙ falls-over c.args.tasks c.args.count c.args.queue c.args.ready (omega arith) v.i v.p (omega arith) (omega arith) c.well_formed.0.1.0.1 _ c.entry_place-k.ensures c.if-count-k.false c.if-p-e.true)
 
 pub loop-i-preserved : goal.loop-i-preserved
 loop-i-preserved c =
     let v = c.loop-i in
     let l = c.well_formed.1.0.1.0.1 in
-    let e = c.entry_IsPlace in (
+    let e = c.entry_place-k in (
       omega arith,
       falls-turn c.args.tasks c.args.count c.args.queue c.args.ready (omega arith) v.i v.p (omega arith) (omega arith) c.well_formed.0.1.0.1 _ e.ensures c.if-count-k.false c.if-p-e.false ∙ v.invariant.1,
       rw c.level_bit-word.ensures (word_on c.args.tasks c.args.count c.args.queue c.args.ready (omega arith) v.i v.p (omega arith) (omega arith) c.well_formed.0.1.0.1 _ e.ensures v.word _ refl v.invariant.2),

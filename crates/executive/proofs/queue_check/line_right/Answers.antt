@@ -28,7 +28,7 @@ pub returns-then-not-descends : goal.returns-then-not-descends
 returns-then-not-descends c =
     and_true_left _ _ _ (le-leb _ _ c.if-count-gt16.false)
     (and_true_left _ _ _ (le-leb _ _ c.if-ready-gt16.false)
-    (and_false_left _ _ (sym c.descends.ensures ∙ not-true _ c.if-not-descends.true)))
+    (and_false_left _ _ (sym c.descends.ensures ∙ c.if-not-descends.true)))
 
 pub all_exact-requires : goal.all_exact-requires
 all_exact-requires c = (c.if-ready-gt16.false, c.if-count-gt16.false)
@@ -40,7 +40,7 @@ pub returns-then-all_exact : goal.returns-then-all_exact
 returns-then-all_exact c =
     and_true_left _ _ _ (le-leb _ _ c.if-count-gt16.false)
     (and_true_left _ _ _ (le-leb _ _ c.if-ready-gt16.false)
-    (and_true_left _ _ _ (sym c.descends.ensures ∙ not-false _ c.if-not-descends.false)
+    (and_true_left _ _ _ (sym c.descends.ensures ∙ c.if-not-descends.false)
     (and_true_left _ _ _ (exact-of (goal.at.returns-then-all_exact c).Start (sym c.all_exact.ensures ∙ c.if-all_exact.true)) c.blank_from.ensures)))
 
 pub returns-else-all_exact : goal.returns-else-all_exact
@@ -48,5 +48,5 @@ returns-else-all_exact c =
     both_false c.if-all_exact.false
     (and_true_left _ _ _ (le-leb _ _ c.if-count-gt16.false)
     (and_true_left _ _ _ (le-leb _ _ c.if-ready-gt16.false)
-    (and_true_left _ _ _ (sym c.descends.ensures ∙ not-false _ c.if-not-descends.false)
+    (and_true_left _ _ _ (sym c.descends.ensures ∙ c.if-not-descends.false)
     (and_false_left _ _ (exact-of (goal.at.returns-else-all_exact c).Start (sym c.all_exact.ensures ∙ c.if-all_exact.false))))))

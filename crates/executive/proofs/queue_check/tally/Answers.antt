@@ -14,24 +14,24 @@ loop-i-init c = let l = c.well_formed.0.1.0.1 in (omega arith, line_first c.args
 pub bounds-of-k : goal.bounds-of-k
 bounds-of-k c =
     let v = c.loop-i in
-    omega (arith, c.entry_IsPlace.ensures, place-low (get_or c.args.queue (v.i - 1) nobody).0)
+    omega (arith, c.entry_place-k.ensures, place-low (get_or c.args.queue (v.i - 1) nobody).0)
 
 pub bounds-of-k-in-loop-i : goal.bounds-of-k-in-loop-i
 bounds-of-k-in-loop-i c =
     let v = c.loop-i in
-    omega (arith, c.entry_IsPlace.ensures, place-low (get_or c.args.queue (v.i - 1) nobody).0)
+    omega (arith, c.entry_place-k.ensures, place-low (get_or c.args.queue (v.i - 1) nobody).0)
 
 pub overflow_add-of : goal.overflow_add-of
 overflow_add-of c =
     let v = c.loop-i in
     let l = c.well_formed.0.1.0.1 in
-    omega (arith, line_low c.args.queue c.args.ready (omega arith) v.i v.of v.invariant.1 c.entry_IsPlace.result)
+    omega (arith, line_low c.args.queue c.args.ready (omega arith) v.i v.of v.invariant.1 c.entry_place-k.result)
 
 pub loop-i-preserved : goal.loop-i-preserved
 loop-i-preserved c =
     let v = c.loop-i in
     let l = c.well_formed.0.1.0.1 in
-    (omega arith, rw c.entry_IsPlace.ensures (line-turn c.args.queue c.args.ready (omega arith) v.i v.of c.loop-i-test.true v.invariant.0 v.invariant.1))
+    (omega arith, rw c.entry_place-k.ensures (line-turn c.args.queue c.args.ready (omega arith) v.i v.of c.loop-i-test.true v.invariant.0 v.invariant.1))
 
 pub returns : goal.returns
 returns c =

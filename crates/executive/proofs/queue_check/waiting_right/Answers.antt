@@ -32,7 +32,7 @@ returns-then-not-descends c =
     let s = (goal.at.returns-then-not-descends c).Start in
     and_true_left _ _ _ (le-leb _ _ s.requires.1)
     (and_true_left _ _ _ (le-leb _ _ s.requires.0)
-    (and_false_left _ _ (falls-as s _ c.levels_of-word.ensures c.descends.ensures ∙ not-true _ c.if-not-descends.true)))
+    (and_false_left _ _ (falls-as s _ c.levels_of-word.ensures c.descends.ensures ∙ c.if-not-descends.true)))
 
 pub all_exact-requires : goal.all_exact-requires
 all_exact-requires c = c.requires
@@ -45,7 +45,7 @@ returns-then-all_exact c =
     let s = (goal.at.returns-then-all_exact c).Start in
     and_true_left _ _ _ (le-leb _ _ s.requires.1)
     (and_true_left _ _ _ (le-leb _ _ s.requires.0)
-    (and_true_left _ _ _ (falls-as s _ c.levels_of-word.ensures c.descends.ensures ∙ not-false _ c.if-not-descends.false)
+    (and_true_left _ _ _ (falls-as s _ c.levels_of-word.ensures c.descends.ensures ∙ c.if-not-descends.false)
     (and_true_left _ _ _ (sym c.all_exact.ensures ∙ c.if-all_exact.true) c.blank_from.ensures)))
 
 pub returns-else-all_exact : goal.returns-else-all_exact
@@ -54,5 +54,5 @@ returns-else-all_exact c =
     both_false c.if-all_exact.false
     (and_true_left _ _ _ (le-leb _ _ s.requires.1)
     (and_true_left _ _ _ (le-leb _ _ s.requires.0)
-    (and_true_left _ _ _ (falls-as s _ c.levels_of-word.ensures c.descends.ensures ∙ not-false _ c.if-not-descends.false)
+    (and_true_left _ _ _ (falls-as s _ c.levels_of-word.ensures c.descends.ensures ∙ c.if-not-descends.false)
     (and_false_left _ _ (sym c.all_exact.ensures ∙ c.if-all_exact.false)))))

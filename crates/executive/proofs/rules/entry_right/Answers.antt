@@ -6,11 +6,11 @@ use borrow.Author.Rules.{rules}
 use Rattle.executive.proofs.rules.entry_right.Goals as goal
 
 pub returns-then-not-entry_in_range : goal.returns-then-not-entry_in_range
-returns-then-not-entry_in_range c = and_false_left _ _ (sym c.entry_in_range.ensures ∙ not-true _ c.if-not-entry_in_range.true)
+returns-then-not-entry_in_range c = and_false_left _ _ (sym c.entry_in_range.ensures ∙ c.if-not-entry_in_range.true)
 
 pub returns-then-not-is_timely : goal.returns-then-not-is_timely
 returns-then-not-is_timely c =
-    and_false_right (entry_in_range c.args.count c.args.e) _ (and_false_left _ _ (sym c.is_timely.ensures ∙ not-true _ c.if-not-is_timely.true))
+    and_false_right (entry_in_range c.args.count c.args.e) _ (and_false_left _ _ (sym c.is_timely.ensures ∙ c.if-not-is_timely.true))
 
 pub returns-then-now-e : goal.returns-then-now-e
 returns-then-now-e c =
@@ -23,14 +23,11 @@ returns-then-not-is_unmet c =
     and_false_right (entry_in_range c.args.count c.args.e) _
     (and_false_right (task_timely c.args.now.0 c.args.e) _
     (and_false_right (is_started c.args.now.0 c.args.e) _
-    (and_false_left _ _ (sym c.is_unmet.ensures ∙ not-true _ c.if-not-is_unmet.true))))
+    (and_false_left _ _ (sym c.is_unmet.ensures ∙ c.if-not-is_unmet.true))))
 
 pub returns : goal.returns
 returns c =
-    let at-if3 = (goal.at.returns c).Else-now-e in
-    let after-is-timely = at-if3.before.before.before in
-    let after-entry-in-range = after-is-timely.before.before in
-    and_true_left _ _ _ (sym after-entry-in-range.before.entry-in-range.ensures ∙ not-false _ after-entry-in-range.if1.false)
-    (and_true_left _ _ _ (sym after-is-timely.before.is-timely.ensures ∙ not-false _ after-is-timely.if2.false)
-    (and_true_left _ _ _ (le-leb _ _ at-if3.if3.false)
-    (and_true_left _ _ _ (sym c.is_unmet.ensures ∙ not-false _ c.if-not-is_unmet.false) c.dormant_entry_right.ensures)))
+    and_true_left _ _ _ (sym c.entry_in_range.ensures ∙ c.if-not-entry_in_range.false)
+    (and_true_left _ _ _ (sym c.is_timely.ensures ∙ c.if-not-is_timely.false)
+    (and_true_left _ _ _ (le-leb _ _ c.if-now-e.false)
+    (and_true_left _ _ _ (sym c.is_unmet.ensures ∙ c.if-not-is_unmet.false) c.dormant_entry_right.ensures)))

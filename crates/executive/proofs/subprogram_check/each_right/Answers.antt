@@ -12,12 +12,12 @@ loop-m-init c = (omega arith, held_first c.args.tasks c.args.count c.args.subs)
 pub returns-then-not-sub_right : goal.returns-then-not-sub_right
 returns-then-not-sub_right c =
     let l = c.well_formed.1.0.1.0.1 in
-    sym (sym c.loop-m.invariant.1 ∙ held-not c.args.tasks c.args.count c.args.subs c.loop-m.m (omega arith) (sym c.sub_right.ensures ∙ not-true _ c.if-not-sub_right.true))
+    sym (sym c.loop-m.invariant.1 ∙ held-not c.args.tasks c.args.count c.args.subs c.loop-m.m (omega arith) (sym c.sub_right.ensures ∙ c.if-not-sub_right.true))
 
 pub loop-m-preserved : goal.loop-m-preserved
 loop-m-preserved c =
     let l = c.well_formed.1.0.1.0.1 in
-    (omega arith, held-turn c.args.tasks c.args.count c.args.subs c.loop-m.m (omega arith) (sym c.sub_right.ensures ∙ not-false _ c.if-not-sub_right.false) ∙ c.loop-m.invariant.1)
+    (omega arith, held-turn c.args.tasks c.args.count c.args.subs c.loop-m.m (omega arith) (sym c.sub_right.ensures ∙ c.if-not-sub_right.false) ∙ c.loop-m.invariant.1)
 
 pub returns : goal.returns
 returns c =

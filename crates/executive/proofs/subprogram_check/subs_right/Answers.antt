@@ -8,7 +8,7 @@ returns-then-all_free c =
     c.none_waits.ensures ∙ free-right c.args.tasks c.args.count c.requires c.args.subs c.well_formed.1.0.1.0.1 (sym c.all_free.ensures ∙ c.if-all_free.true)
 
 pub returns : goal.returns
-returns c = c.Each-right.ensures
+returns c = c.each_right.ensures
 
 pub none_waits-requires : goal.none_waits-requires
 none_waits-requires c = c.requires

@@ -13,7 +13,7 @@ use Rattle.executive.proofs.subprogram_check.with_all.Goals.{Start}
 
 -- the size of the line is that of its type
 sized : (s : Start) → length s.args.s.line ≡ most_tasks
-sized s = sym (length-map s.args.s.line _) ∙ s.well_formed.1.0.1.1.1.0.1.0.1
+sized s = s.well_formed.1.0.1.1.1.0.1.0.1
 
 pub loop-i-init : goal.loop-i-init
 loop-i-init c = (omega arith, refl)

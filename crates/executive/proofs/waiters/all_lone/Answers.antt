@@ -23,7 +23,7 @@ pub returns-then-not-is_lone : goal.returns-then-not-is_lone
 returns-then-not-is_lone c =
     let v = c.loop-i in
     let l = c.well_formed.0.1.0.1 in
-    sym (sym v.invariant.1 ∙ first-not is_lone no_request c.args.pool c.args.queued (omega arith) v.i (omega arith) (sym c.is_lone.ensures ∙ not-true _ c.if-not-is_lone.true))
+    sym (sym v.invariant.1 ∙ first-not is_lone no_request c.args.pool c.args.queued (omega arith) v.i (omega arith) (sym c.is_lone.ensures ∙ c.if-not-is_lone.true))
 
 pub overflow_add-i : goal.overflow_add-i
 overflow_add-i c = omega arith
@@ -35,7 +35,7 @@ pub loop-i-preserved : goal.loop-i-preserved
 loop-i-preserved c =
     let v = c.loop-i in
     let l = c.well_formed.0.1.0.1 in
-    (omega arith, first-turn is_lone no_request c.args.pool c.args.queued (omega arith) v.i (omega arith) (sym c.is_lone.ensures ∙ not-false _ c.if-not-is_lone.false) ∙ v.invariant.1)
+    (omega arith, first-turn is_lone no_request c.args.pool c.args.queued (omega arith) v.i (omega arith) (sym c.is_lone.ensures ∙ c.if-not-is_lone.false) ∙ v.invariant.1)
 
 pub returns : goal.returns
 returns c =

@@ -23,7 +23,7 @@ pub returns-then-not-is_quiet : goal.returns-then-not-is_quiet
 returns-then-not-is_quiet c =
     let v = c.loop-i in
     let l = c.well_formed.0.1.0.1 in
-    sym (sym v.invariant.1 ∙ every-not is_quiet no_task c.args.tasks v.i (omega arith) (sym c.is_quiet.ensures ∙ not-true _ c.if-not-is_quiet.true))
+    sym (sym v.invariant.1 ∙ every-not is_quiet no_task c.args.tasks v.i (omega arith) (sym c.is_quiet.ensures ∙ c.if-not-is_quiet.true))
 
 pub overflow_add-i : goal.overflow_add-i
 overflow_add-i c = omega arith
@@ -35,7 +35,7 @@ pub loop-i-preserved : goal.loop-i-preserved
 loop-i-preserved c =
     let v = c.loop-i in
     let l = c.well_formed.0.1.0.1 in
-    (omega arith, every-turn is_quiet no_task c.args.tasks v.i (omega arith) (sym c.is_quiet.ensures ∙ not-false _ c.if-not-is_quiet.false) ∙ v.invariant.1)
+    (omega arith, every-turn is_quiet no_task c.args.tasks v.i (omega arith) (sym c.is_quiet.ensures ∙ c.if-not-is_quiet.false) ∙ v.invariant.1)
 
 pub returns : goal.returns
 returns c =

@@ -30,10 +30,7 @@ waiters_at-requires c = (c.requires.0, sym (at_next c.args.tasks c.loop-k.k))
 
 pub returns-then-not-waiters_at : goal.returns-then-not-waiters_at
 returns-then-not-waiters_at c =
-    let at-loop-test = (goal.at.returns-then-not-waiters_at c).In-loop-k in
-    let at-loop = at-loop-test.before in
-    let start = at-loop.before in
-    sym (all-not (waiters_at start.args.tasks (take start.args.queued start.args.pool)) start.args.count at-loop.loop.k at-loop-test.loop-test.true (sym c.waiters_at.ensures ∙ not-true _ c.if-not-waiters_at.true))
+    sym (all-not (waiters_at c.args.tasks (take c.args.queued c.args.pool)) c.args.count c.loop-k.k c.loop-k-test.true (sym c.waiters_at.ensures ∙ c.if-not-waiters_at.true))
 
 pub overflow_add-k-in-loop-k : goal.overflow_add-k-in-loop-k
 overflow_add-k-in-loop-k c = omega arith
@@ -43,9 +40,7 @@ loop-k-smaller c = omega arith
 
 pub loop-k-preserved : goal.loop-k-preserved
 loop-k-preserved c =
-    let at-loop = (goal.at.loop-k-preserved c).At-loop-k in
-    let start = at-loop.before in
-    (omega arith, all_more (waiters_at start.args.tasks (take start.args.queued start.args.pool)) at-loop.loop.k at-loop.loop.invariant.1 (sym c.waiters_at.ensures ∙ not-false _ c.if-not-waiters_at.false))
+    (omega arith, all_more (waiters_at c.args.tasks (take c.args.queued c.args.pool)) c.loop-k.k c.loop-k.invariant.1 (sym c.waiters_at.ensures ∙ c.if-not-waiters_at.false))
 
 pub returns : goal.returns
 returns c =

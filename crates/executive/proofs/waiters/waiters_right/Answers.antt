@@ -12,4 +12,4 @@ pub returns-then-not-all_lone : goal.returns-then-not-all_lone
 returns-then-not-all_lone c = c.all_waiters-then-not-all_lone.ensures
 
 pub returns : goal.returns
-returns c = sym (quiet-right c.args.tasks (take c.args.queued c.args.pool) (sym c.all_quiet.ensures ∙ not-false _ c.if-not-all_quiet.false) (sym c.all_lone.ensures ∙ not-false _ c.if-not-all_lone.false) c.args.count)
+returns c = sym (quiet-right c.args.tasks (take c.args.queued c.args.pool) (sym c.all_quiet.ensures ∙ c.if-not-all_quiet.false) (sym c.all_lone.ensures ∙ c.if-not-all_lone.false) c.args.count)

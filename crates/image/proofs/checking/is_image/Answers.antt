@@ -16,7 +16,7 @@ returns-then-not-is_code c =
     let s = c.args.bytes.now in
     let v = c.loop-i in
     not-image s (λ k. omega (arith, c.shared_slice_known-1.given k)) v.i c.loop-i-test.true _ _ _ _ refl c.long_in-time.ensures c.word_in-mask.ensures refl
-    (sym c.is_code.ensures ∙ not-true c.is_code.result c.if-not-is_code.true)
+    (sym c.is_code.ensures ∙ c.if-not-is_code.true)
 
 pub loop-i-preserved : goal.loop-i-preserved
 loop-i-preserved c =
@@ -25,7 +25,7 @@ loop-i-preserved c =
       omega arith,
       below_more _ _ v.invariant.1
           (code_canonical s (λ k. omega (arith, c.shared_slice_known-1.given k)) v.i c.loop-i-test.true _ _ _ _ refl c.long_in-time.ensures c.word_in-mask.ensures refl
-          (sym c.is_code.ensures ∙ not-false c.is_code.result c.if-not-is_code.false)),
+          (sym c.is_code.ensures ∙ c.if-not-is_code.false)),
     )
 
 pub returns : goal.returns

@@ -17,7 +17,7 @@ returns-then-list-gt16 c = λ t l f h d. absurd (omega (arith, f.room, c.if-list
 
 pub loop-i-init : goal.loop-i-init
 loop-i-init c =
-    let k : length c.args.list.places ≡ 16 = sym (length-map c.args.list.places _) ∙ c.well_formed.1.0.1.1.0.1.0.1 in
+    let k : length c.args.list.places ≡ 16 = c.well_formed.1.0.1.1.0.1.0.1 in
     (c.requires, omega arith, omega (arith, c.if-list-gt16.false, k), omega arith, omega arith, λ t l f h d. stage_start _ _ c.args.list.places _ t l f h d)
 
 pub bounds-list-i : goal.bounds-list-i

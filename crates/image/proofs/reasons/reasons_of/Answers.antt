@@ -10,13 +10,13 @@ use Rattle.image.proofs.reasons.reasons_of.Goals as goal
 
 pub returns-then-not-is_image : goal.returns-then-not-is_image
 unfolding reasons_to
-returns-then-not-is_image c = rw (sym c.is_image.ensures ∙ not-true c.is_image.result c.if-not-is_image.true) c.no_table.ensures
+returns-then-not-is_image c = rw (sym c.is_image.ensures ∙ c.if-not-is_image.true) c.no_table.ensures
 
 pub load_whole-table-requires : goal.load_whole-table-requires
-load_whole-table-requires c = omega (arith, (image-parts c.args.image.now (sym c.is_image.ensures ∙ not-false c.is_image.result c.if-not-is_image.false)).0)
+load_whole-table-requires c = omega (arith, (image-parts c.args.image.now (sym c.is_image.ensures ∙ c.if-not-is_image.false)).0)
 
 pub returns : goal.returns
 unfolding reasons_to
 returns c =
-    rw (sym c.is_image.ensures ∙ not-false c.is_image.result c.if-not-is_image.false)
+    rw (sym c.is_image.ensures ∙ c.if-not-is_image.false)
     (c.explain.ensures ∙ ap (λ t. explained t c.args.task) c.load_whole-table.ensures)

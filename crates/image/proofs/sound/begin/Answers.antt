@@ -21,12 +21,12 @@ returns-then-not-in_bounds c =
     let s = c.args.b.now in
     let h : Bytes s = λ k. omega (arith, c.shared_slice_known-1.given k) in
     let t = c.long_in-time in
-    rule-broken s h t.result _ t.ensures refl (λ z. never (sym (sym c.in_bounds.ensures ∙ not-true _ c.if-not-in_bounds.true) ∙ z.bounds))
+    rule-broken s h t.result _ t.ensures refl (λ z. never (sym (sym c.in_bounds.ensures ∙ c.if-not-in_bounds.true) ∙ z.bounds))
 
 pub entries_right-requires : goal.entries_right-requires
 entries_right-requires c =
     let s = c.args.b.now in
-    let n = few s c.long_in-time.result (sym c.in_bounds.ensures ∙ not-false _ c.if-not-in_bounds.false) in
+    let n = few s c.long_in-time.result (sym c.in_bounds.ensures ∙ c.if-not-in_bounds.false) in
     (c.if-b-ne-IMAGE.false, n)
 
 pub returns-then-not-entries_right : goal.returns-then-not-entries_right
@@ -35,13 +35,13 @@ returns-then-not-entries_right c =
     let h : Bytes s = λ k. omega (arith, c.shared_slice_known-1.given k) in
     let t = c.long_in-time in
     let fs = c.word_in-flags in
-    let n = few s c.long_in-time.result (sym c.in_bounds.ensures ∙ not-false _ c.if-not-in_bounds.false) in
-    entries-broken s h t.result fs.result t.ensures fs.ensures c.if-b-ne-IMAGE.false n (sym c.entries_right.ensures ∙ not-true _ c.if-not-entries_right.true)
+    let n = few s c.long_in-time.result (sym c.in_bounds.ensures ∙ c.if-not-in_bounds.false) in
+    entries-broken s h t.result fs.result t.ensures fs.ensures c.if-b-ne-IMAGE.false n (sym c.entries_right.ensures ∙ c.if-not-entries_right.true)
 
 pub blank_past-requires : goal.blank_past-requires
 blank_past-requires c =
     let s = c.args.b.now in
-    let n = few s c.long_in-time.result (sym c.in_bounds.ensures ∙ not-false _ c.if-not-in_bounds.false) in
+    let n = few s c.long_in-time.result (sym c.in_bounds.ensures ∙ c.if-not-in_bounds.false) in
     (c.if-b-ne-IMAGE.false, n)
 
 pub returns-then-not-blank_past : goal.returns-then-not-blank_past
@@ -50,8 +50,8 @@ returns-then-not-blank_past c =
     let h : Bytes s = λ k. omega (arith, c.shared_slice_known-1.given k) in
     let t = c.long_in-time in
     let fs = c.word_in-flags in
-    let n = few s c.long_in-time.result (sym c.in_bounds.ensures ∙ not-false _ c.if-not-in_bounds.false) in
-    blanks-broken s h t.result fs.result t.ensures fs.ensures c.if-b-ne-IMAGE.false n (sym c.blank_past.ensures ∙ not-true _ c.if-not-blank_past.true)
+    let n = few s c.long_in-time.result (sym c.in_bounds.ensures ∙ c.if-not-in_bounds.false) in
+    blanks-broken s h t.result fs.result t.ensures fs.ensures c.if-b-ne-IMAGE.false n (sym c.blank_past.ensures ∙ c.if-not-blank_past.true)
 
 pub returns-then-not-alarms : goal.returns-then-not-alarms
 returns-then-not-alarms c =
@@ -60,7 +60,7 @@ returns-then-not-alarms c =
     let t = c.long_in-time in
     let fs = c.word_in-flags in
     let e = c.all_alarms-alarms.ensures.0 in
-    rule-broken s h t.result fs.result t.ensures fs.ensures (λ z. never (sym (sym e ∙ not-true _ c.if-not-alarms.true) ∙ z.alarms))
+    rule-broken s h t.result fs.result t.ensures fs.ensures (λ z. never (sym (sym e ∙ c.if-not-alarms.true) ∙ z.alarms))
 
 pub kind_sets-sets-requires : goal.kind_sets-sets-requires
 kind_sets-sets-requires c =
@@ -68,8 +68,8 @@ kind_sets-sets-requires c =
     let h : Bytes s = λ k. omega (arith, c.shared_slice_known-1.given k) in
     let t = c.long_in-time in
     let fs = c.word_in-flags in
-    let n = few s c.long_in-time.result (sym c.in_bounds.ensures ∙ not-false _ c.if-not-in_bounds.false) in
-    let es = sym c.entries_right.ensures ∙ not-false _ c.if-not-entries_right.false in
+    let n = few s c.long_in-time.result (sym c.in_bounds.ensures ∙ c.if-not-in_bounds.false) in
+    let es = sym c.entries_right.ensures ∙ c.if-not-entries_right.false in
     (c.if-b-ne-IMAGE.false, n, kinds-known s h t.result fs.result t.ensures fs.ensures c.if-b-ne-IMAGE.false n es)
 
 pub queue_right-requires : goal.queue_right-requires
@@ -84,7 +84,7 @@ returns-then-not-queue_right c =
     let t = c.long_in-time in
     let fs = c.word_in-flags in
     let e = c.queue_right.ensures in
-    rule-broken s h t.result fs.result t.ensures fs.ensures (λ z. never (sym (sym e ∙ not-true _ c.if-not-queue_right.true) ∙ z.queue))
+    rule-broken s h t.result fs.result t.ensures fs.ensures (λ z. never (sym (sym e ∙ c.if-not-queue_right.true) ∙ z.queue))
 
 pub returns : goal.returns
 returns c =
@@ -92,12 +92,12 @@ returns c =
     let h : Bytes s = λ k. omega (arith, c.shared_slice_known-1.given k) in
     let t = c.long_in-time in
     let fs = c.word_in-flags in
-    let n = few s c.long_in-time.result (sym c.in_bounds.ensures ∙ not-false _ c.if-not-in_bounds.false) in
-    let es = sym c.entries_right.ensures ∙ not-false _ c.if-not-entries_right.false in
-    let zs = sym c.blank_past.ensures ∙ not-false _ c.if-not-blank_past.false in
-    let bs = sym c.in_bounds.ensures ∙ not-false _ c.if-not-in_bounds.false in
-    let right = not-false _ c.if-not-alarms.false in
+    let n = few s c.long_in-time.result (sym c.in_bounds.ensures ∙ c.if-not-in_bounds.false) in
+    let es = sym c.entries_right.ensures ∙ c.if-not-entries_right.false in
+    let zs = sym c.blank_past.ensures ∙ c.if-not-blank_past.false in
+    let bs = sym c.in_bounds.ensures ∙ c.if-not-in_bounds.false in
+    let right = c.if-not-alarms.false in
     begun-right s h t.result fs.result t.ensures fs.ensures c.if-b-ne-IMAGE.false n es zs bs
     (sym c.all_alarms-alarms.ensures.0 ∙ right)
-    (sym c.queue_right.ensures ∙ not-false _ c.if-not-queue_right.false)
+    (sym c.queue_right.ensures ∙ c.if-not-queue_right.false)
     c.kind_sets-sets.ensures (c.all_alarms-alarms.ensures.1 right)

@@ -20,7 +20,7 @@ pub returns-then-not-pool_right : goal.returns-then-not-pool_right
 returns-then-not-pool_right c =
     let s = c.args.b.now in
     let p = c.requires in
-    and_false_left _ _ (ap₂ (λ (n k : ℕ). asked_right (load_of s).tasks n k (load_of s).rest.pool) (sym (count-there s)) (sym (queued-there s)) ∙ sym c.pool_right.ensures ∙ not-true _ c.if-not-pool_right.true)
+    and_false_left _ _ (ap₂ (λ (n k : ℕ). asked_right (load_of s).tasks n k (load_of s).rest.pool) (sym (count-there s)) (sym (queued-there s)) ∙ sym c.pool_right.ensures ∙ c.if-not-pool_right.true)
 
 pub subs_right-requires : goal.subs_right-requires
 subs_right-requires c =
@@ -34,7 +34,7 @@ returns-then-not-subs_right c =
     let p = c.requires in
     let a = asked_right (load_of s).tasks (load_of s).rest.count (load_of s).rest.queued (load_of s).rest.pool in
     let h = held_right (load_of s).tasks (load_of s).rest.count (load_of s).rest.subs in
-    and_false_right a _ (and_false_left h _ (ap (λ (n : ℕ). held_right (load_of s).tasks n (load_of s).rest.subs) (sym (count-there s)) ∙ sym c.subs_right.ensures ∙ not-true _ c.if-not-subs_right.true))
+    and_false_right a _ (and_false_left h _ (ap (λ (n : ℕ). held_right (load_of s).tasks n (load_of s).rest.subs) (sym (count-there s)) ∙ sym c.subs_right.ensures ∙ c.if-not-subs_right.true))
 
 pub sent_right-requires : goal.sent_right-requires
 sent_right-requires c =
@@ -49,13 +49,13 @@ returns-then-not-sent_right c =
     let a = asked_right (load_of s).tasks (load_of s).rest.count (load_of s).rest.queued (load_of s).rest.pool in
     let h = held_right (load_of s).tasks (load_of s).rest.count (load_of s).rest.subs in
     let m = sent_right (load_of s).tasks (load_of s).rest.count (load_of s).rest.sent (load_of s).rest.messages in
-    and_false_right a _ (and_false_right h _ (and_false_left m _ (ap₂ (λ (n k : ℕ). sent_right (load_of s).tasks n k (load_of s).rest.messages) (sym (count-there s)) (sym (sent-there s)) ∙ sym c.sent_right.ensures ∙ not-true _ c.if-not-sent_right.true)))
+    and_false_right a _ (and_false_right h _ (and_false_left m _ (ap₂ (λ (n k : ℕ). sent_right (load_of s).tasks n k (load_of s).rest.messages) (sym (count-there s)) (sym (sent-there s)) ∙ sym c.sent_right.ensures ∙ c.if-not-sent_right.true)))
 
 pub returns : goal.returns
 returns c =
     let s = c.args.b.now in
     let p = c.requires in
-    and_true_left _ _ _ (ap₂ (λ (n k : ℕ). asked_right (load_of s).tasks n k (load_of s).rest.pool) (sym (count-there s)) (sym (queued-there s)) ∙ sym c.pool_right.ensures ∙ not-false _ c.if-not-pool_right.false)
-    (and_true_left _ _ _ (ap (λ (n : ℕ). held_right (load_of s).tasks n (load_of s).rest.subs) (sym (count-there s)) ∙ sym c.subs_right.ensures ∙ not-false _ c.if-not-subs_right.false)
-    (and_true_left _ _ _ (ap₂ (λ (n k : ℕ). sent_right (load_of s).tasks n k (load_of s).rest.messages) (sym (count-there s)) (sym (sent-there s)) ∙ sym c.sent_right.ensures ∙ not-false _ c.if-not-sent_right.false)
+    and_true_left _ _ _ (ap₂ (λ (n k : ℕ). asked_right (load_of s).tasks n k (load_of s).rest.pool) (sym (count-there s)) (sym (queued-there s)) ∙ sym c.pool_right.ensures ∙ c.if-not-pool_right.false)
+    (and_true_left _ _ _ (ap (λ (n : ℕ). held_right (load_of s).tasks n (load_of s).rest.subs) (sym (count-there s)) ∙ sym c.subs_right.ensures ∙ c.if-not-subs_right.false)
+    (and_true_left _ _ _ (ap₂ (λ (n k : ℕ). sent_right (load_of s).tasks n k (load_of s).rest.messages) (sym (count-there s)) (sym (sent-there s)) ∙ sym c.sent_right.ensures ∙ c.if-not-sent_right.false)
     (c.mail_right.ensures ∙ ap (λ (n : ℕ). mail_right (load_of s).tasks n (load_of s).rest.mail) (count-there s))))

@@ -39,7 +39,7 @@ pub returns-then-not-is_stored : goal.returns-then-not-is_stored
 returns-then-not-is_stored c =
     let s = c.args.b.now in
     let v = c.loop-i in (
-      sym (sym v.invariant.1 ∙ alarm-wrong s c.args.time.0 v.i c.loop-i-test.true c.eight.result c.eight.ensures v.running v.invariant.2 c.if-eight-ne0.true c.long_in-at.result c.long_in-at.ensures (sym c.is_stored.ensures ∙ not-true _ c.if-not-is_stored.true)),
+      sym (sym v.invariant.1 ∙ alarm-wrong s c.args.time.0 v.i c.loop-i-test.true c.eight.result c.eight.ensures v.running v.invariant.2 c.if-eight-ne0.true c.long_in-at.result c.long_in-at.ensures (sym c.is_stored.ensures ∙ c.if-not-is_stored.true)),
       λ e. false_not_true e,
     )
 

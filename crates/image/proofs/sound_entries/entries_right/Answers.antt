@@ -20,7 +20,7 @@ entry_right-requires c = (c.requires.0, omega (arith, c.requires.1))
 pub returns-then-not-entry_right : goal.returns-then-not-entry_right
 returns-then-not-entry_right c =
     let s = c.args.b.now in
-    sym (below-not (sound_at s c.args.count c.args.time.0 c.args.flags) c.args.count c.loop-i.i c.loop-i-test.true (sym c.entry_right.ensures ∙ not-true _ c.if-not-entry_right.true))
+    sym (below-not (sound_at s c.args.count c.args.time.0 c.args.flags) c.args.count c.loop-i.i c.loop-i-test.true (sym c.entry_right.ensures ∙ c.if-not-entry_right.true))
 
 pub overflow_add-i : goal.overflow_add-i
 overflow_add-i c = omega (arith, c.requires.1)
@@ -31,7 +31,7 @@ loop-i-smaller c = omega arith
 pub loop-i-preserved : goal.loop-i-preserved
 loop-i-preserved c =
     let s = c.args.b.now in
-    (omega arith, below_more (sound_at s c.args.count c.args.time.0 c.args.flags) c.loop-i.i c.loop-i.invariant.1 (sym c.entry_right.ensures ∙ not-false _ c.if-not-entry_right.false))
+    (omega arith, below_more (sound_at s c.args.count c.args.time.0 c.args.flags) c.loop-i.i c.loop-i.invariant.1 (sym c.entry_right.ensures ∙ c.if-not-entry_right.false))
 
 pub returns : goal.returns
 returns c =

@@ -74,7 +74,7 @@ returns-then-not-request_fits c =
     let a = c.args in
     let g = c.requires in
     let v = c.loop-i in
-    (one-wrong a.b.now a.queued a.count g.1 v.i c.loop-i-test.true v.invariant.1 (request_unfit a.b.now a.count (704 + v.i * 6) c.request_in-q.result c.request_in-q.ensures (sym c.request_fits.ensures ∙ not-true _ c.if-not-request_fits.true)), λ e. absurd (never e))
+    (one-wrong a.b.now a.queued a.count g.1 v.i c.loop-i-test.true v.invariant.1 (request_unfit a.b.now a.count (704 + v.i * 6) c.request_in-q.result c.request_in-q.ensures (sym c.request_fits.ensures ∙ c.if-not-request_fits.true)), λ e. absurd (never e))
 
 pub overflow_add-at-then-quad-gt65535 : goal.overflow_add-at-then-quad-gt65535
 overflow_add-at-then-quad-gt65535 c = omega (arith, c.requires.0, c.requires.1, c.loop-i-test.true)

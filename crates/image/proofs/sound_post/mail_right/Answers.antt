@@ -23,7 +23,7 @@ pub returns-then-not-one_mail : goal.returns-then-not-one_mail
 returns-then-not-one_mail c =
     let s = c.args.b.now in
     let v = c.loop-i in
-    sym (all-not (mail_right_at (tasks_in s) c.args.count (mail_in s)) 16 v.i c.loop-i-test.true (sym c.one_mail.ensures ∙ not-true _ c.if-not-one_mail.true))
+    sym (all-not (mail_right_at (tasks_in s) c.args.count (mail_in s)) 16 v.i c.loop-i-test.true (sym c.one_mail.ensures ∙ c.if-not-one_mail.true))
 
 pub overflow_add-i : goal.overflow_add-i
 overflow_add-i c = omega (arith, c.loop-i-test.true)
@@ -35,7 +35,7 @@ pub loop-i-preserved : goal.loop-i-preserved
 loop-i-preserved c =
     let s = c.args.b.now in
     let v = c.loop-i in
-    (omega (arith, c.loop-i-test.true), all_more (mail_right_at (tasks_in s) c.args.count (mail_in s)) v.i v.invariant.1 (sym c.one_mail.ensures ∙ not-false _ c.if-not-one_mail.false))
+    (omega (arith, c.loop-i-test.true), all_more (mail_right_at (tasks_in s) c.args.count (mail_in s)) v.i v.invariant.1 (sym c.one_mail.ensures ∙ c.if-not-one_mail.false))
 
 pub returns : goal.returns
 returns c =

@@ -18,7 +18,7 @@ letters_right-requires c =
     (c.requires.0, c.if-sent-gt32.false, c.requires.1, not-waiting (tasks_in a.b.now) a.count a.receivers c.requires.1 c.requires.2)
 
 pub returns-then-not-letters_right : goal.returns-then-not-letters_right
-returns-then-not-letters_right c = and_true_left _ _ _ (le-leb _ _ c.if-sent-gt32.false) (and_false_left _ _ (sym c.letters_right.ensures ∙ not-true _ c.if-not-letters_right.true))
+returns-then-not-letters_right c = and_true_left _ _ _ (le-leb _ _ c.if-sent-gt32.false) (and_false_left _ _ (sym c.letters_right.ensures ∙ c.if-not-letters_right.true))
 
 pub are_zero-requires : goal.are_zero-requires
 are_zero-requires c = (omega (arith, c.if-sent-gt32.false), omega (arith, c.requires.0), omega arith)
@@ -26,4 +26,4 @@ are_zero-requires c = (omega (arith, c.if-sent-gt32.false), omega (arith, c.requ
 pub returns : goal.returns
 returns c =
     let a = c.args in
-    and_true_left _ _ _ (le-leb _ _ c.if-sent-gt32.false) (and_true_left _ _ _ (sym c.letters_right.ensures ∙ not-false _ c.if-not-letters_right.false) (c.are_zero.ensures ∙ sym (messages-nought a.b.now a.sent c.if-sent-gt32.false)))
+    and_true_left _ _ _ (le-leb _ _ c.if-sent-gt32.false) (and_true_left _ _ _ (sym c.letters_right.ensures ∙ c.if-not-letters_right.false) (c.are_zero.ensures ∙ sym (messages-nought a.b.now a.sent c.if-sent-gt32.false)))

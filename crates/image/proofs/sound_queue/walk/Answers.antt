@@ -22,7 +22,7 @@ returns-then-count-k c =
     let g = c.requires in
     let s = a.b.now in
     let v = c.loop-i in
-    line-off s a.at a.taken a.count g.2 g.3 v.i v.p v.seen v.word v.invariant c.loop-i-test.true c.entry_IsPlace.result c.entry_IsPlace.ensures _ _ c.if-count-k.true
+    line-off s a.at a.taken a.count g.2 g.3 v.i v.p v.seen v.word v.invariant c.loop-i-test.true c.entry_place-k.result c.entry_place-k.ensures _ _ c.if-count-k.true
 
 pub overflow_mul-level : goal.overflow_mul-level
 overflow_mul-level c = omega (arith, c.requires.3)
@@ -39,7 +39,7 @@ returns-then-p-level c =
     let g = c.requires in
     let s = a.b.now in
     let v = c.loop-i in
-    line-over s a.at a.taken a.count g.2 g.3 v.i v.p v.seen v.word v.invariant c.loop-i-test.true c.entry_IsPlace.result c.entry_IsPlace.ensures c.if-count-k.false _ _ c.if-p-level.true
+    line-over s a.at a.taken a.count g.2 g.3 v.i v.p v.seen v.word v.invariant c.loop-i-test.true c.entry_place-k.result c.entry_place-k.ensures c.if-count-k.false _ _ c.if-p-level.true
 
 pub bit_of-bit-requires : goal.bit_of-bit-requires
 bit_of-bit-requires c = omega (arith, c.requires.3, c.if-count-k.false)
@@ -50,7 +50,7 @@ returns-then-seen-bit-ne0 c =
     let g = c.requires in
     let s = a.b.now in
     let v = c.loop-i in
-    line-twice s a.at a.taken a.count g.2 g.3 v.i v.p v.seen v.word v.invariant c.loop-i-test.true c.entry_IsPlace.result c.entry_IsPlace.ensures c.if-count-k.false c.bit_of-bit.result c.bit_of-bit.ensures _ _ c.if-seen-bit-ne0.true
+    line-twice s a.at a.taken a.count g.2 g.3 v.i v.p v.seen v.word v.invariant c.loop-i-test.true c.entry_place-k.result c.entry_place-k.ensures c.if-count-k.false c.bit_of-bit.result c.bit_of-bit.ensures _ _ c.if-seen-bit-ne0.true
 
 pub overflow_add-i : goal.overflow_add-i
 overflow_add-i c = omega (arith, c.requires.2, c.loop-i-test.true)
@@ -64,7 +64,7 @@ loop-i-preserved c =
     let g = c.requires in
     let s = a.b.now in
     let v = c.loop-i in
-    line-turn s a.at a.taken a.count g.2 g.3 v.i v.p v.seen v.word v.invariant c.loop-i-test.true c.entry_IsPlace.result c.entry_IsPlace.ensures c.if-count-k.false c.bit_of-bit.result c.bit_of-bit.ensures c.level_bit-word.result c.level_bit-word.ensures c.if-p-level.false c.if-seen-bit-ne0.false
+    line-turn s a.at a.taken a.count g.2 g.3 v.i v.p v.seen v.word v.invariant c.loop-i-test.true c.entry_place-k.result c.entry_place-k.ensures c.if-count-k.false c.bit_of-bit.result c.bit_of-bit.ensures c.level_bit-word.result c.level_bit-word.ensures c.if-p-level.false c.if-seen-bit-ne0.false
 
 pub returns : goal.returns
 returns c =

@@ -24,7 +24,7 @@ pub holder_right-requires : goal.holder_right-requires
 holder_right-requires c = (c.requires.0, c.requires.1)
 
 pub returns-then-not-holder_right : goal.returns-then-not-holder_right
-returns-then-not-holder_right c = λ m k. held-wrong c.args.b.now c.args.at m c.args.count c.if-count-b.false c.if-b-at-gt16.false (sym c.holder_right.ensures ∙ not-true _ c.if-not-holder_right.true)
+returns-then-not-holder_right c = λ m k. held-wrong c.args.b.now c.args.at m c.args.count c.if-count-b.false c.if-b-at-gt16.false (sym c.holder_right.ensures ∙ c.if-not-holder_right.true)
 
 pub overflow_add-at-2 : goal.overflow_add-at-2
 overflow_add-at-2 c = omega (arith, c.requires.0, c.requires.1)
@@ -39,4 +39,4 @@ pub line_right-requires : goal.line_right-requires
 line_right-requires c = (c.requires.0, omega (arith, c.requires.1), c.if-b-at-gt16.false, c.requires.2)
 
 pub returns : goal.returns
-returns c = λ m k. held-right c.args.b.now c.args.at m c.args.count c.if-count-b.false c.if-b-at-gt16.false (sym c.holder_right.ensures ∙ not-false _ c.if-not-holder_right.false) _ (c.line_right.ensures m k)
+returns c = λ m k. held-right c.args.b.now c.args.at m c.args.count c.if-count-b.false c.if-b-at-gt16.false (sym c.holder_right.ensures ∙ c.if-not-holder_right.false) _ (c.line_right.ensures m k)

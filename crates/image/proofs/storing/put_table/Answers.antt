@@ -34,7 +34,7 @@ pub put_post-requires : goal.put_post-requires
 put_post-requires c = let ss = (goal.at.put_post-requires c).After-put_subs in kept_on ss ∙ (start (goal.at.After-put_subs ss).After-put_all_awaited).requires
 
 pub shape_of-out : goal.shape_of-out
-shape_of-out c = c.Put-post.auto.0 ∙ kept_on (goal.at.shape_of-out c).After-put_subs
+shape_of-out c = c.put_post.auto.out ∙ kept_on (goal.at.shape_of-out c).After-put_subs
 
 pub returns : goal.returns
 returns c =
@@ -49,4 +49,4 @@ returns c =
     aw.put_pair.ensures
     aw.put_all_awaited.ensures
     c.put_subs.ensures
-    c.Put-post.ensures
+    c.put_post.ensures

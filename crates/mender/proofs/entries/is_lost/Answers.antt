@@ -12,10 +12,10 @@ returns-then-awaits_link c = yes _ _ _ (sym c.awaits_link.ensures ∙ c.if-await
 
 pub returns-then-not-is_of : goal.returns-then-not-is_of
 unfolding is_lost
-returns-then-not-is_of c = no _ _ _ (sym c.awaits_link.ensures ∙ c.if-awaits_link.false) (and_false_left _ _ (sym c.is_of.ensures ∙ not-true _ c.if-not-is_of.true))
+returns-then-not-is_of c = no _ _ _ (sym c.awaits_link.ensures ∙ c.if-awaits_link.false) (and_false_left _ _ (sym c.is_of.ensures ∙ c.if-not-is_of.true))
 
 pub returns : goal.returns
 unfolding is_lost
 returns c =
     no _ _ _ (sym c.awaits_link.ensures ∙ c.if-awaits_link.false)
-    (and_true_left _ _ _ (sym c.is_of.ensures ∙ not-false _ c.if-not-is_of.false) (rw (← c.awaited_of-m.ensures) c.is_free.ensures))
+    (and_true_left _ _ _ (sym c.is_of.ensures ∙ c.if-not-is_of.false) (rw (← c.awaited_of-m.ensures) c.is_free.ensures))

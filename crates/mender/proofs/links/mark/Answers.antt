@@ -5,8 +5,8 @@ use Rattle.mender.proofs.links.mark.Goals as goal
 
 pub returns-then-i-gt15 : goal.returns-then-i-gt15
 returns-then-i-gt15 c =
-    sym (mark-no-place c.args.named c.well_formed.0.1.0.1 c.args.w.0 _ c.entry_IsPlace.ensures c.if-i-gt15.true)
+    sym (mark-no-place c.args.named c.well_formed.0.1.0.1 c.args.w.0 _ c.entry_place-i.ensures c.if-i-gt15.true)
 
 pub returns : goal.returns
 returns c =
-    rw c.entry_IsPlace.ensures (sym (mark-place c.args.named c.well_formed.0.1.0.1 c.args.w.0))
+    rw c.entry_place-i.ensures (sym (mark-place c.args.named c.well_formed.0.1.0.1 c.args.w.0))

@@ -19,8 +19,8 @@ use Rattle.mender.proofs.mending.mend.Goals.{Start}
 typed : (s : Start) → Typed s.args.table
 typed s =
     let r = s.args.table.rest in
-    let p : length r.pool ≡ 32 = sym (length-map r.pool _) ∙ s.well_formed.0.1.1.1.1.1.1.0.1.1.1.1.1.1.1.0.1.0.1 in
-    let m : length r.messages ≡ 32 = sym (length-map r.messages _) ∙ s.well_formed.0.1.1.1.1.1.1.0.1.1.1.1.1.1.1.1.1.1.0.1.0.1 in
+    let p : length r.pool ≡ 32 = s.well_formed.0.1.1.1.1.1.1.0.1.1.1.1.1.1.1.0.1.0.1 in
+    let m : length r.messages ≡ 32 = s.well_formed.0.1.1.1.1.1.1.0.1.1.1.1.1.1.1.1.1.1.0.1.0.1 in
     record { granule = omega arith; pool = p; messages = m }
 
 not-formed : (t : Table) → (WellFormed t → ⊥) → is_well_formed t ≡ false
@@ -34,18 +34,18 @@ pub returns-then-not-in_bounds : goal.returns-then-not-in_bounds
 returns-then-not-in_bounds c =
     let s = (goal.at.returns-then-not-in_bounds c).After-in_bounds-arg-1 in
     let t = s.args.table in
-    record { typed = typed s; answer = c.as_given.ensures ∙ sym (refuses t (sym c.in_bounds.ensures ∙ not-true _ c.if-not-in_bounds.true)) }
+    record { typed = typed s; answer = c.as_given.ensures ∙ sym (refuses t (sym c.in_bounds.ensures ∙ c.if-not-in_bounds.true)) }
 
 pub returns-then-check-eq0 : goal.returns-then-check-eq0
 returns-then-check-eq0 c =
     let s = (goal.at.returns-then-check-eq0 c).After-in_bounds-arg-1 in
     let t = s.args.table in
-    record { typed = typed s; answer = c.as_given-then-check-eq0.ensures ∙ sym (stays t (sym c.in_bounds.ensures ∙ not-false _ c.if-not-in_bounds.false) ((decided.iff t).1 (c.check.ensures.right.0 c.if-check-eq0.true))) }
+    record { typed = typed s; answer = c.as_given-then-check-eq0.ensures ∙ sym (stays t (sym c.in_bounds.ensures ∙ c.if-not-in_bounds.false) ((decided.iff t).1 (c.check.ensures.right.0 c.if-check-eq0.true))) }
 
 pub returns : goal.returns
 returns c =
     let s = (goal.at.returns c).After-in_bounds-arg-1 in
     let t = s.args.table in
-    let b = sym c.in_bounds.ensures ∙ not-false _ c.if-not-in_bounds.false in
+    let b = sym c.in_bounds.ensures ∙ c.if-not-in_bounds.false in
     let e = ap (λ (u : Table). answered 0 (rebuilt u) (notes_at t (rebuilt u))) (rounds t (typed s) b 1) in
     record { typed = typed s; answer = c.mended.ensures ∙ sym (mends t b (not-formed t (λ w. c.if-check-eq0.false (c.check.ensures.right.1 w))) ∙ e) }

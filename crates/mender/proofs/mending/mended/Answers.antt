@@ -10,7 +10,7 @@ use Rattle.mender.proofs.mending.mended.Goals as goal
 pub rebuilt-whole-requires : goal.rebuilt-whole-requires
 rebuilt-whole-requires c =
     let t = c.args.table in
-    let l : length t.rest.messages ≡ 32 = sym (length-map t.rest.messages _) ∙ c.well_formed.0.1.1.1.1.1.1.0.1.1.1.1.1.1.1.1.1.1.0.1.0.1 in
+    let l : length t.rest.messages ≡ 32 = c.well_formed.0.1.1.1.1.1.1.0.1.1.1.1.1.1.1.1.1.1.0.1.0.1 in
     omega (arith, ap (λ (u : Table). u.rest.sent) c.round-settled.ensures, few-sent c.own_rules-broken.result t l)
 
 pub returns : goal.returns

@@ -9,7 +9,7 @@ use Rattle.scan.proofs.Moving.{enters-turn, enters-end}
 use Rattle.scan.proofs.Work.enter_all.Goals as goal
 
 pub loop-i-init : goal.loop-i-init
-loop-i-init c = (omega (arith, c.requires.1), omega arith, c.requires.0, sym (length-map c.args.list.places _) ∙ c.well_formed.1.0.1.1.0.1.0.1, refl)
+loop-i-init c = (omega (arith, c.requires.1), omega arith, c.requires.0, c.well_formed.1.0.1.1.0.1.0.1, refl)
 
 pub offset_bounds-entrants-i : goal.offset_bounds-entrants-i
 offset_bounds-entrants-i c = omega (arith, c.loop-i.invariant.2)

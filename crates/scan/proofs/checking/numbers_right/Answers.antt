@@ -27,7 +27,7 @@ pub returns-then-not-arrival_right : goal.returns-then-not-arrival_right
 returns-then-not-arrival_right c =
     let v = c.loop-i in
     let l = c.well_formed.0.1.0.1 in
-    and_none (leb c.args.last most_arrivals) (all_of (arrival_right c.args.last c.args.all) c.args.all) (sym v.invariant.1 ∙ every-not (arrival_right c.args.last c.args.all) no_entry c.args.all v.i (omega arith) (sym c.arrival_right.ensures ∙ not-true _ c.if-not-arrival_right.true))
+    and_none (leb c.args.last most_arrivals) (all_of (arrival_right c.args.last c.args.all) c.args.all) (sym v.invariant.1 ∙ every-not (arrival_right c.args.last c.args.all) no_entry c.args.all v.i (omega arith) (sym c.arrival_right.ensures ∙ c.if-not-arrival_right.true))
 
 pub overflow_add-i : goal.overflow_add-i
 overflow_add-i c = omega arith
@@ -39,7 +39,7 @@ pub loop-i-preserved : goal.loop-i-preserved
 loop-i-preserved c =
     let v = c.loop-i in
     let l = c.well_formed.0.1.0.1 in
-    (omega arith, every-turn (arrival_right c.args.last c.args.all) no_entry c.args.all v.i (omega arith) (sym c.arrival_right.ensures ∙ not-false _ c.if-not-arrival_right.false) ∙ v.invariant.1)
+    (omega arith, every-turn (arrival_right c.args.last c.args.all) no_entry c.args.all v.i (omega arith) (sym c.arrival_right.ensures ∙ c.if-not-arrival_right.false) ∙ v.invariant.1)
 
 pub returns : goal.returns
 returns c =

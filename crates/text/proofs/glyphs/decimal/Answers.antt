@@ -14,17 +14,17 @@ returns-then-not-has_room c =
     let s = c.args in
     puts_none s.out.now s.at (decimal_of s.n)
     (leb-false (s.at + length (decimal_of s.n)) (length s.out.now)
-    (ap (λ k. leb (s.at + k) (length s.out.now)) (sym c.digit_count-count.ensures) ∙ sym c.has_room.ensures ∙ not-true c.has_room.result c.if-not-has_room.true))
+    (ap (λ k. leb (s.at + k) (length s.out.now)) (sym c.digit_count-count.ensures) ∙ sym c.has_room.ensures ∙ c.if-not-has_room.true))
 
 pub digits-requires : goal.digits-requires
 digits-requires c =
     let s = c.args in
     leb-true (s.at + length (decimal_of s.n)) (length s.out.now)
-    (ap (λ k. leb (s.at + k) (length s.out.now)) (sym c.digit_count-count.ensures) ∙ sym c.has_room.ensures ∙ not-false c.has_room.result c.if-not-has_room.false)
+    (ap (λ k. leb (s.at + k) (length s.out.now)) (sym c.digit_count-count.ensures) ∙ sym c.has_room.ensures ∙ c.if-not-has_room.false)
 
 pub returns : goal.returns
 returns c =
     adds-puts c.args.out.now c.args.at (decimal_of c.args.n)
     (leb-true (c.args.at + length (decimal_of c.args.n)) (length c.args.out.now)
-    (ap (λ k. leb (c.args.at + k) (length c.args.out.now)) (sym c.digit_count-count.ensures) ∙ sym c.has_room.ensures ∙ not-false c.has_room.result c.if-not-has_room.false))
+    (ap (λ k. leb (c.args.at + k) (length c.args.out.now)) (sym c.digit_count-count.ensures) ∙ sym c.has_room.ensures ∙ c.if-not-has_room.false))
     c.digits.ensures

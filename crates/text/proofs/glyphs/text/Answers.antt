@@ -14,12 +14,12 @@ use Rattle.text.proofs.glyphs.text.Goals as goal
 pub returns-then-not-has_room : goal.returns-then-not-has_room
 returns-then-not-has_room c =
     let s = c.args in
-    puts_none s.out.now s.at s.bytes.now (leb-false _ _ (sym c.has_room.ensures ∙ not-true c.has_room.result c.if-not-has_room.true))
+    puts_none s.out.now s.at s.bytes.now (leb-false _ _ (sym c.has_room.ensures ∙ c.if-not-has_room.true))
 
 pub loop-i-init : goal.loop-i-init
 loop-i-init c =
     let s = c.args in
-    (omega arith, leb-true _ _ (sym c.has_room.ensures ∙ not-false c.has_room.result c.if-not-has_room.false), nothing s.out.now s.at)
+    (omega arith, leb-true _ _ (sym c.has_room.ensures ∙ c.if-not-has_room.false), nothing s.out.now s.at)
 
 pub loop-i-preserved : goal.loop-i-preserved
 loop-i-preserved c =

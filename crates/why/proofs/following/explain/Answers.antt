@@ -8,51 +8,30 @@ use Rattle.why.proofs.following.explain.Goals as goal
 
 pub returns-then-check-ne0 : goal.returns-then-check-ne0
 returns-then-check-ne0 c =
-    let at-if1 = (goal.at.returns-then-check-ne0 c).Then-check-ne0 in
-    let at-check = at-if1.before in
-    let start = at-check.before in
-    let a = start.args in
-    c.none.ensures ∙ sym (answer-one a.table a.task (ill-by a.table at-check.check.result at-check.check.ensures at-if1.if1.true))
+    let a = c.args in
+    c.none.ensures ∙ sym (answer-one a.table a.task (ill-by a.table c.check.result c.check.ensures c.if-check-ne0.true))
 
 pub returns-then-task-eq0 : goal.returns-then-task-eq0
 returns-then-task-eq0 c =
-    let at-if2 = (goal.at.returns-then-task-eq0 c).Then-task-eq0 in
-    let at-if1 = at-if2.before.before in
-    let at-check = at-if1.before in
-    let start = at-check.before in
-    let a = start.args in
-    let w = formed-by a.table at-check.check.result at-check.check.ensures (omega (arith, at-if1.if1.false)) in
-    c.none-then-task-eq0.ensures ∙ sym (answer-nobody a.table a.task w at-if2.if2.true)
+    let a = c.args in
+    let w = formed-by a.table c.check.result c.check.ensures (omega (arith, c.if-check-ne0.false)) in
+    c.none-then-task-eq0.ensures ∙ sym (answer-nobody a.table a.task w c.if-task-eq0.true)
 
 pub returns-then-table-task : goal.returns-then-table-task
 returns-then-table-task c =
-    let at-if3 = (goal.at.returns-then-table-task c).Then-table-task in
-    let at-if2 = at-if3.before.before.before in
-    let at-if1 = at-if2.before.before in
-    let at-check = at-if1.before in
-    let start = at-check.before in
-    let a = start.args in
-    let w = formed-by a.table at-check.check.result at-check.check.ensures (omega (arith, at-if1.if1.false)) in
-    c.none-then-table-task.ensures ∙ sym (answer-over a.table a.task w at-if2.if2.false at-if3.if3.true)
+    let a = c.args in
+    let w = formed-by a.table c.check.result c.check.ensures (omega (arith, c.if-check-ne0.false)) in
+    c.none-then-table-task.ensures ∙ sym (answer-over a.table a.task w c.if-task-eq0.false c.if-table-task.true)
 
 pub follow_task-requires : goal.follow_task-requires
 follow_task-requires c =
-    let at-if1 = (goal.at.follow_task-requires c).Else-check-ne0 in
-    let at-check = at-if1.before in
-    let start = at-check.before in
-    let a = start.args in
-    let w = formed-by a.table at-check.check.result at-check.check.ensures (omega (arith, at-if1.if1.false)) in
+    let a = c.args in
+    let w = formed-by a.table c.check.result c.check.ensures (omega (arith, c.if-check-ne0.false)) in
     (sized a.table w, omega (arith, ap (λ x. x.length) c.none-start.ensures))
 
 pub returns : goal.returns
 returns c =
-    let at-none4 = (goal.at.returns c).After-none-start in
-    let at-if3 = at-none4.before in
-    let at-if2 = at-if3.before.before.before in
-    let at-if1 = at-if2.before.before in
-    let at-check = at-if1.before in
-    let start = at-check.before in
-    let a = start.args in
-    let w = formed-by a.table at-check.check.result at-check.check.ensures (omega (arith, at-if1.if1.false)) in
-    c.follow_task.ensures ∙ ap (λ p. task_path (unmet p) a.table a.task p) at-none4.none4.ensures
-    ∙ sym (answer_path a.table a.task w (omega (arith, at-if2.if2.false)) (omega (arith, at-if3.if3.false)))
+    let a = c.args in
+    let w = formed-by a.table c.check.result c.check.ensures (omega (arith, c.if-check-ne0.false)) in
+    c.follow_task.ensures ∙ ap (λ p. task_path (unmet p) a.table a.task p) c.none-start.ensures
+    ∙ sym (answer_path a.table a.task w (omega (arith, c.if-task-eq0.false)) (omega (arith, c.if-table-task.false)))

@@ -8,9 +8,7 @@ use Rattle.why.proofs.telling.bit.Goals as goal
 
 pub returns-then-left-eq1 : goal.returns-then-left-eq1
 returns-then-left-eq1 c =
-    let at-worded = (goal.at.returns-then-left-eq1 c).After-worded in
-    let at-if1 = at-worded.before.before.before in
-    rw (eq-eqb _ _ at-if1.if1.true) at-worded.worded.ensures
+    rw (eq-eqb _ _ c.if-left-eq1.true) c.worded.ensures
 
 pub returns : goal.returns
 returns c =

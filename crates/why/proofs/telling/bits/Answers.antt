@@ -17,29 +17,21 @@ loop-n-init c =
 
 pub bit-place-requires : goal.bit-place-requires
 bit-place-requires c =
-    let at-loop = (goal.at.bit-place-requires c).At-loop-n in
-    let start = at-loop.before.before in
-    let l = at-loop.loop in
-    omega (arith, l.invariant.3, l.invariant.2.size, start.requires)
+    let l = c.loop-n in
+    omega (arith, l.invariant.3, l.invariant.2.size, c.requires)
 
 pub loop-n-preserved : goal.loop-n-preserved
 loop-n-preserved c =
-    let at-bit = (goal.at.loop-n-preserved c).After-bit-place in
-    let at-loop = at-bit.before.before.before in
-    let start = at-loop.before.before in
-    let l = at-loop.loop in
-    let a = start.args in
-    (omega arith, left-next a.x l.n l.left l.invariant.1, named (bits-more a.x l.n l.left l.invariant.1) (then l.invariant.2 at-bit.bit.ensures.0), omega (arith, l.invariant.3, at-bit.bit.ensures.1))
+    let l = c.loop-n in
+    let a = c.args in
+    (omega arith, left-next a.x l.n l.left l.invariant.1, named (bits-more a.x l.n l.left l.invariant.1) (then l.invariant.2 c.bit-place.ensures.0), omega (arith, l.invariant.3, c.bit-place.ensures.1))
 
 pub shape_of-out : goal.shape_of-out
 shape_of-out c =
-    let at-loop = (goal.at.shape_of-out c).At-loop-n in
-    at-loop.loop.invariant.2.size
+    c.loop-n.invariant.2.size
 
 pub returns : goal.returns
 returns c =
-    let at-loop = (goal.at.returns c).At-loop-n in
-    let start = at-loop.before.before in
-    let l = at-loop.loop in
+    let l = c.loop-n in
     let e : l.n ≡ 32 = omega (arith, l.invariant.0, c.loop-n-test.false) in
-    (named (ap (bits_of start.args.x) e) l.invariant.2, omega (arith, l.invariant.3, e))
+    (named (ap (bits_of c.args.x) e) l.invariant.2, omega (arith, l.invariant.3, e))

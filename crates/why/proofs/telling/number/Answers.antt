@@ -7,8 +7,6 @@ use Rattle.why.proofs.telling.number.Goals as goal
 
 pub returns : goal.returns
 returns c =
-    let at-decimal = (goal.at.returns c).After-decimal in
-    let start = at-decimal.before.before.before in
-    let l = promises.digits 19 start.args.n (omega (arith, start.ranges)) in
-    let p = put_last at-decimal.decimal.ensures (omega (arith, l, start.requires)) in
+    let l = promises.digits 19 c.args.n (omega (arith, c.ranges)) in
+    let p = put_last c.decimal.ensures (omega (arith, l, c.requires)) in
     (p, omega (arith, l, p.place))

@@ -9,11 +9,7 @@ use Rattle.why.proofs.telling.step_line.Goals as goal
 pub returns : goal.returns
 unfolding step_line
 returns c =
-    let at-put = (goal.at.returns c).After-put in
-    let at-cause-text = at-put.before.before.before.before in
-    let at-worded = at-cause-text.before.before.before.before in
-    let start = at-worded.before.before.before.before.before.before in
-    let w = at-worded.worded.ensures in
-    let d = at-cause-text.cause-text.ensures in
-    let p = put_last at-put.put.ensures (omega (arith, w.1, w.0.size, d.1, d.0.size, start.requires)) in
+    let w = c.worded-a.ensures in
+    let d = c.cause_text-b.ensures in
+    let p = put_last c.put.ensures (omega (arith, w.1, w.0.size, d.1, d.0.size, c.requires)) in
     (then w.0 (then d.0 p), omega (arith, w.1, d.1, p.place))

@@ -17,36 +17,26 @@ loop-i-init c =
 
 pub step_line-place-requires : goal.step_line-place-requires
 step_line-place-requires c =
-    let at-loop-test = (goal.at.step_line-place-requires c).In-loop-i in
-    let at-loop = at-loop-test.before in
-    let start = at-loop.before.before in
-    let l = at-loop.loop in
-    omega (arith, l.invariant.0, l.invariant.1.size, l.invariant.2, at-loop-test.loop-test.true, start.requires.0, start.requires.1)
+    let l = c.loop-i in
+    omega (arith, l.invariant.0, l.invariant.1.size, l.invariant.2, c.loop-i-test.true, c.requires.0, c.requires.1)
 
 pub loop-i-preserved : goal.loop-i-preserved
 loop-i-preserved c =
-    let at-step-line = (goal.at.loop-i-preserved c).After-step_line-place in
-    let at-loop-test = at-step-line.before.before.before in
-    let at-loop = at-loop-test.before in
-    let start = at-loop.before.before in
-    let l = at-loop.loop in
-    let s = start in
-    let a = s.args in
-    let len : length a.steps ≡ 16 = s.well_formed.1.1.0.1.0.1 in
-    let h : l.i < length a.steps = omega (arith, at-loop-test.loop-test.true, s.requires.1) in
-    (omega arith, named (lines_more a.steps l.i h) (then l.invariant.1 at-step-line.step_line.ensures.0), omega (arith, l.invariant.2, at-step-line.step_line.ensures.1))
+    let start = (goal.at.loop-i-preserved c).Start in
+    let l = c.loop-i in
+    let a = start.args in
+    let len : length a.steps ≡ 16 = start.well_formed.1.1.0.1.0.1 in
+    let h : l.i < length a.steps = omega (arith, c.loop-i-test.true, start.requires.1) in
+    (omega arith, named (lines_more a.steps l.i h) (then l.invariant.1 c.step_line-place.ensures.0), omega (arith, l.invariant.2, c.step_line-place.ensures.1))
 
 pub shape_of-out : goal.shape_of-out
 shape_of-out c =
-    let at-loop = (goal.at.shape_of-out c).At-loop-i in
-    at-loop.loop.invariant.1.size
+    c.loop-i.invariant.1.size
 
 pub returns : goal.returns
 returns c =
-    let at-loop = (goal.at.returns c).At-loop-i in
-    let start = at-loop.before.before in
-    let l = at-loop.loop in
-    let s = start in
-    let a = s.args in
+    let start = (goal.at.returns c).Start in
+    let l = c.loop-i in
+    let a = start.args in
     let e : l.i ≡ a.count = omega (arith, l.invariant.0, c.loop-i-test.false) in
-    (named (ap (λ n. step_lines (take n a.steps)) e) l.invariant.1, omega (arith, l.invariant.2, e, s.requires.1))
+    (named (ap (λ n. step_lines (take n a.steps)) e) l.invariant.1, omega (arith, l.invariant.2, e, start.requires.1))

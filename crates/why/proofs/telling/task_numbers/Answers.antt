@@ -24,11 +24,8 @@ loop-holds c =
 
 pub worded-place-requires : goal.worded-place-requires
 worded-place-requires c =
-    let at-loop-test = (goal.at.worded-place-requires c).After-s-1 in
-    let at-loop = at-loop-test.before in
-    let start = at-loop.before.before in
-    let l = at-loop.loop in
-    (omega (arith, l.invariant.0, l.invariant.1.size, l.invariant.2, at-loop-test.loop-test.true, start.requires.0, start.requires.1, start.requires.2), omega arith)
+    let l = c.loop-i in
+    (omega (arith, l.invariant.0, l.invariant.1.size, l.invariant.2, c.loop-i-test.true, c.requires.0, c.requires.1, c.requires.2), omega arith)
 
 loop-again : tie.Need-loop-preserved
 loop-again c =
@@ -53,19 +50,16 @@ loop-again c =
 
 pub shape_of-out : goal.shape_of-out
 shape_of-out c =
-    let at-loop = (goal.at.shape_of-out c).At-loop-i in
-    at-loop.loop.invariant.1.size
+    c.loop-i.invariant.1.size
 
 pub returns : goal.returns
 returns c =
-    let at-loop = (goal.at.returns c).At-loop-i in
-    let start = at-loop.before.before in
-    let l = at-loop.loop in
-    let s = start in
-    let a = s.args in
-    let len : length a.steps ≡ 16 = s.well_formed.1.1.0.1.0.1 in
+    let start = (goal.at.returns c).Start in
+    let l = c.loop-i in
+    let a = start.args in
+    let len : length a.steps ≡ 16 = start.well_formed.1.1.0.1.0.1 in
     let xs = take a.count a.steps in
     let ys = drop a.from xs in
-    let lx : length xs ≡ a.count = length-take-le a.count a.steps (omega (arith, s.requires.2)) in
+    let lx : length xs ≡ a.count = length-take-le a.count a.steps (omega (arith, start.requires.2)) in
     let ly : length ys ≡ a.count - a.from = length-drop a.from xs ∙ ap (λ n. n - a.from) lx in
-    (named (ap task_numbers (take_all l.i ys (omega (arith, c.loop-i-test.false, ly)))) l.invariant.1, omega (arith, l.invariant.0, l.invariant.2, s.requires.1, s.requires.2))
+    (named (ap task_numbers (take_all l.i ys (omega (arith, c.loop-i-test.false, ly)))) l.invariant.1, omega (arith, l.invariant.0, l.invariant.2, start.requires.1, start.requires.2))

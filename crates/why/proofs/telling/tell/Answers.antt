@@ -14,7 +14,5 @@ slice_bounds-text-end c =
 
 pub returns : goal.returns
 returns c =
-    let at-text = (goal.at.returns c).After-text in
-    let at_told = at-text.before.before.before.before in
-    let t = at_told.told.ensures.0 in
-    rw t.text at at-text.text.ensures
+    let t = c.told-n.ensures.0 in
+    rw t.text at c.text.ensures
