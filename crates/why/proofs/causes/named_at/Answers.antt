@@ -18,7 +18,7 @@ loop-i-init c =
     let a = c.args in
     let l = c.well_formed.0.1.0.1 in
     let len : length (take a.queued a.pool) ≡ a.queued = length-take-le a.queued a.pool (omega arith) in
-    look-start (λ (r : Request). eqb a.k.0 (waiter_of a.at-start r)) no_request (take a.queued a.pool) 1
+    look-start (λ (r : Request). eqb a.k.0 (waiter_of a.at_start r)) no_request (take a.queued a.pool) 1
 
 pub returns-then-k-w : goal.returns-then-k-w
 unfolding named_at
@@ -27,7 +27,7 @@ returns-then-k-w c =
     let l = c.well_formed.0.1.0.1 in
     let v = c.loop-i in
     let len : length (take a.queued a.pool) ≡ a.queued = length-take-le a.queued a.pool (omega arith) in
-    look_hit (λ (r : Request). eqb a.k.0 (waiter_of a.at-start r)) no_request (take a.queued a.pool) 1 v.i _ (omega arith) (omega arith) v.invariant (ap (λ (r : Request). eqb a.k.0 (waiter_of a.at-start r)) (get_or-take a.queued a.pool v.i no_request (omega arith)) ∙ ap (eqb a.k.0) (sym c.waiter_of-w.ensures) ∙ eq-eqb _ _ c.if-k-w.true)
+    look_hit (λ (r : Request). eqb a.k.0 (waiter_of a.at_start r)) no_request (take a.queued a.pool) 1 v.i _ (omega arith) (omega arith) v.invariant (ap (λ (r : Request). eqb a.k.0 (waiter_of a.at_start r)) (get_or-take a.queued a.pool v.i no_request (omega arith)) ∙ ap (eqb a.k.0) (sym c.waiter_of-w.ensures) ∙ eq-eqb _ _ c.if-k-w.true)
 
 pub loop-i-preserved : goal.loop-i-preserved
 loop-i-preserved c =
@@ -35,7 +35,7 @@ loop-i-preserved c =
     let l = c.well_formed.0.1.0.1 in
     let v = c.loop-i in
     let len : length (take a.queued a.pool) ≡ a.queued = length-take-le a.queued a.pool (omega arith) in
-    look-on (λ (r : Request). eqb a.k.0 (waiter_of a.at-start r)) no_request (take a.queued a.pool) 1 v.i (omega arith) v.invariant (ap (λ (r : Request). eqb a.k.0 (waiter_of a.at-start r)) (get_or-take a.queued a.pool v.i no_request (omega arith)) ∙ ap (eqb a.k.0) (sym c.waiter_of-w.ensures) ∙ ne_eqb _ _ c.if-k-w.false)
+    look-on (λ (r : Request). eqb a.k.0 (waiter_of a.at_start r)) no_request (take a.queued a.pool) 1 v.i (omega arith) v.invariant (ap (λ (r : Request). eqb a.k.0 (waiter_of a.at_start r)) (get_or-take a.queued a.pool v.i no_request (omega arith)) ∙ ap (eqb a.k.0) (sym c.waiter_of-w.ensures) ∙ ne_eqb _ _ c.if-k-w.false)
 
 pub overflow_add-result-2 : goal.overflow_add-result-2
 overflow_add-result-2 c =
@@ -52,4 +52,4 @@ returns c =
     let l = c.well_formed.0.1.0.1 in
     let v = c.loop-i in
     let len : length (take a.queued a.pool) ≡ a.queued = length-take-le a.queued a.pool (omega arith) in
-    look-over (λ (r : Request). eqb a.k.0 (waiter_of a.at-start r)) no_request (take a.queued a.pool) 1 v.i _ (omega arith) (omega arith) v.invariant
+    look-over (λ (r : Request). eqb a.k.0 (waiter_of a.at_start r)) no_request (take a.queued a.pool) 1 v.i _ (omega arith) (omega arith) v.invariant

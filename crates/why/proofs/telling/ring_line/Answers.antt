@@ -12,11 +12,10 @@ use Rattle.why.proofs.telling.ring_line.Goals as goal
 
 pub returns-then-count-from : goal.returns-then-count-from
 returns-then-count-from c =
-    let start = (goal.at.returns-then-count-from c).Start in
-    let a = start.args in
-    let len : length a.steps ≡ 16 = start.well_formed.1.1.0.1.0.1 in
+    let a = c.args in
+    let len : length a.steps ≡ 16 = c.well_formed.1.1.0.1.0.1 in
     let xs = take a.count a.steps in
-    let lx : length xs ≡ a.count = length-take-le a.count a.steps (omega (arith, start.requires.1)) in
+    let lx : length xs ≡ a.count = length-take-le a.count a.steps (omega (arith, c.requires.1)) in
     let e = ring-none (drop a.from xs) (omega (arith, length-drop a.from xs, lx, c.if-count-from.true)) in
     (named e (nothing a.out.now a.at), omega arith)
 
@@ -27,13 +26,12 @@ task_numbers-b-requires c =
 
 pub returns : goal.returns
 returns c =
-    let start = (goal.at.returns c).After-slice_known-1 in
-    let a = start.args in
-    let len : length a.steps ≡ 16 = start.well_formed.1.1.0.1.0.1 in
+    let a = c.args in
+    let len : length a.steps ≡ 16 = c.well_formed.1.1.0.1.0.1 in
     let xs = take a.count a.steps in
-    let lx : length xs ≡ a.count = length-take-le a.count a.steps (omega (arith, start.requires.1)) in
+    let lx : length xs ≡ a.count = length-take-le a.count a.steps (omega (arith, c.requires.1)) in
     let e = ring-some (drop a.from xs) (omega (arith, length-drop a.from xs, lx, c.if-count-from.false)) in
-    let p = put_last c.text-a.ensures (omega (arith, start.requires.0)) in
+    let p = put_last c.text-a.ensures (omega (arith, c.requires.0)) in
     let t = c.task_numbers-b.ensures in
-    let q = put_last c.put.ensures (omega (arith, p.place, p.size, t.1, t.0.size, start.requires.0)) in
+    let q = put_last c.put.ensures (omega (arith, p.place, p.size, t.1, t.0.size, c.requires.0)) in
     (named e (then p (then t.0 q)), omega (arith, p.place, t.1, q.place))

@@ -22,11 +22,10 @@ step_line-place-requires c =
 
 pub loop-i-preserved : goal.loop-i-preserved
 loop-i-preserved c =
-    let start = (goal.at.loop-i-preserved c).Start in
     let l = c.loop-i in
-    let a = start.args in
-    let len : length a.steps ≡ 16 = start.well_formed.1.1.0.1.0.1 in
-    let h : l.i < length a.steps = omega (arith, c.loop-i-test.true, start.requires.1) in
+    let a = c.args in
+    let len : length a.steps ≡ 16 = c.well_formed.1.1.0.1.0.1 in
+    let h : l.i < length a.steps = omega (arith, c.loop-i-test.true, c.requires.1) in
     (omega arith, named (lines_more a.steps l.i h) (then l.invariant.1 c.step_line-place.ensures.0), omega (arith, l.invariant.2, c.step_line-place.ensures.1))
 
 pub shape_of-out : goal.shape_of-out
@@ -35,8 +34,7 @@ shape_of-out c =
 
 pub returns : goal.returns
 returns c =
-    let start = (goal.at.returns c).Start in
     let l = c.loop-i in
-    let a = start.args in
+    let a = c.args in
     let e : l.i ≡ a.count = omega (arith, l.invariant.0, c.loop-i-test.false) in
-    (named (ap (λ n. step_lines (take n a.steps)) e) l.invariant.1, omega (arith, l.invariant.2, e, start.requires.1))
+    (named (ap (λ n. step_lines (take n a.steps)) e) l.invariant.1, omega (arith, l.invariant.2, e, c.requires.1))

@@ -17,7 +17,7 @@ use Rattle.why.proofs.Told.{numbers-none, numbers_more}
 use Rattle.why.proofs.telling.task_numbers.Given as goal
 
 abbrev pub invariant-loop-i : goal.invariant-loop-i
-invariant-loop-i l = (i ≤ l.count - l.from) × Adds l.initial.out l.at l.place l.i (task_numbers (take i (drop l.from (take l.count l.steps)))) × (l.i ≤ l.at + 52 * i)
+invariant-loop-i l = (l.i ≤ l.count - l.from) × Adds l.initial.out l.at l.out l.place (task_numbers (take l.i (drop l.from (take l.count l.steps)))) × (l.place ≤ l.at + 52 * l.i)
 
 abbrev pub decreases-loop-i : goal.decreases-loop-i
-decreases-loop-i l = l.count - l.from - i
+decreases-loop-i l = l.count - l.from - l.i

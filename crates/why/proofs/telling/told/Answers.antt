@@ -13,8 +13,7 @@ returns-then-reasons-ne0 c =
 
 pub returns : goal.returns
 returns c =
-    let start = (goal.at.returns c).After-struct_known-1 in
-    let a = start.args in
+    let a = c.args in
     let e = text_path a.reasons a.clock c.at_most-count.result c.at_most-count.ensures.0 c.if-reasons-ne0.false in
     let r = c.ring_line.ensures in
     let q = rw c.ring_start-from.ensures at r.0 in
