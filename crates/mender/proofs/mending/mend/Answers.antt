@@ -1,9 +1,8 @@
 use mathlib.Core.Path.{◌≡◌, refl, sym, ap, ◌∙◌}
 use mathlib.Core.Bool.{Bool, true, false}
 use native.Mathlib.Omega.{arith}
-use lib.ListN.{length, length-map}
+use lib.ListN.{length}
 use borrow.Author.Rules.{rules}
-use borrow.Author.Tests.{not-true, not-false}
 use Rattle.executive.specs.declared.Table.{Table}
 use Rattle.executive.specs.WellFormed.{WellFormed}
 use Rattle.executive.specs.Check.{is_well_formed}
@@ -32,19 +31,19 @@ not-formed t w = go (is_well_formed t) refl
 
 pub returns-then-not-in_bounds : goal.returns-then-not-in_bounds
 returns-then-not-in_bounds c =
-    let s = (goal.at.returns-then-not-in_bounds c).After-in_bounds-arg-1 in
+    let s = (goal.at.returns-then-not-in_bounds c).Start in
     let t = s.args.table in
     record { typed = typed s; answer = c.as_given.ensures ∙ sym (refuses t (sym c.in_bounds.ensures ∙ c.if-not-in_bounds.true)) }
 
 pub returns-then-check-eq0 : goal.returns-then-check-eq0
 returns-then-check-eq0 c =
-    let s = (goal.at.returns-then-check-eq0 c).After-in_bounds-arg-1 in
+    let s = (goal.at.returns-then-check-eq0 c).Start in
     let t = s.args.table in
     record { typed = typed s; answer = c.as_given-then-check-eq0.ensures ∙ sym (stays t (sym c.in_bounds.ensures ∙ c.if-not-in_bounds.false) ((decided.iff t).1 (c.check.ensures.right.0 c.if-check-eq0.true))) }
 
 pub returns : goal.returns
 returns c =
-    let s = (goal.at.returns c).After-in_bounds-arg-1 in
+    let s = (goal.at.returns c).Start in
     let t = s.args.table in
     let b = sym c.in_bounds.ensures ∙ c.if-not-in_bounds.false in
     let e = ap (λ (u : Table). answered 0 (rebuilt u) (notes_at t (rebuilt u))) (rounds t (typed s) b 1) in

@@ -1,11 +1,11 @@
 use mathlib.Core.Path.{refl, sym, ◌∙◌}
-use mathlib.Core.Logic.{⊎_elim}
 use borrow.Author.Rules.{rules}
 use Rattle.executive.specs.Check.{is_blank}
 use Rattle.executive.proofs.Assured.{true_and, and_false_left, and_false_right}
 use Rattle.mender.specs.Rules.{past_broken}
 use Rattle.mender.proofs.CodeTests.{yes, no}
 use Rattle.mender.proofs.rules.past_broken.Goals as goal
+use Rattle.mender.proofs.rules.past_broken.Goals.{else-is_blank-via-then-is_blank+else-is_no_mail, else-is_blank-via-else-is_blank}
 
 pub returns-then-is_no_mail : goal.returns-then-is_no_mail
 unfolding past_broken
@@ -14,7 +14,9 @@ returns-then-is_no_mail c = yes _ _ _ (true_and _ _ (sym c.is_blank.ensures ∙ 
 pub returns : goal.returns
 unfolding past_broken
 returns c =
-    ⊎_elim
-    (λ w. no _ _ _ (sym (and_false_right (is_blank c.args.e) _ (sym (sym w.1.ensures ∙ w.2.left)))) refl)
-    (λ w. no _ _ _ (sym (and_false_left _ _ (sym c.is_blank.ensures ∙ w.left))) refl)
-    c.if-is_blank.branch
+    elim c.else-is_blank.branch [
+      else-is_blank-via-then-is_blank+else-is_no_mail w ↦
+        no _ _ _ (sym (and_false_right (is_blank c.args.e) _ (sym (sym w.is_no_mail.ensures ∙ w.if-is_no_mail.false)))) refl
+    | else-is_blank-via-else-is_blank w ↦
+        no _ _ _ (sym (and_false_left _ _ (sym c.is_blank.ensures ∙ w.if-is_blank.false))) refl
+    ]
