@@ -1,3 +1,2 @@
 -- The laws of places.
 pub mod TaskAt
-pub mod EntriesLent

@@ -58,14 +58,17 @@ pub none_found : (k s : ℕ) (ms : List Message) → length ms ≤ first_fit k s
 none_found k s ms h = next-none (fits k s) ms h
 
 -- ---- where a task takes a message from a sender, none waits for it from that sender: one that takes from any takes from it too
-any_none : (k n c : ℕ) (xs : List Message) → n ≡ 0 → fitting k n xs ≡ 0 → fitting k c xs ≡ 0
+takes_none : (k c : ℕ) (xs : List Message) → fitting k 0 xs ≡ 0 → fitting k c xs ≡ 0
 unfolding sum_of
-any_none k n c [] q z = refl
-any_none k n c (x ∷ xs) q z = omega (arith, go (eqb k x.to.0) (rw q at z), any_none k n c xs q (omega arith))
+takes_none k c [] z = refl
+takes_none k c (x ∷ xs) z = omega (arith, go (eqb k x.to.0) z, takes_none k c xs (omega arith))
   where
     go : (a : Bool) → one (a and takes_from 0 x.sender.0) + fitting k 0 xs ≡ 0 → one (a and takes_from c x.sender.0) ≡ 0
     go true y = absurd (omega arith)
     go false y = refl
+
+any_none : (k n c : ℕ) (xs : List Message) → n ≡ 0 → fitting k n xs ≡ 0 → fitting k c xs ≡ 0
+any_none k n c xs q z = takes_none k c xs (rw q at z)
 
 pub none_from : (ts : List Task) (k c : ℕ) (ms : List Message) → takes c (task_at ts k).state ≡ true → NoneFits ts ms → fitting k c ms ≡ 0
 none_from ts k c ms t h = go (is_of await_message (task_at ts k).state) refl t

@@ -1,5 +1,4 @@
 use mathlib.Core.Path.{◌≡◌}
-use mathlib.Core.Logic.{⊎_elim}
 use Prim.Native.Nat.{◌+◌, ◌*◌, ◌%◌, ◌<◌}
 use native.Mathlib.Nat.{mod-eq_of_lt}
 use native.Mathlib.Omega.{arith}
@@ -8,6 +7,7 @@ use borrow.Author.Rules.{rules}
 use Rattle.executive.specs.Numbers.{longest}
 use Rattle.executive.proofs.clock.Interval.{turned, step-within}
 use Rattle.executive.proofs.clock.added_up.Goals as goal
+use Rattle.executive.proofs.clock.added_up.Goals.{then-left-eq1, else-left-eq1}
 
 pub overflow_add-sum : goal.overflow_add-sum
 overflow_add-sum c =
@@ -28,10 +28,10 @@ loop-left-preserved c =
     let m : bit_and v.left 1 ≡ v.left % 2 = and_mask v.left 1 in
     let r = v.invariant.1 in (
       omega arith,
-      rw e (⊎_elim
-          (λ w. omega (arith, turned v.left v.step 1 (omega arith)))
-          (λ w. omega (arith, turned v.left v.step 0 (omega arith)))
-          c.if-left-eq1.branch),
+      rw e (elim c.if-left-eq1.branch [
+          then-left-eq1 w ↦ omega (arith, turned v.left v.step 1 (omega arith))
+        | else-left-eq1 w ↦ omega (arith, turned v.left v.step 0 (omega arith))
+        ]),
     )
 
 pub returns : goal.returns

@@ -11,14 +11,12 @@ use Rattle.executive.specs.Lists.{all_of}
 use Rattle.executive.specs.Places.{nobody}
 use Rattle.executive.specs.Subprograms.{holds?, holds_any_of}
 use Rattle.executive.proofs.Lists.Loops.{every-turn, every-not, every-end}
+use Rattle.executive.proofs.subprograms.holds_any.Invariants.{other}
 use Rattle.executive.proofs.subprograms.holds_any.Goals as goal
 
 -- what is read past the end
 abbrev blank : Sub
 blank = record { holder = nobody; line = []; waiting = 0 }
-
-abbrev other : TaskNo → Sub → Bool
-other k s = not (holds? k s)
 
 pub loop-i-init : goal.loop-i-init
 loop-i-init c = (omega arith, refl)

@@ -13,6 +13,9 @@ use Rattle.executive.specs.Subprograms.{holds?, holds_any_of}
 use Rattle.executive.proofs.Lists.Loops.{every-turn, every-not, every-end}
 use Rattle.executive.proofs.subprograms.holds_any.Given as goal
 
+abbrev pub other : TaskNo → Sub → Bool
+other k s = not (holds? k s)
+
 abbrev pub invariant-loop-i : goal.invariant-loop-i
 invariant-loop-i l = (l.i ≤ 8) × (all_of (other l.k) (drop l.i l.subs) ≡ all_of (other l.k) l.subs)
 

@@ -1,3 +1,0 @@
--- The laws of an entry.
-pub mod FieldBehind
-pub mod EntryLent
