@@ -19,7 +19,7 @@ use Rattle.executive.specs.Pool.{requests}
 use Rattle.executive.specs.Places.{task_at}
 use Rattle.executive.specs.Table.{items, view, levels_of}
 use Rattle.executive.specs.Messages.{letters, mail_at}
-use Rattle.executive.specs.States.{ready, await_start, await_end, await_sub, await_message, takes, time_of, mask_of, awaited_of, is_of, is, is_dormant, has_time, has_mask, wait_mode, is_ready, waits_for}
+use Rattle.executive.specs.States.{await_start, await_end, await_sub, await_message, takes, time_of, mask_of, awaited_of, is_of, is, is_dormant, has_time, has_mask, wait_mode, is_ready, waits_for}
 use Rattle.executive.specs.Flags.{met}
 use Rattle.executive.specs.WellFormed.{WellFormed, starts_of, ends_of, runs_of}
 

@@ -40,7 +40,7 @@ use Rattle.executive.specs.Clock.{interval, aim_at, with_alarm, is_due, advanced
 use Rattle.executive.specs.Flags.{with_flags, flag_set, flag_reset, met, mode_of}
 use Rattle.executive.specs.WellFormed.{Line, Unmet}
 use Rattle.executive.specs.Plans.{priority_of, wait_of, argument_of, at_once, asks, holds, passing, stored_time, timed}
-use Rattle.executive.specs.States.{ready, is_dormant, is_paused, is_ready, takes}
+use Rattle.executive.specs.States.{is_dormant, is_paused, is_ready, takes}
 
 -- ---- who enters, and how
 abbrev pub entrant : TaskNo → How → Entrant

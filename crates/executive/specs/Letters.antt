@@ -1,6 +1,6 @@
 -- The book of letters (02, A8), kept from the history: which messages were accepted, which of them were handed over, which
 -- still wait.
-use Rattle.std.specs.Prelude.{◌≡◌, Bool, cond, List, [], ◌∷◌, ◌++◌, map, ℕ, suc, ◌+◌, eqb}
+use Rattle.std.specs.Prelude.{◌≡◌, Bool, cond, List, [], ◌∷◌, ◌++◌, map, ℕ, suc, eqb}
 use Rattle.records.specs.declared.Call.{Call}
 use Rattle.records.specs.declared.Call.TheVariants as call
 use Rattle.executive.specs.declared.Message.{Message}

@@ -1,6 +1,5 @@
 -- The messages (02): those that wait, first to last, those that stand in the tasks' entries, and what a call makes of them.
 use Rattle.std.specs.Prelude.{ℕ, zero, suc, ◌+◌, ◌≤◌, ◌≡◌, Bool, cond, List, [], ◌∷◌, ◌++◌, eqb, ltb, length, take, drop, get_or, set}
-use Rattle.records.specs.declared.TaskNo.{TaskNo}
 use Rattle.records.specs.declared.Text.{Text}
 use Rattle.executive.specs.declared.Message.{Message}
 use Rattle.executive.specs.declared.Mail.{Mail}

@@ -1,5 +1,5 @@
 -- The pool of queued start requests, in the order of asking, and what a step makes of it.
-use Rattle.std.specs.Prelude.{cond, ◌≡◌, List, [], ◌∷◌, ◌++◌, ℕ, suc, ◌≤◌, ◌+◌, ltb, eqb, length, take, drop}
+use Rattle.std.specs.Prelude.{cond, ◌≡◌, List, [], ◌∷◌, ◌++◌, ℕ, suc, ◌≤◌, ltb, eqb, length, take, drop}
 use Rattle.executive.specs.declared.Request.{Request}
 use Rattle.executive.specs.declared.Rest.{Rest}
 use Rattle.executive.specs.Numbers.{most_queued}

@@ -2,7 +2,6 @@
 -- numbers, its marks, its plan.
 use Rattle.std.specs.Prelude.{ℕ, ◌+◌, ◌/◌, ◌%◌, Bool, true, false, not, cond, ◌||◌, List, leb, ltb, eqb, get_or}
 use Rattle.records.specs.declared.TaskNo.{TaskNo}
-use Rattle.records.specs.declared.SubNo.{SubNo}
 use Rattle.records.specs.declared.Call.{Call}
 use Rattle.records.specs.declared.Call.TheVariants as call
 use Rattle.executive.specs.declared.Millis.{Millis}

@@ -17,7 +17,7 @@ use Rattle.executive.specs.Table.{line, items}
 use Rattle.executive.specs.Pool.{requests}
 use Rattle.executive.specs.Subprograms.{sub_at, line_of}
 use Rattle.executive.specs.Messages.{no_message, no_mail, letters, fits, noted, mail_at}
-use Rattle.executive.specs.States.{dormant, ready, await_start, await_end, await_sub, await_message, time_of, mask_of, awaited_of, is_of, is, has_time, has_mask, wait_mode, is_ready, waits_for}
+use Rattle.executive.specs.States.{dormant, await_start, await_end, await_sub, await_message, time_of, mask_of, awaited_of, is_of, is, has_time, has_mask, wait_mode, is_ready, waits_for}
 use Rattle.executive.specs.Flags.{is_set, met}
 
 -- how many requests name task k: as their target, as the waiter for their start, as the waiter for the end of the

@@ -12,7 +12,6 @@ use Rattle.executive.specs.declared.Table.{Table}
 use Rattle.executive.specs.Entries.{with_state}
 use Rattle.executive.specs.Plans.{nothing, pause_plan}
 use Rattle.executive.specs.Table.{leaves}
-use Rattle.executive.specs.States.{ready}
 use Rattle.executive.specs.Clock.{interval}
 use Rattle.executive.proofs.Plans.WorkingForm.{WellFormedByPart}
 use Rattle.executive.proofs.Lists.Tests.{false_not_true}

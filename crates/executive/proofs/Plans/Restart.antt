@@ -18,7 +18,6 @@ use Rattle.executive.specs.Plans.{end_waiter, waking, raising, restart_by, resta
 use Rattle.executive.specs.Pool.{requests}
 use Rattle.executive.specs.Places.{Names, task_at, put_at}
 use Rattle.executive.specs.Table.{line, head_of, leaves, depart}
-use Rattle.executive.specs.States.{ready}
 use Rattle.executive.specs.Clock.{aim_at}
 use Rattle.executive.proofs.Plans.WorkingForm.{EntriesOk, SubsOk, WellFormedByPart, busy-own}
 use Rattle.executive.proofs.Lists.Tests.{false_not_true, eqb_no}

@@ -18,7 +18,6 @@ use Rattle.executive.specs.Messages.{no_mail, with_mail}
 use Rattle.executive.specs.Pool.{place_of, removed, with_requests, requests}
 use Rattle.executive.specs.Places.{no_request, Names, task_at, put_at}
 use Rattle.executive.specs.Table.{line, head_of, leaves, Join}
-use Rattle.executive.specs.States.{ready}
 use Rattle.executive.specs.WellFormed.{over_priority}
 use Rattle.executive.proofs.Plans.WorkingForm.{EntriesOk, SubsOk, WellFormedByPart, busy-own}
 use Rattle.executive.proofs.Lists.Tests.{false_not_true}

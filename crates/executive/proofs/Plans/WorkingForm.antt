@@ -22,7 +22,7 @@ use Rattle.executive.specs.Table.{ArraysInOrder, line, items, view, levels_of}
 use Rattle.executive.specs.Queue.{count}
 use Rattle.executive.specs.Subprograms.{no_subprogram, sub_at, line_of, LineInOrder}
 use Rattle.executive.specs.Places.{nobody, never, no_task, task_at}
-use Rattle.executive.specs.States.{dormant, ready, await_start, await_end, await_sub, awaited_of, is_of, is, is_dormant, is_ready, waits_for}
+use Rattle.executive.specs.States.{dormant, await_start, await_end, await_sub, awaited_of, is_of, is, is_dormant, is_ready, waits_for}
 use Rattle.executive.specs.WellFormed.{targets_of, starts_of, ends_of, runs_of, over_priority, out_of_range, waits_for_itself, two_waiters, dormant_target, Line, Stored, Timely, Unmet, Zeros, InRange, Subprograms, WellFormed}
 use Rattle.executive.proofs.states.Laws.{dormant-named, dormant-kind}
 use Rattle.executive.proofs.Lists.Tests.{So-of_true, eqb_self, not-zero, Le, le_yes, le-no, leb-is, Lt, lt_yes, lt_no, ltb-is, false_not_true}

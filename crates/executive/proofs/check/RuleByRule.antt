@@ -19,7 +19,7 @@ use Rattle.executive.specs.Numbers.{most_tasks, most_queued, last_sub, highest, 
 use Rattle.executive.specs.Lists.{one, pad, sum_of, ◌and◌, up_to, all_of}
 use Rattle.executive.specs.Queue.{count}
 use Rattle.executive.specs.Places.{nobody, never, no_task, no_request, task_at}
-use Rattle.executive.specs.Table.{line, items}
+use Rattle.executive.specs.Table.{items}
 use Rattle.executive.specs.Pool.{requests}
 use Rattle.executive.specs.Subprograms.{no_subprogram, sub_at}
 use Rattle.executive.specs.States.{dormant, await_start, await_end, await_sub, is_of, is, is_dormant, time_of, mask_of, awaited_of, has_time, has_mask, wait_mode, is_ready, await_message, state_kind}

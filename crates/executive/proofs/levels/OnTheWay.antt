@@ -16,7 +16,7 @@ use Rattle.executive.specs.declared.Task.{Task}
 use Rattle.executive.specs.declared.Table.{Table}
 use Rattle.executive.specs.Queue.{Item, AllLe, Desc, behind, insert, count}
 use Rattle.executive.specs.Places.{nobody, task_at, put_at}
-use Rattle.executive.specs.States.{ready, is_ready}
+use Rattle.executive.specs.States.{is_ready}
 use Rattle.executive.specs.WellFormed.{Line}
 use Rattle.executive.specs.Table.{ArraysInOrder, line, items, view, level_bit, levels_of, relit, head_of, departed, enter_at, entered, ahead_of, slid_of}
 use Rattle.executive.specs.Lists.{closed_at}

@@ -2,7 +2,7 @@
 -- table and any records, refused ones included.
 -- That each call gives the answer and the table that the rules of docs/CALLS.md define is the code's own contract,
 -- `r ≡ step_of t s`.
-use Rattle.std.specs.Prelude.{◌≡◌, ◌↔◌, ◌≢◌, true, false, cond, List, [], ◌∷◌, map, ℕ, ◌+◌, ◌≤◌, ◌<◌, eqb, length, get_or}
+use Rattle.std.specs.Prelude.{◌≡◌, ◌↔◌, ◌≢◌, true, cond, List, [], ◌∷◌, map, ℕ, ◌+◌, ◌≤◌, ◌<◌, eqb, length}
 use Rattle.records.specs.Firsts.{Refusal, first_of, Decides}
 use Rattle.records.specs.declared.Call.{Call}
 use Rattle.records.specs.Numbers.{Bytes}

@@ -1,10 +1,9 @@
 -- What is promised of messages (02, A8): each accepted one waits or was handed over, once; in which order, to whom, and that
 -- what stands in an entry stands there until it may go.
-use Rattle.std.specs.Prelude.{◌≡◌, ◌⊎◌, ◌≢◌, Bool, true, false, ◌||◌, List, [], ◌∷◌, ◌++◌, ℕ, ◌+◌, ◌≤◌, ◌<◌, eqb, length, get_or}
+use Rattle.std.specs.Prelude.{◌≡◌, ◌⊎◌, Bool, true, false, ◌||◌, List, [], ◌∷◌, ◌++◌, ℕ, ◌+◌, ◌≤◌, ◌<◌, eqb, length, get_or}
 use Rattle.records.specs.Numbers.{Bytes}
 use Rattle.executive.specs.declared.State.TheVariants.{Ready}
 use Rattle.executive.specs.declared.Message.{Message}
-use Rattle.executive.specs.declared.Mail.{Mail}
 use Rattle.executive.specs.declared.Table.{Table}
 use Rattle.executive.specs.declared.Answer.{Answer}
 use Rattle.executive.specs.declared.Outcome.{Outcome}

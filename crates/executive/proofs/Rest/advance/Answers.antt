@@ -1,10 +1,8 @@
-use mathlib.Core.Bool.{true}
-use borrow.Author.Rules.{rules}
 use mathlib.Core.Path.{◌≡◌, ap, sym, ◌∙◌}
 use native.Mathlib.Omega.{arith}
-use Prim.Native.Nat.{◌≤◌, ◌<◌, ◌+◌, ◌-◌, ◌^◌}
+use Prim.Native.Nat.{◌<◌, ◌+◌, ◌^◌}
 use lib.Bits.{bit_or}
-use lib.ListN.{length, get_or, set, length-set, length-map}
+use lib.ListN.{length, set, length-set}
 use Rattle.executive.specs.declared.Millis.{Millis}
 use Rattle.executive.specs.Places.{never}
 use Rattle.executive.specs.Clock.{is_due, rung, advanced}

@@ -1,17 +1,11 @@
 use mathlib.Core.Bool.{true}
-use borrow.Author.Rules.{rules}
-use mathlib.Core.Path.{◌≡◌, ap, sym, ◌∙◌}
-use native.Mathlib.Omega.{arith}
-use Prim.Native.Nat.{◌≤◌, ◌<◌, ◌+◌, ◌-◌, ◌^◌}
-use lib.Bits.{bit_or}
-use lib.ListN.{length, get_or, set, length-set, length-map}
-use Rattle.executive.specs.declared.Millis.{Millis}
+use mathlib.Core.Path.{◌≡◌}
+use Prim.Native.Nat.{◌≤◌, ◌<◌, ◌-◌}
+use lib.ListN.{length, get_or}
 use Rattle.executive.specs.Places.{never}
-use Rattle.executive.specs.Clock.{is_due, rung, advanced}
-use Rattle.executive.specs.Lists.{each, next_of}
-use Rattle.executive.specs.Decisions.{first_due}
-use Rattle.executive.proofs.Lists.Loops.{each-end}
-use Rattle.executive.proofs.clock.Alarms.{ringing, ring-on, ring-turn}
+use Rattle.executive.specs.Clock.{is_due, rung}
+use Rattle.executive.specs.Lists.{each}
+use Rattle.executive.proofs.clock.Alarms.{ringing}
 use Rattle.executive.proofs.Rest.advance.Given as goal
 
 abbrev pub invariant-loop-i : goal.invariant-loop-i

@@ -1,4 +1,3 @@
-use borrow.Author.Rules.{rules}
 use Rattle.executive.proofs.Rest.changed.Goals as goal
 
 pub with_alarm-requires : goal.with_alarm-requires

@@ -1,5 +1,4 @@
 use mathlib.Core.Path.{refl}
-use borrow.Author.Rules.{rules}
 use Rattle.executive.proofs.Rest.handed_on.Goals as goal
 
 pub passed_on-next-requires : goal.passed_on-next-requires

@@ -2,7 +2,6 @@ use mathlib.Core.Path.{refl}
 use native.Mathlib.Omega.{arith}
 use lib.ListN.{take}
 use borrow.Author.Tests.{lt-ltb, le-ltb}
-use borrow.Author.Rules.{rules}
 use Rattle.executive.specs.Messages.{post_in, urgency}
 use Rattle.executive.proofs.queue.ArraysAreLists.{take-le}
 use Rattle.executive.proofs.messages.Lines.{stay-le}

@@ -1,4 +1,3 @@
-use borrow.Author.Rules.{rules}
 use Rattle.executive.proofs.messages.Arrays.{made-posted}
 use Rattle.executive.proofs.Rest.with_letter.Goals as goal
 

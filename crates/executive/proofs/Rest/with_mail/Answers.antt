@@ -1,6 +1,5 @@
-use mathlib.Core.Path.{◌≡◌, sym, ◌∙◌}
-use lib.ListN.{length, length-map}
-use borrow.Author.Rules.{rules}
+use mathlib.Core.Path.{◌≡◌, sym}
+use lib.ListN.{length}
 use Rattle.executive.proofs.messages.Arrays.{mail-place, mail-no-place}
 use Rattle.executive.proofs.Rest.with_mail.Goals as goal
 

@@ -1,5 +1,4 @@
 use Rattle.executive.proofs.queue.ArraysAreLists.{made-queued}
-use borrow.Author.Rules.{rules}
 use Rattle.executive.proofs.Rest.with_request.Goals as goal
 
 pub returns : goal.returns

@@ -1,5 +1,4 @@
 use mathlib.Core.Path.{refl}
-use borrow.Author.Rules.{rules}
 use Rattle.executive.proofs.Rest.with_waiter.Goals as goal
 
 pub joined-longer-requires : goal.joined-longer-requires

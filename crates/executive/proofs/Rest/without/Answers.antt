@@ -1,5 +1,4 @@
 use Rattle.executive.proofs.queue.ArraysAreLists.{made-removed}
-use borrow.Author.Rules.{rules}
 use Rattle.executive.proofs.Rest.without.Goals as goal
 
 pub returns : goal.returns

@@ -1,4 +1,3 @@
-use borrow.Author.Rules.{rules}
 use Rattle.executive.proofs.messages.Arrays.{made-without}
 use Rattle.executive.proofs.Rest.without_letter.Goals as goal
 

@@ -1,5 +1,4 @@
 use Rattle.executive.proofs.subprograms.InLine.{made-joined}
-use borrow.Author.Rules.{rules}
 use Rattle.executive.proofs.Sub.joined.Goals as goal
 
 pub returns : goal.returns

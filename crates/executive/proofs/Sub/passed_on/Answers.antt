@@ -1,6 +1,5 @@
 use native.Mathlib.Omega.{arith}
 use Rattle.executive.proofs.subprograms.InLine.{made-handed, made-free}
-use borrow.Author.Rules.{rules}
 use Rattle.executive.proofs.Sub.passed_on.Goals as goal
 
 pub returns-then-n-eq0 : goal.returns-then-n-eq0

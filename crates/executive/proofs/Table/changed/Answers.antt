@@ -1,5 +1,4 @@
 use mathlib.Core.Path.{refl, ap, sym, ◌∙◌}
-use borrow.Author.Rules.{rules}
 use Rattle.executive.specs.declared.Table.{Table}
 use Rattle.executive.specs.Table.{with_rest}
 use Rattle.executive.specs.Messages.{no_mail, with_mail}

@@ -1,6 +1,5 @@
 use mathlib.Core.Path.{sym, ◌∙◌}
 use Rattle.executive.proofs.check.Decides.{checked_right, checked_wrong}
-use borrow.Author.Rules.{rules}
 use Rattle.executive.proofs.Table.check.Goals as goal
 
 pub returns-then-is_well_formed : goal.returns-then-is_well_formed

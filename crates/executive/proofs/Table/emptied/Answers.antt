@@ -1,5 +1,4 @@
 use mathlib.Core.Path.{refl}
-use borrow.Author.Rules.{rules}
 use Rattle.executive.proofs.Table.emptied.Goals as goal
 
 pub returns-then-k-eq0 : goal.returns-then-k-eq0

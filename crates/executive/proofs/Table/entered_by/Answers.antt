@@ -1,5 +1,4 @@
 use mathlib.Core.Path.{ap, ◌∙◌}
-use borrow.Author.Rules.{rules}
 use Rattle.executive.specs.declared.Work.{Work}
 use Rattle.executive.specs.Table.{begin, enter_all_in_flight, lit_in_flight}
 use Rattle.executive.specs.Decisions.{named, joins_for}

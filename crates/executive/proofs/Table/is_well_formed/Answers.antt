@@ -1,7 +1,6 @@
 use mathlib.Core.Path.{sym, ◌∙◌}
 use Rattle.executive.specs.Check.{is_well_formed}
 use Rattle.executive.proofs.Lists.Tests.{and_false_left, and_true_left, both_false}
-use borrow.Author.Rules.{rules}
 use Rattle.executive.proofs.Table.is_well_formed.Goals as goal
 
 pub returns-then-queue_right : goal.returns-then-queue_right

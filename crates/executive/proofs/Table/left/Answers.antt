@@ -2,7 +2,6 @@ use mathlib.Core.Path.{ap, sym, ◌∙◌}
 use Rattle.executive.proofs.executing.Leaving.{left-gone, left-stays}
 use Rattle.executive.specs.Table.{relit}
 use Rattle.executive.proofs.levels.OnTheWay.{lit-same}
-use borrow.Author.Rules.{rules}
 use Rattle.executive.proofs.Table.left.Goals as goal
 
 pub returns-then-leaves : goal.returns-then-leaves

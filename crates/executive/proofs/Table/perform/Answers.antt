@@ -9,7 +9,6 @@ use Rattle.executive.proofs.step.CodeIsStep.{none-refuses}
 use Rattle.executive.proofs.step.ByDecision.{Accepts, Follows, follows}
 use Rattle.executive.proofs.decisions.DeedIsPlan.{means}
 use Rattle.executive.proofs.decisions.CanBeDone.{doable}
-use borrow.Author.Rules.{rules}
 use Rattle.executive.proofs.Table.perform.Goals as goal
 
 pub returns-then-d-ne0 : goal.returns-then-d-ne0

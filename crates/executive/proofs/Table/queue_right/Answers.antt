@@ -1,13 +1,12 @@
-use mathlib.Core.Path.{◌≡◌, sym, ◌∙◌}
+use mathlib.Core.Path.{◌≡◌, ◌∙◌}
 use borrow.Author.Tests.{eq-eqb}
 use lib.Dec.{leb}
-use lib.ListN.{length, length-map, drop}
+use lib.ListN.{length, drop}
 use Rattle.executive.specs.Lists.{◌and◌, up_to, all_of}
 use Rattle.executive.specs.States.{is_ready}
 use Rattle.executive.specs.Table.{line}
 use Rattle.executive.specs.Check.{is_nobody, falls, exact_at, levels_right, queue_right}
 use Rattle.executive.proofs.check.Descent.{lit-order}
-use borrow.Author.Rules.{rules}
 use Rattle.executive.proofs.Table.queue_right.Goals as goal
 
 -- the size of the queue is that of its type

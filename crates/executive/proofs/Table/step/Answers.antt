@@ -1,6 +1,5 @@
 use mathlib.Core.Path.{sym, ◌∙◌}
 use Rattle.executive.proofs.step.CodeIsStep.{step-queue}
-use borrow.Author.Rules.{rules}
 use Rattle.executive.proofs.Table.step.Goals as goal
 
 pub perform-requires : goal.perform-requires

@@ -6,7 +6,6 @@ use native.Mathlib.Omega.{arith}
 use lib.ListN.{length, replicate}
 use lib.Seq.{length-take-le}
 use lib.Dec.{lit≤}
-use borrow.Author.Rules.{rules}
 use Rattle.records.specs.Writing.{bytes_of}
 use Rattle.records.proofs.Assured.{promises}
 use Rattle.executive.specs.Step.{step_of}

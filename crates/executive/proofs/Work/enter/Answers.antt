@@ -6,7 +6,6 @@ use Rattle.executive.proofs.queue.ArraysAreLists.{ahead-ready}
 use Rattle.executive.proofs.levels.OnTheWay.{lit-entered}
 use Rattle.executive.proofs.queue.Walk.{sum-most}
 use Rattle.executive.proofs.places.TaskAt.{priority_put}
-use borrow.Author.Rules.{rules}
 use Rattle.executive.proofs.Work.enter.Goals as goal
 
 pub slid-put-requires : goal.slid-put-requires

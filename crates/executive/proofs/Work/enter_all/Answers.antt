@@ -1,9 +1,6 @@
-use borrow.Author.Rules.{rules}
-use mathlib.Core.Path.{◌≡◌, refl, ap, sym, ◌∙◌}
+use mathlib.Core.Path.{refl, ap, sym, ◌∙◌}
 use native.Mathlib.Omega.{arith}
-use Prim.Native.Nat.{◌≤◌, ◌-◌}
-use lib.ListN.{length, length-map, take, drop}
-use Rattle.executive.specs.Table.{FindsRoom, InFlight, enter_all_in_flight, lit_in_flight}
+use Rattle.executive.specs.Table.{enter_all_in_flight, lit_in_flight}
 use Rattle.executive.specs.Decisions.{joins_for}
 use Rattle.executive.proofs.queue.InFlight.{fewer-flying, enter-flying, lit-on_the_way, lit-flying}
 use Rattle.executive.proofs.decisions.Listing.{enter-turn, find-turn, enter-end}

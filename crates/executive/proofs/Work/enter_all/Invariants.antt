@@ -1,12 +1,8 @@
-use borrow.Author.Rules.{rules}
-use mathlib.Core.Path.{◌≡◌, refl, ap, sym, ◌∙◌}
-use native.Mathlib.Omega.{arith}
+use mathlib.Core.Path.{◌≡◌}
 use Prim.Native.Nat.{◌≤◌, ◌-◌}
-use lib.ListN.{length, length-map, take, drop}
+use lib.ListN.{length, take, drop}
 use Rattle.executive.specs.Table.{FindsRoom, InFlight, enter_all_in_flight, lit_in_flight}
 use Rattle.executive.specs.Decisions.{joins_for}
-use Rattle.executive.proofs.queue.InFlight.{fewer-flying, enter-flying, lit-on_the_way, lit-flying}
-use Rattle.executive.proofs.decisions.Listing.{enter-turn, find-turn, enter-end}
 use Rattle.executive.proofs.Work.enter_all.Given as goal
 
 abbrev pub invariant-loop-i : goal.invariant-loop-i

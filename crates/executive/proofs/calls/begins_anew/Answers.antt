@@ -6,7 +6,6 @@ use lib.ListN.{length, length-append}
 use Rattle.executive.specs.declared.decisions.How.TheVariants.{Begun}
 use Rattle.executive.specs.Decisions.{wakes, entrant}
 use Rattle.executive.proofs.decisions.Listing.{listed_well, named-listed, woken-short}
-use borrow.Author.Rules.{rules}
 use Rattle.executive.proofs.calls.begins_anew.Goals as goal
 
 pub also-l2-requires : goal.also-l2-requires

@@ -3,7 +3,6 @@ use native.Mathlib.Omega.{arith}
 use Rattle.executive.specs.Decisions.{cancel_pause_deed}
 use Rattle.executive.proofs.decisions.Listing.{listed_well}
 use mathlib.Core.List.{[]}
-use borrow.Author.Rules.{rules}
 use Rattle.executive.proofs.calls.cancel_pause.Goals as goal
 
 pub returns-then-no_such_task : goal.returns-then-no_such_task

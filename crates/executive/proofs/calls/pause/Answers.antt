@@ -5,7 +5,6 @@ use Prim.Native.Nat.{◌≤◌}
 use Rattle.executive.specs.Decisions.{pause_deed}
 use Rattle.executive.specs.Numbers.{longest}
 use Rattle.executive.proofs.clock.Interval.{interval-most}
-use borrow.Author.Rules.{rules}
 use Rattle.executive.proofs.calls.pause.Goals as goal
 
 pub returns-then-now-gt-END_OF_TIME : goal.returns-then-now-gt-END_OF_TIME

@@ -5,7 +5,6 @@ use lib.Dec.{leb}
 use Rattle.executive.specs.Decisions.{wakes, restart_deed}
 use Rattle.executive.proofs.decisions.Listing.{listed_well, named-listed, woken-short}
 use Rattle.executive.proofs.Lists.Loops.{one-le}
-use borrow.Author.Rules.{rules}
 use Rattle.executive.proofs.calls.restart.Goals as goal
 
 pub returns-then-now-gt-END_OF_TIME : goal.returns-then-now-gt-END_OF_TIME

@@ -7,7 +7,6 @@ use Rattle.executive.specs.Sheet.{only_z}
 use Rattle.executive.specs.Decisions.{doing}
 use Rattle.executive.proofs.pool.FoundAt.{found-is}
 use Rattle.executive.proofs.calls.Ending.{ends-run, ends-none}
-use borrow.Author.Rules.{rules}
 use Rattle.executive.proofs.calls.terminate.Goals as goal
 
 pub returns-then-holding : goal.returns-then-holding

@@ -7,7 +7,6 @@ use Rattle.executive.specs.Sheet.{only_z}
 use mathlib.Core.Bool.{false}
 use Rattle.executive.specs.Decisions.{doing}
 use Rattle.executive.proofs.calls.Ticking.{ticks}
-use borrow.Author.Rules.{rules}
 use Rattle.executive.proofs.calls.tick.Goals as goal
 
 pub overflow_add-now : goal.overflow_add-now

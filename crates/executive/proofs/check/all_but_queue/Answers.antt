@@ -1,12 +1,10 @@
 use Rattle.executive.proofs.Lists.Tests.{and_false_left, and_true_left}
 use Rattle.executive.specs.Check.{in_bounds, in_passes, all_but_queue}
 use mathlib.Core.Path.{◌≡◌, sym, ◌∙◌}
-use borrow.Author.Tests.{not-true, not-false}
 use mathlib.Core.Bool.{Bool, true}
-use lib.ListN.{length, length-map}
+use lib.ListN.{length}
 use Rattle.executive.proofs.check.RuleByRule.{Bounds, bounds-get}
 use Rattle.executive.proofs.check.Passes.{sized}
-use borrow.Author.Rules.{rules}
 use Rattle.executive.proofs.check.all_but_queue.Goals as goal
 use Rattle.executive.proofs.check.all_but_queue.Goals.{Start}
 

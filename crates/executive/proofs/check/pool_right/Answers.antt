@@ -2,7 +2,6 @@ use Rattle.executive.proofs.Lists.Tests.{and_false_left, and_false_right, and_tr
 use Rattle.executive.specs.Lists.{all_of}
 use Rattle.executive.specs.Check.{request_right}
 use mathlib.Core.Path.{sym, ◌∙◌}
-use borrow.Author.Tests.{not-true, not-false}
 use lib.ListN.{take}
 use Rattle.executive.proofs.check.pool_right.Goals as goal
 

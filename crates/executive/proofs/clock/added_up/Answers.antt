@@ -1,9 +1,8 @@
 use mathlib.Core.Path.{◌≡◌}
-use Prim.Native.Nat.{◌+◌, ◌*◌, ◌%◌, ◌<◌}
+use Prim.Native.Nat.{◌*◌, ◌%◌}
 use native.Mathlib.Nat.{mod-eq_of_lt}
 use native.Mathlib.Omega.{arith}
 use lib.Bits.{bit_and, and_mask}
-use borrow.Author.Rules.{rules}
 use Rattle.executive.specs.Numbers.{longest}
 use Rattle.executive.proofs.clock.Interval.{turned, step-within}
 use Rattle.executive.proofs.clock.added_up.Goals as goal
@@ -29,9 +28,9 @@ loop-left-preserved c =
     let r = v.invariant.1 in (
       omega arith,
       rw e (elim c.if-left-eq1.branch [
-          then-left-eq1 w ↦ omega (arith, turned v.left v.step 1 (omega arith))
+        | then-left-eq1 w ↦ omega (arith, turned v.left v.step 1 (omega arith))
         | else-left-eq1 w ↦ omega (arith, turned v.left v.step 0 (omega arith))
-        ]),
+      ]),
     )
 
 pub returns : goal.returns

@@ -5,7 +5,6 @@ use borrow.Author.Tests.{lt-ltb, le-ltb}
 use Rattle.executive.specs.Numbers.{last_unit, longest}
 use Rattle.executive.specs.Clock.{aim_at, skipped_of}
 use Rattle.executive.proofs.clock.Interval.{interval-most, every_some}
-use borrow.Author.Rules.{rules}
 use Rattle.executive.proofs.clock.aim_of.Goals as goal
 
 pub returns-then-unit-gt-LAST_UNIT : goal.returns-then-unit-gt-LAST_UNIT

@@ -2,7 +2,6 @@ use mathlib.Core.Path.{refl}
 use native.Mathlib.Omega.{arith}
 use Rattle.executive.specs.Clock.{interval}
 use Rattle.executive.proofs.clock.Interval.{interval-most}
-use borrow.Author.Rules.{rules}
 use Rattle.executive.proofs.clock.millis_of.Goals as goal
 
 pub added_up-requires : goal.added_up-requires

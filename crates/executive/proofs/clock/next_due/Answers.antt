@@ -1,10 +1,6 @@
-use Prim.Native.Nat.{◌≤◌, ◌-◌}
-use mathlib.Core.Path.{◌≡◌, refl, sym, ◌∙◌}
+use mathlib.Core.Path.{refl, sym, ◌∙◌}
 use native.Mathlib.Omega.{arith}
 use native.Mathlib.Numerals.{add-one}
-use borrow.Author.Rules.{rules}
-use lib.ListN.{drop}
-use Rattle.executive.specs.Lists.{next_of}
 use Rattle.executive.specs.Clock.{is_due}
 use Rattle.executive.specs.Places.{never}
 use Rattle.executive.proofs.Lists.Search.{next-hit, next-pass, next-end}

@@ -1,13 +1,8 @@
 use Prim.Native.Nat.{◌≤◌, ◌-◌}
-use mathlib.Core.Path.{◌≡◌, refl, sym, ◌∙◌}
-use native.Mathlib.Omega.{arith}
-use native.Mathlib.Numerals.{add-one}
-use borrow.Author.Rules.{rules}
+use mathlib.Core.Path.{◌≡◌}
 use lib.ListN.{drop}
 use Rattle.executive.specs.Lists.{next_of}
 use Rattle.executive.specs.Clock.{is_due}
-use Rattle.executive.specs.Places.{never}
-use Rattle.executive.proofs.Lists.Search.{next-hit, next-pass, next-end}
 use Rattle.executive.proofs.clock.next_due.Given as goal
 
 abbrev pub invariant-loop-i : goal.invariant-loop-i

@@ -4,7 +4,6 @@ use native.Mathlib.Nat.{mod-lt}
 use native.Mathlib.Omega.{arith}
 use Rattle.executive.specs.Clock.{missed}
 use Rattle.executive.proofs.clock.Interval.{next-by-rest}
-use borrow.Author.Rules.{rules}
 use Rattle.executive.proofs.clock.next_on_grid.Goals as goal
 
 pub overflow_sub-at : goal.overflow_sub-at

@@ -1,16 +1,11 @@
 use mathlib.Core.Bool.{true}
-use borrow.Author.Rules.{rules}
-use mathlib.Core.Path.{◌≡◌, sym, ◌∙◌}
-use native.Mathlib.Omega.{arith}
-use Prim.Native.Nat.{◌≤◌, ◌<◌, ◌+◌, ◌-◌, ◌^◌}
-use lib.Bits.{bit_or}
-use lib.ListN.{length, get_or}
+use mathlib.Core.Path.{◌≡◌}
+use Prim.Native.Nat.{◌≤◌, ◌<◌, ◌-◌}
+use lib.ListN.{get_or}
 use Rattle.executive.specs.Places.{never}
 use Rattle.executive.specs.Clock.{is_due}
 use Rattle.executive.specs.Lists.{each}
 use Rattle.executive.specs.Decisions.{rung_in}
-use Rattle.executive.proofs.Lists.Loops.{each-end}
-use Rattle.executive.proofs.clock.Alarms.{in_on, in_turn}
 use Rattle.executive.proofs.clock.rings.Given as goal
 
 abbrev pub invariant-loop-i : goal.invariant-loop-i

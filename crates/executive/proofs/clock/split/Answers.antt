@@ -1,6 +1,5 @@
-use Prim.Native.Nat.{◌+◌, ◌-◌}
 use native.Mathlib.Omega.{arith}
-use Rattle.executive.proofs.clock.Division.{Doubled, Divided, fits, some, doubled, times-low, left, taken, ended}
+use Rattle.executive.proofs.clock.Division.{fits, some, doubled, times-low, left, taken, ended}
 use Rattle.executive.proofs.clock.split.Goals as goal
 
 pub loop-step-init : goal.loop-step-init

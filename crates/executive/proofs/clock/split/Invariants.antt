@@ -1,6 +1,5 @@
 use Prim.Native.Nat.{◌+◌, ◌-◌}
-use native.Mathlib.Omega.{arith}
-use Rattle.executive.proofs.clock.Division.{Doubled, Divided, fits, some, doubled, times-low, left, taken, ended}
+use Rattle.executive.proofs.clock.Division.{Doubled, Divided}
 use Rattle.executive.proofs.clock.split.Given as goal
 
 abbrev pub invariant-loop-step : goal.invariant-loop-step

@@ -1,6 +1,5 @@
 use mathlib.Core.Path.{sym}
 use native.Mathlib.Omega.{arith}
-use borrow.Author.Rules.{rules}
 use Rattle.executive.proofs.clock.Interval.{unit-none}
 use Rattle.executive.proofs.clock.unit_of.Goals as goal
 

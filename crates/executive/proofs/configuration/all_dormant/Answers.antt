@@ -1,9 +1,6 @@
 -- `executive::configuration::all_dormant` meets its contract.
 use mathlib.Core.Path.{◌≡◌, refl}
 use native.Mathlib.Omega.{arith}
-use Prim.Native.Nat.{◌≤◌, ◌-◌}
-use borrow.Author.Rules.{rules}
-use Rattle.executive.specs.Places.{no_task}
 use Rattle.executive.specs.Lists.{pad}
 use Rattle.executive.specs.Configuration.{sleepers}
 use Rattle.executive.proofs.configuration.Loops.{dormant-more}

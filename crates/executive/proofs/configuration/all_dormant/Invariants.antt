@@ -1,12 +1,9 @@
 -- `executive::configuration::all_dormant` meets its contract.
-use mathlib.Core.Path.{◌≡◌, refl}
-use native.Mathlib.Omega.{arith}
+use mathlib.Core.Path.{◌≡◌}
 use Prim.Native.Nat.{◌≤◌, ◌-◌}
-use borrow.Author.Rules.{rules}
 use Rattle.executive.specs.Places.{no_task}
 use Rattle.executive.specs.Lists.{pad}
 use Rattle.executive.specs.Configuration.{sleepers}
-use Rattle.executive.proofs.configuration.Loops.{dormant-more}
 use Rattle.executive.proofs.configuration.all_dormant.Given as goal
 
 abbrev pub invariant-loop-i : goal.invariant-loop-i

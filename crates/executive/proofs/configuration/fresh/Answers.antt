@@ -1,12 +1,10 @@
 -- `executive::configuration::fresh` meets its contract.
 use mathlib.Core.Path.{refl}
 use native.Mathlib.Omega.{arith}
-use borrow.Author.Tests.{not-true, not-false}
 use Rattle.executive.specs.Table.{items, levels_of}
 use Rattle.executive.specs.Configuration.{dormant_table, fresh_table, fresh_of, sleepers}
 use Rattle.executive.proofs.queue.InFlight.{begin-flying}
 use Rattle.executive.proofs.configuration.Loops.{dormant-fit}
-use borrow.Author.Rules.{rules}
 use Rattle.executive.proofs.configuration.fresh.Goals as goal
 
 pub returns-then-not-is_configuration : goal.returns-then-not-is_configuration

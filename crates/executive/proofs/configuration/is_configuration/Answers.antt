@@ -3,7 +3,6 @@ use mathlib.Core.Path.{refl}
 use borrow.Author.Tests.{le-leb, lt-leb, eq-eqb, ne_eqb}
 use lib.ListN.{length}
 use Rattle.executive.specs.Configuration.{is_configuration}
-use borrow.Author.Rules.{rules}
 use Rattle.executive.proofs.configuration.is_configuration.Goals as goal
 
 pub returns-then-n-lt1 : goal.returns-then-n-lt1

@@ -2,7 +2,6 @@
 use mathlib.Core.Path.{refl}
 use borrow.Author.Tests.{eq-eqb, ne_eqb}
 use Rattle.executive.specs.Configuration.{configuration_in}
-use borrow.Author.Rules.{rules}
 use Rattle.executive.proofs.configuration.length_in.Goals as goal
 
 pub returns-then-byte_at-ne64 : goal.returns-then-byte_at-ne64

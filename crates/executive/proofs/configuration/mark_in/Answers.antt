@@ -1,6 +1,5 @@
 -- `executive::configuration::mark_in` meets its contract.
 use mathlib.Core.Path.{refl}
-use borrow.Author.Rules.{rules}
 use Rattle.executive.proofs.configuration.mark_in.Goals as goal
 
 pub returns : goal.returns

@@ -1,6 +1,5 @@
 -- `executive::configuration::own_in` meets its contract.
 use mathlib.Core.Path.{refl}
-use borrow.Author.Rules.{rules}
 use Rattle.executive.proofs.configuration.own_in.Goals as goal
 
 pub returns : goal.returns

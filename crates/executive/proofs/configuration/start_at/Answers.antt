@@ -3,7 +3,6 @@ use borrow.Author.Tests.{eq-eqb, ne_eqb}
 use Rattle.executive.specs.Table.{enter_all_in_flight}
 use Rattle.executive.specs.Configuration.{marked_start}
 use Rattle.executive.proofs.queue.InFlight.{lit-flying}
-use borrow.Author.Rules.{rules}
 use Rattle.executive.proofs.configuration.start_at.Goals as goal
 
 pub returns-then-mark_in-ne1 : goal.returns-then-mark_in-ne1

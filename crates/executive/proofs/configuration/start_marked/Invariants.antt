@@ -1,13 +1,9 @@
 -- `executive::configuration::start_marked` meets its contract.
-use mathlib.Core.Path.{◌≡◌, ap, ◌∙◌}
-use native.Mathlib.Omega.{arith}
-use Prim.Native.Nat.{ℕ, ◌≤◌, ◌<◌, ◌+◌, ◌-◌}
-use Rattle.executive.specs.declared.Work.{Work}
+use mathlib.Core.Path.{◌≡◌}
+use Prim.Native.Nat.{ℕ, ◌≤◌, ◌<◌, ◌-◌}
 use Rattle.executive.specs.Queue.{count}
 use Rattle.executive.specs.Table.{InFlight, view, enter_all_in_flight, lit_in_flight}
-use Rattle.executive.specs.Configuration.{marked_start, starters}
-use Rattle.executive.proofs.configuration.Loops.{marked-short, start-more, nobody_in, start-vacant}
-use Rattle.executive.proofs.queue.InFlight.{fewer-flying, enters-flying, lit-on_the_way, lit-flying}
+use Rattle.executive.specs.Configuration.{starters}
 use Rattle.executive.proofs.configuration.start_marked.Given as goal
 
 abbrev pub invariant-loop-k : goal.invariant-loop-k

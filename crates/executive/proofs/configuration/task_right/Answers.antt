@@ -2,7 +2,6 @@
 use mathlib.Core.Path.{refl}
 use borrow.Author.Tests.{le-leb, lt-leb}
 use Rattle.executive.specs.Configuration.{task_right}
-use borrow.Author.Rules.{rules}
 use Rattle.executive.proofs.configuration.task_right.Goals as goal
 
 pub returns-then-own_in-gt15 : goal.returns-then-own_in-gt15

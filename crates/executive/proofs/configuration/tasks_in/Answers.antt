@@ -1,9 +1,7 @@
 -- `executive::configuration::tasks_in` meets its contract.
-use mathlib.Core.Path.{◌≡◌, sym, ◌∙◌}
+use mathlib.Core.Path.{sym, ◌∙◌}
 use native.Mathlib.Omega.{arith}
-use Prim.Native.Nat.{◌≤◌, ◌+◌, ◌-◌}
-use borrow.Author.Rules.{rules}
-use Rattle.executive.specs.Configuration.{tasks_from, tasks_in}
+use Rattle.executive.specs.Configuration.{tasks_in}
 use Rattle.executive.proofs.configuration.Loops.{tasks-turn, tasks-stop, tasks-end}
 use Rattle.executive.proofs.configuration.tasks_in.Goals as goal
 

@@ -1,12 +1,9 @@
 -- `executive::configuration::tasks_right` meets its contract.
-use borrow.Author.Tests.{not-true, not-false}
-use mathlib.Core.Path.{◌≡◌, refl, sym, ◌∙◌}
-use native.Mathlib.Omega.{arith}
+use mathlib.Core.Path.{◌≡◌}
 use Prim.Native.Nat.{◌≤◌, ◌-◌}
 use mathlib.Core.Bool.{true}
 use Rattle.executive.specs.Lists.{up_to}
 use Rattle.executive.specs.Configuration.{task_right}
-use Rattle.executive.proofs.Lists.Loops.{all_more, all-not}
 use Rattle.executive.proofs.configuration.tasks_right.Given as goal
 
 abbrev pub invariant-loop-k : goal.invariant-loop-k

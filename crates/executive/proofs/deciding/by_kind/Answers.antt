@@ -1,7 +1,6 @@
 use mathlib.Core.Path.{refl}
 use borrow.Author.Tests.{le-ltb}
 use Rattle.executive.specs.Sheet.{decided}
-use borrow.Author.Rules.{rules}
 use Rattle.executive.proofs.deciding.by_kind.Goals as goal
 
 pub terminate-requires : goal.terminate-requires

@@ -1,6 +1,4 @@
 use mathlib.Core.Path.{sym, ◌∙◌}
-use borrow.Author.Rules.{rules}
-use borrow.Author.Tests.{not-true, not-false}
 use Rattle.executive.proofs.decisions.CanBeDone.{judgeable}
 use Rattle.executive.proofs.decisions.OfBytes.{for_right, for_broken, for_stranger}
 use Rattle.executive.proofs.deciding.decide.Goals as goal

@@ -1,6 +1,5 @@
 use mathlib.Core.Path.{refl}
 use Rattle.executive.specs.Sheet.{decision_of}
-use borrow.Author.Rules.{rules}
 use Rattle.executive.proofs.deciding.decide_call.Goals as goal
 
 pub returns-then-nobody_active : goal.returns-then-nobody_active

@@ -1,6 +1,5 @@
 use mathlib.Core.Path.{sym, ◌∙◌}
 use Rattle.executive.proofs.decisions.OfBytes.{in_empty, in_no-call, in_read, in_refused}
-use borrow.Author.Rules.{rules}
 use Rattle.executive.proofs.deciding.decide_record.Goals as goal
 
 pub returns-then-bytes-eq0 : goal.returns-then-bytes-eq0

@@ -1,4 +1,3 @@
-use borrow.Author.Rules.{rules}
 use Rattle.executive.proofs.entries.entering.Goals as goal
 
 pub returns-in-Woken : goal.returns-in-Woken

@@ -1,4 +1,3 @@
-use borrow.Author.Rules.{rules}
 use Rattle.executive.proofs.entries.gone.Goals as goal
 
 pub returns-in-Sleeps : goal.returns-in-Sleeps

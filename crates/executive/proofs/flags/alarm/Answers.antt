@@ -7,7 +7,6 @@ use Rattle.executive.specs.Numbers.{last_unit, longest}
 use Rattle.executive.specs.Decisions.{alarm_deed}
 use Rattle.executive.proofs.refusals.NothingRefuses.{low_second}
 use Rattle.executive.proofs.clock.Interval.{interval-most}
-use borrow.Author.Rules.{rules}
 use Rattle.executive.proofs.flags.alarm.Goals as goal
 
 pub returns-then-bad_alarm : goal.returns-then-bad_alarm

@@ -2,7 +2,6 @@ use mathlib.Core.Path.{refl, sym, ◌∙◌}
 use borrow.Author.Tests.{ne_eqb}
 use Rattle.executive.specs.Decisions.{flag_deed}
 use Rattle.executive.proofs.refusals.NothingRefuses.{low_first}
-use borrow.Author.Rules.{rules}
 use Rattle.executive.proofs.flags.flag.Goals as goal
 
 pub returns-then-bad_flag : goal.returns-then-bad_flag

@@ -1,4 +1,3 @@
-use borrow.Author.Rules.{rules}
 use Rattle.executive.proofs.flags.is_met.Goals as goal
 
 pub returns-in-Any : goal.returns-in-Any

@@ -1,6 +1,5 @@
 use mathlib.Core.Path.{refl}
 use Rattle.executive.specs.Flags.{is_set}
-use borrow.Author.Rules.{rules}
 use Rattle.executive.proofs.flags.is_set.Goals as goal
 
 pub returns : goal.returns

@@ -7,7 +7,6 @@ use Rattle.executive.specs.Plans.{holds}
 use Rattle.executive.specs.Decisions.{rising, set_deed}
 use Rattle.executive.proofs.decisions.Listing.{listed_well}
 use Rattle.executive.proofs.decisions.ByTime.{rising-few}
-use borrow.Author.Rules.{rules}
 use Rattle.executive.proofs.flags.set.Goals as goal
 
 pub held-entrants-requires : goal.held-entrants-requires

@@ -1,6 +1,5 @@
 use mathlib.Core.Path.{refl}
 use Rattle.executive.specs.Decisions.{wait_deed}
-use borrow.Author.Rules.{rules}
 use Rattle.executive.proofs.flags.wait.Goals as goal
 
 pub returns-then-bad_wait : goal.returns-then-bad_wait

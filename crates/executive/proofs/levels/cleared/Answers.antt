@@ -1,6 +1,5 @@
 use mathlib.Core.Path.{refl}
 use borrow.Author.Tests.{eq-eqb, ne_eqb}
-use borrow.Author.Rules.{rules}
 use Rattle.executive.proofs.levels.cleared.Goals as goal
 
 pub returns-then-next-p : goal.returns-then-next-p

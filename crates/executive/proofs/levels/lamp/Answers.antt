@@ -1,8 +1,6 @@
-use Prim.Native.Nat.{◌≤◌}
 use mathlib.Core.Path.{◌≡◌, refl, ◌∙◌}
 use native.Mathlib.Omega.{arith}
-use borrow.Author.Rules.{rules}
-use Rattle.executive.specs.Lamp.{lamp_below, lamp_of}
+use Rattle.executive.specs.Lamp.{lamp_below}
 use Rattle.executive.proofs.levels.Turns.{lamp-set, lamp-clear}
 use Rattle.executive.proofs.levels.lamp.Goals as goal
 

@@ -1,9 +1,6 @@
 use Prim.Native.Nat.{◌≤◌}
-use mathlib.Core.Path.{◌≡◌, refl, ◌∙◌}
-use native.Mathlib.Omega.{arith}
-use borrow.Author.Rules.{rules}
+use mathlib.Core.Path.{◌≡◌}
 use Rattle.executive.specs.Lamp.{lamp_below, lamp_of}
-use Rattle.executive.proofs.levels.Turns.{lamp-set, lamp-clear}
 use Rattle.executive.proofs.levels.lamp.Given as goal
 
 abbrev pub invariant-loop-p : goal.invariant-loop-p

@@ -1,11 +1,7 @@
-use Prim.Native.Nat.{◌≤◌, ◌-◌}
+use Prim.Native.Nat.{◌≤◌}
 use mathlib.Core.Path.{◌≡◌}
-use native.Mathlib.Omega.{arith}
-use lib.ListN.{take, drop, get_or}
-use borrow.Author.Rules.{rules}
-use Rattle.executive.specs.Places.{nobody}
+use lib.ListN.{take, drop}
 use Rattle.executive.specs.Table.{items, levels_of}
-use Rattle.executive.proofs.levels.Turns.{word_none, word-turn, read-level, no-level}
 use Rattle.executive.proofs.levels.levels_of.Given as goal
 
 abbrev pub invariant-loop-i : goal.invariant-loop-i

@@ -1,6 +1,5 @@
 use mathlib.Core.Path.{refl}
 use borrow.Author.Tests.{lt-ltb, le-ltb}
-use borrow.Author.Rules.{rules}
 use Rattle.executive.proofs.levels.word_of.Goals as goal
 
 pub returns-then-taken-gt16 : goal.returns-then-taken-gt16

@@ -1,4 +1,3 @@
-use borrow.Author.Rules.{rules}
 use Rattle.executive.proofs.message_check.is_untaken.Goals as goal
 
 pub returns : goal.returns

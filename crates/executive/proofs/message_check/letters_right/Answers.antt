@@ -1,10 +1,5 @@
-use Prim.Native.Nat.{◌≤◌, ◌-◌}
-use mathlib.Core.Path.{◌≡◌, refl, sym, ◌∙◌}
+use mathlib.Core.Path.{refl, sym, ◌∙◌}
 use native.Mathlib.Omega.{arith}
-use lib.ListN.{take, drop}
-use borrow.Author.Rules.{rules}
-use borrow.Author.Tests.{not-true, not-false}
-use Rattle.executive.specs.Check.{letters_right}
 use Rattle.executive.proofs.check.Messages.{right-over, right-out, right-high, right-taken, right-on}
 use Rattle.executive.proofs.message_check.letters_right.Goals as goal
 

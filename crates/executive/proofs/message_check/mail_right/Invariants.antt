@@ -1,13 +1,8 @@
 use Prim.Native.Nat.{◌≤◌, ◌-◌}
-use mathlib.Core.Path.{◌≡◌, refl, sym, ◌∙◌}
+use mathlib.Core.Path.{◌≡◌}
 use mathlib.Core.Bool.{true}
-use native.Mathlib.Omega.{arith}
-use borrow.Author.Rules.{rules}
-use borrow.Author.Tests.{not-true, not-false, le-leb, lt-leb}
 use Rattle.executive.specs.Lists.{up_to}
 use Rattle.executive.specs.Check.{mail_right_at}
-use Rattle.executive.proofs.Lists.Loops.{all_none, all_more, all-not}
-use Rattle.executive.proofs.check.Messages.{mail-next}
 use Rattle.executive.proofs.message_check.mail_right.Given as goal
 
 abbrev pub invariant-loop-i : goal.invariant-loop-i

@@ -1,10 +1,8 @@
-use lib.ListN.{drop}
 use lib.Dec.{eqb}
-use mathlib.Core.Path.{◌≡◌, refl, sym, ◌∙◌}
+use mathlib.Core.Path.{refl, sym, ◌∙◌}
 use native.Mathlib.Omega.{arith}
 use borrow.Author.Tests.{eq-eqb, ne_eqb}
-use Prim.Native.Nat.{◌≤◌, ◌-◌}
-use Rattle.executive.specs.Lists.{all_of, ◌and◌}
+use Rattle.executive.specs.Lists.{◌and◌}
 use Rattle.executive.specs.Messages.{no_message}
 use Rattle.executive.specs.Check.{is_no_message}
 use Rattle.executive.proofs.Lists.Tests.{and_false_left, and_true_left}

@@ -1,5 +1,4 @@
 use mathlib.Core.Path.{sym, ◌∙◌}
-use borrow.Author.Rules.{rules}
 use borrow.Author.Tests.{le-leb, lt-leb}
 use Rattle.executive.specs.Check.{letters_right}
 use Rattle.executive.proofs.message_check.sent_right.Goals as goal

@@ -1,8 +1,5 @@
-use Prim.Native.Nat.{◌+◌, ◌-◌, ◌≤◌}
-use mathlib.Core.Path.{◌≡◌}
 use native.Mathlib.Omega.{arith}
-use lib.ListN.{take, drop}
-use Rattle.executive.specs.Messages.{no_message, stay_ahead, urgency}
+use Rattle.executive.specs.Messages.{no_message, urgency}
 use Rattle.executive.proofs.messages.Lines.{stay-stop, stay-pass, stay-end}
 use Rattle.executive.proofs.messages.ahead.Goals as goal
 

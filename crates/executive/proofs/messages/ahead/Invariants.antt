@@ -1,9 +1,7 @@
 use Prim.Native.Nat.{◌+◌, ◌-◌, ◌≤◌}
 use mathlib.Core.Path.{◌≡◌}
-use native.Mathlib.Omega.{arith}
 use lib.ListN.{take, drop}
-use Rattle.executive.specs.Messages.{no_message, stay_ahead, urgency}
-use Rattle.executive.proofs.messages.Lines.{stay-stop, stay-pass, stay-end}
+use Rattle.executive.specs.Messages.{stay_ahead, urgency}
 use Rattle.executive.proofs.messages.ahead.Given as goal
 
 abbrev pub invariant-loop-i : goal.invariant-loop-i

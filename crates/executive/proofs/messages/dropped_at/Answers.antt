@@ -1,8 +1,5 @@
-use Prim.Native.Nat.{◌≤◌, ◌-◌}
 use native.Mathlib.Omega.{arith}
 use mathlib.Core.Path.{◌≡◌}
-use mathlib.Core.List.{◌++◌}
-use lib.ListN.{take, drop}
 use Rattle.executive.specs.Lists.{closed_at}
 use Rattle.executive.specs.Messages.{no_message}
 use Rattle.executive.proofs.Lists.ClosedUp.{without-start, without-turn, without_end}

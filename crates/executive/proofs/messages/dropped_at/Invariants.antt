@@ -1,11 +1,9 @@
 use Prim.Native.Nat.{◌≤◌, ◌-◌}
-use native.Mathlib.Omega.{arith}
 use mathlib.Core.Path.{◌≡◌}
 use mathlib.Core.List.{◌++◌}
 use lib.ListN.{take, drop}
 use Rattle.executive.specs.Lists.{closed_at}
 use Rattle.executive.specs.Messages.{no_message}
-use Rattle.executive.proofs.Lists.ClosedUp.{without-start, without-turn, without_end}
 use Rattle.executive.proofs.messages.dropped_at.Given as goal
 
 abbrev pub invariant-loop-i : goal.invariant-loop-i

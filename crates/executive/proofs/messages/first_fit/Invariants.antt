@@ -1,16 +1,8 @@
-use Prim.Native.Nat.{ℕ, ◌+◌, ◌-◌, ◌≤◌, ◌<◌}
-use mathlib.Core.Path.{◌≡◌, refl, sym, ◌∙◌}
-use mathlib.Core.Bool.{Bool, true, false}
-use mathlib.Core.List.{List}
-use native.Mathlib.Omega.{arith}
-use native.Mathlib.Numerals.{add-one}
-use borrow.Author.Rules.{rules}
-use lib.ListN.{length, take, drop, get_or}
-use lib.Seq.{length-take-le, get_or-take}
-use Rattle.executive.specs.declared.Message.{Message}
+use Prim.Native.Nat.{◌-◌, ◌≤◌}
+use mathlib.Core.Path.{◌≡◌}
+use lib.ListN.{take, drop}
 use Rattle.executive.specs.Lists.{next_of}
-use Rattle.executive.specs.Messages.{no_message, fits, first_fit}
-use Rattle.executive.proofs.Lists.Search.{next-hit, next-pass, next-end}
+use Rattle.executive.specs.Messages.{fits, first_fit}
 use Rattle.executive.proofs.messages.first_fit.Given as goal
 
 abbrev pub invariant-loop-i : goal.invariant-loop-i

@@ -1,5 +1,4 @@
 use borrow.Author.Tests.{eq-eqb, ne_eqb}
-use borrow.Author.Rules.{rules}
 use Rattle.executive.proofs.messages.is_fit.Goals as goal
 
 pub returns-then-k-m : goal.returns-then-k-m

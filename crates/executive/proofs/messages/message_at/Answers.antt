@@ -3,7 +3,6 @@ use native.Mathlib.Omega.{arith}
 use lib.ListN.{length, take, get_or-eq_default}
 use lib.Seq.{length-take-le, get_or-take}
 use mathlib.Core.Path.{◌≡◌}
-use borrow.Author.Rules.{rules}
 use Rattle.executive.specs.Messages.{no_message}
 use Rattle.executive.proofs.messages.message_at.Goals as goal
 

@@ -1,6 +1,5 @@
 use mathlib.Core.Path.{refl}
 use borrow.Author.Tests.{lt-ltb, le-ltb}
-use borrow.Author.Rules.{rules}
 use Rattle.executive.proofs.messages.receiving.Goals as goal
 
 pub returns-then-i-n : goal.returns-then-i-n

@@ -1,7 +1,6 @@
 use mathlib.Core.Path.{refl}
 use borrow.Author.Tests.{le-leb, lt-leb}
 use Rattle.executive.specs.Decisions.{send_deed}
-use borrow.Author.Rules.{rules}
 use Rattle.executive.proofs.messages.send.Goals as goal
 
 pub returns-then-no_such_task : goal.returns-then-no_such_task

@@ -1,10 +1,5 @@
-use lib.ListN.{drop}
-use mathlib.Core.Path.{◌≡◌, refl, sym, ◌∙◌}
+use mathlib.Core.Path.{refl, sym, ◌∙◌}
 use native.Mathlib.Omega.{arith}
-use borrow.Author.Rules.{rules}
-use borrow.Author.Tests.{not-true, not-false}
-use Prim.Native.Nat.{◌≤◌, ◌-◌}
-use Rattle.executive.specs.Lists.{all_of}
 use Rattle.executive.specs.Check.{alarm_right}
 use Rattle.executive.proofs.Lists.Loops.{every-turn, every-not, every-end}
 use Rattle.executive.specs.Places.{never}

@@ -1,4 +1,3 @@
-use borrow.Author.Rules.{rules}
 use Rattle.executive.proofs.passes.free_from.Goals as goal
 
 pub returns-then-queued-eq0 : goal.returns-then-queued-eq0

@@ -1,5 +1,4 @@
 use native.Mathlib.Omega.{arith}
-use borrow.Author.Rules.{rules}
 use Rattle.executive.proofs.places.TaskAt.{place_none, place-past, place-task}
 use Rattle.executive.proofs.places.entry_place.Goals as goal
 

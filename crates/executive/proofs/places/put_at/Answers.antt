@@ -1,5 +1,4 @@
 use mathlib.Core.Path.{sym, ◌∙◌}
-use borrow.Author.Rules.{rules}
 use Rattle.executive.proofs.places.TaskAt.{put_place, put_no-place}
 use Rattle.executive.proofs.places.put_at.Goals as goal
 

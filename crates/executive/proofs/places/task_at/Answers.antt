@@ -1,5 +1,4 @@
 use mathlib.Core.Path.{sym}
-use borrow.Author.Rules.{rules}
 use Rattle.executive.proofs.places.TaskAt.{at_place, at-no-place}
 use Rattle.executive.proofs.places.task_at.Goals as goal
 

@@ -1,8 +1,5 @@
-use Prim.Native.Nat.{◌≤◌, ◌-◌}
 use native.Mathlib.Omega.{arith}
 use mathlib.Core.Path.{◌≡◌}
-use mathlib.Core.List.{◌++◌}
-use lib.ListN.{take, drop}
 use Rattle.executive.specs.Lists.{closed_at}
 use Rattle.executive.specs.Places.{no_request}
 use Rattle.executive.proofs.Lists.ClosedUp.{without-start, without-turn, without_end}

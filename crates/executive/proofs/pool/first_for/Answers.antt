@@ -7,7 +7,7 @@ use lib.Seq.{length-take-le, get_or-take, drop-cons}
 use Rattle.records.specs.declared.TaskNo.{TaskNo}
 use Rattle.executive.specs.declared.Request.{Request}
 use Rattle.executive.specs.declared.pool.Found.TheVariants.{At, Nothing}
-use Prim.Native.Nat.{ℕ, suc, ◌+◌, ◌≤◌, ◌<◌, ◌-◌}
+use Prim.Native.Nat.{ℕ, suc, ◌+◌, ◌≤◌, ◌<◌}
 use native.Mathlib.Omega.{arith}
 use Rattle.executive.specs.Pool.{found_at, place_of}
 use Rattle.executive.specs.Places.{no_request}

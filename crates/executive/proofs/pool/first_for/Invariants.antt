@@ -1,16 +1,7 @@
-use mathlib.Core.List.{List}
-use mathlib.Core.Path.{refl, ◌≡◌}
-use native.Mathlib.Numerals.{add-one}
-use borrow.Author.Tests.{eq-eqb, ne_eqb, lt-ltb, le-ltb}
-use lib.ListN.{length, get_or, drop_of_length-le, take, drop}
-use lib.Seq.{length-take-le, get_or-take, drop-cons}
-use Rattle.records.specs.declared.TaskNo.{TaskNo}
-use Rattle.executive.specs.declared.Request.{Request}
-use Rattle.executive.specs.declared.pool.Found.TheVariants.{At, Nothing}
-use Prim.Native.Nat.{ℕ, suc, ◌+◌, ◌≤◌, ◌<◌, ◌-◌}
-use native.Mathlib.Omega.{arith}
-use Rattle.executive.specs.Pool.{found_at, place_of}
-use Rattle.executive.specs.Places.{no_request}
+use mathlib.Core.Path.{◌≡◌}
+use lib.ListN.{take, drop}
+use Prim.Native.Nat.{◌+◌, ◌≤◌, ◌-◌}
+use Rattle.executive.specs.Pool.{place_of}
 use Rattle.executive.proofs.pool.first_for.Given as goal
 
 abbrev pub invariant-loop-i : goal.invariant-loop-i

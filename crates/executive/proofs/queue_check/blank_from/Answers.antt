@@ -1,9 +1,6 @@
-use lib.ListN.{drop}
-use mathlib.Core.Path.{◌≡◌, refl, sym, ◌∙◌}
+use mathlib.Core.Path.{refl, sym, ◌∙◌}
 use native.Mathlib.Omega.{arith}
 use borrow.Author.Tests.{eq-eqb, ne_eqb}
-use Prim.Native.Nat.{◌≤◌, ◌-◌}
-use Rattle.executive.specs.Lists.{all_of}
 use Rattle.executive.specs.Check.{is_nobody}
 use Rattle.executive.proofs.Lists.Loops.{every-turn, every-not, every-end}
 use Rattle.executive.specs.Places.{nobody}

@@ -1,14 +1,9 @@
-use mathlib.Core.Path.{◌≡◌, refl, sym, ap, ◌∙◌}
-use native.Mathlib.Omega.{arith}
-use borrow.Author.Rules.{rules}
+use mathlib.Core.Path.{◌≡◌}
 use Prim.Native.Nat.{◌≤◌, ◌-◌}
-use lib.Dec.{eqb}
-use lib.Bits.{bit_or, or_zero_l}
+use lib.Bits.{bit_or}
 use lib.ListN.{take, drop}
 use Rattle.executive.specs.Table.{items, levels_of}
 use Rattle.executive.specs.Check.{falls}
-use Rattle.executive.proofs.Lists.Tests.{and_false_left, and_true_left}
-use Rattle.executive.proofs.check.Descent.{falls-turn, falls-off, falls-over, falls-end, word_on, word_end}
 use Rattle.executive.proofs.queue_check.descends.Given as goal
 
 abbrev pub invariant-loop-i : goal.invariant-loop-i

@@ -1,5 +1,4 @@
 use mathlib.Core.Path.{sym, ◌∙◌}
-use borrow.Author.Rules.{rules}
 use Rattle.executive.proofs.queue_check.exact_at.Goals as goal
 
 pub returns-then-is_as : goal.returns-then-is_as

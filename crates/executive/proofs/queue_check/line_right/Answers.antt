@@ -6,7 +6,7 @@ use Rattle.executive.specs.Lists.{up_to}
 use Rattle.executive.specs.States.{ready, is_as, is_ready}
 use Rattle.executive.specs.Check.{exact_at}
 use Rattle.executive.proofs.check.Passes.{ready-exact}
-use borrow.Author.Tests.{not-true, not-false, le-leb, lt-leb}
+use borrow.Author.Tests.{le-leb, lt-leb}
 use Rattle.executive.proofs.queue_check.line_right.Goals as goal
 use Rattle.executive.proofs.queue_check.line_right.Goals.{Start}
 

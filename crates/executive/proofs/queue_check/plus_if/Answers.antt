@@ -1,6 +1,5 @@
 use native.Mathlib.Omega.{arith}
 use borrow.Author.Tests.{eq-eqb, ne_eqb}
-use borrow.Author.Rules.{rules}
 use Rattle.executive.proofs.queue_check.plus_if.Goals as goal
 
 pub returns-then-k-x : goal.returns-then-k-x

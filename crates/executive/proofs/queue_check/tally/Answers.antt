@@ -1,11 +1,10 @@
-use Prim.Native.Nat.{◌≤◌, ◌-◌}
+use Prim.Native.Nat.{◌-◌}
 use mathlib.Core.Path.{◌≡◌}
 use native.Mathlib.Omega.{arith}
-use lib.ListN.{take, drop, get_or}
-use borrow.Author.Rules.{rules}
+use lib.ListN.{get_or}
 use Rattle.executive.specs.Places.{nobody}
 use Rattle.executive.proofs.places.TaskAt.{place-low}
-use Rattle.executive.proofs.Lists.Loops.{Tallying, line_first, line_low, line-turn}
+use Rattle.executive.proofs.Lists.Loops.{line_first, line_low, line-turn}
 use Rattle.executive.proofs.queue_check.tally.Goals as goal
 
 pub loop-i-init : goal.loop-i-init

@@ -1,11 +1,6 @@
-use Prim.Native.Nat.{◌≤◌, ◌-◌}
-use mathlib.Core.Path.{◌≡◌}
-use native.Mathlib.Omega.{arith}
-use lib.ListN.{take, drop, get_or}
-use borrow.Author.Rules.{rules}
-use Rattle.executive.specs.Places.{nobody}
-use Rattle.executive.proofs.places.TaskAt.{place-low}
-use Rattle.executive.proofs.Lists.Loops.{Tallying, line_first, line_low, line-turn}
+use Prim.Native.Nat.{◌≤◌}
+use lib.ListN.{take, drop}
+use Rattle.executive.proofs.Lists.Loops.{Tallying}
 use Rattle.executive.proofs.queue_check.tally.Given as goal
 
 abbrev pub invariant-loop-i : goal.invariant-loop-i

@@ -2,7 +2,6 @@ use mathlib.Core.Path.{sym}
 use native.Mathlib.Omega.{arith}
 use lib.ListN.{get_or-eq_default}
 use Rattle.executive.specs.Places.{never}
-use borrow.Author.Rules.{rules}
 use Rattle.executive.proofs.refusals.alarm_at.Goals as goal
 
 pub returns-then-f-gt31 : goal.returns-then-f-gt31

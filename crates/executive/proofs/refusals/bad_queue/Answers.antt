@@ -1,4 +1,3 @@
-use borrow.Author.Rules.{rules}
 use Rattle.executive.proofs.refusals.bad_queue.Goals as goal
 
 pub returns-then-no_such_task : goal.returns-then-no_such_task

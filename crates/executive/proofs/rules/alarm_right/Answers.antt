@@ -1,5 +1,4 @@
 use borrow.Author.Tests.{eq-eqb, ne_eqb}
-use borrow.Author.Rules.{rules}
 use Rattle.executive.proofs.rules.alarm_right.Goals as goal
 
 pub returns-then-a-eq0 : goal.returns-then-a-eq0

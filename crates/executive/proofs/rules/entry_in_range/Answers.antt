@@ -1,6 +1,4 @@
 use mathlib.Core.Path.{refl, sym, ◌∙◌}
-use borrow.Author.Tests.{not-true, not-false}
-use borrow.Author.Rules.{rules}
 use Rattle.executive.proofs.Lists.Tests.{and_false_left, and_true_left}
 use Rattle.executive.proofs.rules.entry_in_range.Goals as goal
 

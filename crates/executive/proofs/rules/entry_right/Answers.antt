@@ -1,8 +1,7 @@
 use Rattle.executive.proofs.Lists.Tests.{and_false_left, and_false_right, and_true_left}
 use Rattle.executive.specs.Check.{entry_in_range, task_timely, is_started}
 use mathlib.Core.Path.{sym, ◌∙◌}
-use borrow.Author.Tests.{not-true, not-false, le-leb, lt-leb}
-use borrow.Author.Rules.{rules}
+use borrow.Author.Tests.{le-leb, lt-leb}
 use Rattle.executive.proofs.rules.entry_right.Goals as goal
 
 pub returns-then-not-entry_in_range : goal.returns-then-not-entry_in_range

@@ -1,6 +1,4 @@
 use mathlib.Core.Path.{sym, ◌∙◌}
-use borrow.Author.Tests.{not-true, not-false}
-use borrow.Author.Rules.{rules}
 use Rattle.executive.proofs.rules.is_emptied.Goals as goal
 
 pub returns-then-not-is_dormant : goal.returns-then-not-is_dormant

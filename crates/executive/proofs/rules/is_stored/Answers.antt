@@ -1,5 +1,4 @@
 use borrow.Author.Tests.{lt-ltb, le-ltb}
-use borrow.Author.Rules.{rules}
 use Rattle.executive.proofs.rules.is_stored.Goals as goal
 
 pub returns-then-now-at : goal.returns-then-now-at

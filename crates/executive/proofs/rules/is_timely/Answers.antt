@@ -1,6 +1,4 @@
 use mathlib.Core.Path.{sym, ◌∙◌}
-use borrow.Author.Tests.{not-true, not-false}
-use borrow.Author.Rules.{rules}
 use Rattle.executive.proofs.rules.is_timely.Goals as goal
 
 pub returns-then-not-has_time : goal.returns-then-not-has_time

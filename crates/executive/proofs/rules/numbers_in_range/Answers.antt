@@ -1,5 +1,4 @@
 use borrow.Author.Tests.{le-leb, lt-leb}
-use borrow.Author.Rules.{rules}
 use Rattle.executive.proofs.rules.numbers_in_range.Goals as goal
 
 pub returns-then-e-gt15 : goal.returns-then-e-gt15

@@ -1,6 +1,4 @@
 use mathlib.Core.Path.{sym, ◌∙◌}
-use borrow.Author.Rules.{rules}
-use borrow.Author.Tests.{not-true, not-false}
 use Rattle.executive.proofs.Lists.Tests.{and_false_left, and_true_left}
 use Rattle.executive.proofs.rules.request_fits.Goals as goal
 

@@ -1,4 +1,3 @@
-use borrow.Author.Rules.{rules}
 use Rattle.executive.proofs.starts.end_waiter_of.Goals as goal
 
 pub returns-in-ForNothing : goal.returns-in-ForNothing

@@ -1,4 +1,3 @@
-use borrow.Author.Rules.{rules}
 use Rattle.executive.proofs.starts.leave_of.Goals as goal
 
 pub returns-in-ForStart : goal.returns-in-ForStart

@@ -1,6 +1,5 @@
 use mathlib.Core.Path.{refl}
 use Rattle.executive.specs.Decisions.{start_if_dormant_deed}
-use borrow.Author.Rules.{rules}
 use Rattle.executive.proofs.starts.start_if_dormant.Goals as goal
 
 pub returns-then-bad_start : goal.returns-then-bad_start

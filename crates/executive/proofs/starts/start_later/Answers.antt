@@ -1,6 +1,5 @@
 use mathlib.Core.Path.{refl}
 use Rattle.executive.specs.Decisions.{queue_request_deed}
-use borrow.Author.Rules.{rules}
 use Rattle.executive.proofs.starts.start_later.Goals as goal
 
 pub returns : goal.returns

@@ -3,7 +3,6 @@ use native.Mathlib.Omega.{arith}
 use Rattle.executive.specs.Decisions.{start_now_deed}
 use Rattle.executive.proofs.decisions.Listing.{listed_well}
 use mathlib.Core.List.{[]}
-use borrow.Author.Rules.{rules}
 use Rattle.executive.proofs.starts.start_now.Goals as goal
 
 pub also-entrants-requires : goal.also-entrants-requires

@@ -1,7 +1,6 @@
 use mathlib.Core.Path.{refl}
 use borrow.Author.Tests.{le-leb, lt-leb}
 use Rattle.executive.specs.Decisions.{start_or_queue_deed, asked_by}
-use borrow.Author.Rules.{rules}
 use Rattle.executive.proofs.starts.start_or_queue.Goals as goal
 
 pub returns-then-bad_queue : goal.returns-then-bad_queue

@@ -1,5 +1,4 @@
 use mathlib.Core.Path.{sym, ◌∙◌}
-use borrow.Author.Rules.{rules}
 use Rattle.executive.proofs.states.has_time.Goals as goal
 
 pub returns-then-is_paused : goal.returns-then-is_paused

@@ -1,4 +1,3 @@
-use borrow.Author.Rules.{rules}
 use Rattle.executive.proofs.states.is_of.Goals as goal
 
 pub returns : goal.returns

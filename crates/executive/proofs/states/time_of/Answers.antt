@@ -1,4 +1,3 @@
-use borrow.Author.Rules.{rules}
 use Rattle.executive.proofs.states.time_of.Goals as goal
 
 pub returns-in-Dormant : goal.returns-in-Dormant

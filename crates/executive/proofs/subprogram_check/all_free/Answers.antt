@@ -1,10 +1,6 @@
-use lib.ListN.{drop}
 use lib.Dec.{eqb}
-use mathlib.Core.Path.{◌≡◌, refl, sym, ◌∙◌}
+use mathlib.Core.Path.{refl, sym, ◌∙◌}
 use native.Mathlib.Omega.{arith}
-use borrow.Author.Rules.{rules}
-use Prim.Native.Nat.{◌≤◌, ◌-◌}
-use Rattle.executive.specs.Lists.{all_of, ◌and◌}
 use Rattle.executive.specs.Check.{is_free_sub}
 use Rattle.executive.proofs.check.Subprograms.{placeless}
 use Rattle.executive.proofs.check.PutTogether.{every_put, every-done}

@@ -1,13 +1,9 @@
 use lib.ListN.{drop}
 use lib.Dec.{eqb}
-use mathlib.Core.Path.{◌≡◌, refl, sym, ◌∙◌}
-use native.Mathlib.Omega.{arith}
-use borrow.Author.Rules.{rules}
+use mathlib.Core.Path.{◌≡◌}
 use Prim.Native.Nat.{◌≤◌, ◌-◌}
 use Rattle.executive.specs.Lists.{all_of, ◌and◌}
 use Rattle.executive.specs.Check.{is_free_sub}
-use Rattle.executive.proofs.check.Subprograms.{placeless}
-use Rattle.executive.proofs.check.PutTogether.{every_put, every-done}
 use Rattle.executive.proofs.subprogram_check.all_free.Given as goal
 
 abbrev pub invariant-loop-i : goal.invariant-loop-i

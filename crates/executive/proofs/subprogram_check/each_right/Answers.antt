@@ -1,9 +1,6 @@
-use mathlib.Core.Path.{◌≡◌, sym, ◌∙◌}
+use mathlib.Core.Path.{sym, ◌∙◌}
 use native.Mathlib.Omega.{arith}
-use borrow.Author.Tests.{not-true, not-false}
-use Prim.Native.Nat.{◌≤◌, ◌-◌}
-use Rattle.executive.specs.Check.{held_right}
-use Rattle.executive.proofs.check.Subprograms.{held_from, held_first, held-turn, held-not, held-end}
+use Rattle.executive.proofs.check.Subprograms.{held_first, held-turn, held-not, held-end}
 use Rattle.executive.proofs.subprogram_check.each_right.Goals as goal
 
 pub loop-m-init : goal.loop-m-init

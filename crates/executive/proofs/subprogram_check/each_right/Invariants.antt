@@ -1,9 +1,7 @@
-use mathlib.Core.Path.{◌≡◌, sym, ◌∙◌}
-use native.Mathlib.Omega.{arith}
-use borrow.Author.Tests.{not-true, not-false}
+use mathlib.Core.Path.{◌≡◌}
 use Prim.Native.Nat.{◌≤◌, ◌-◌}
 use Rattle.executive.specs.Check.{held_right}
-use Rattle.executive.proofs.check.Subprograms.{held_from, held_first, held-turn, held-not, held-end}
+use Rattle.executive.proofs.check.Subprograms.{held_from}
 use Rattle.executive.proofs.subprogram_check.each_right.Given as goal
 
 abbrev pub invariant-loop-m : goal.invariant-loop-m

@@ -1,5 +1,4 @@
 use borrow.Author.Tests.{eq-eqb, ne_eqb}
-use borrow.Author.Rules.{rules}
 use Rattle.executive.proofs.subprogram_check.holder_right.Goals as goal
 
 pub returns-then-s-eq0 : goal.returns-then-s-eq0

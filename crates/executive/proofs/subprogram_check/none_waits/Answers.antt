@@ -1,10 +1,5 @@
-use mathlib.Core.Path.{◌≡◌}
 use native.Mathlib.Omega.{arith}
-use borrow.Author.Rules.{rules}
-use Prim.Native.Nat.{◌≤◌, ◌-◌}
-use Rattle.executive.specs.Lists.{up_to}
-use Rattle.executive.specs.Check.{waits_for_none}
-use Rattle.executive.proofs.check.Subprograms.{among, among_none, among-turn, among-all}
+use Rattle.executive.proofs.check.Subprograms.{among_none, among-turn, among-all}
 use Rattle.executive.proofs.subprogram_check.none_waits.Goals as goal
 
 pub loop-k-init : goal.loop-k-init

@@ -1,6 +1,5 @@
 use mathlib.Core.Path.{sym, ◌∙◌}
 use native.Mathlib.Omega.{arith}
-use borrow.Author.Rules.{rules}
 use Rattle.executive.proofs.check.Subprograms.{still-waits, still-free, still-past}
 use Rattle.executive.proofs.subprogram_check.still_none.Goals as goal
 

@@ -1,9 +1,8 @@
 use mathlib.Core.Path.{◌≡◌, refl, sym, ◌∙◌}
 use mathlib.Core.Bool.{true}
 use lib.Dec.{eqb}
-use lib.ListN.{length, length-map}
-use borrow.Author.Tests.{eq-eqb, not-true, not-false, le-leb, lt-leb}
-use borrow.Author.Rules.{rules}
+use lib.ListN.{length}
+use borrow.Author.Tests.{eq-eqb, le-leb, lt-leb}
 use Rattle.executive.proofs.Lists.Tests.{true_and, and_true_left}
 use Rattle.executive.specs.Numbers.{most_tasks}
 use Rattle.executive.proofs.subprogram_check.sub_right.Goals as goal

@@ -1,5 +1,4 @@
 use mathlib.Core.Path.{sym, ◌∙◌}
-use borrow.Author.Rules.{rules}
 use Rattle.executive.proofs.check.Subprograms.{free-right}
 use Rattle.executive.proofs.subprogram_check.subs_right.Goals as goal
 

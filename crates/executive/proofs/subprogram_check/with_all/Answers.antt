@@ -1,9 +1,7 @@
-use lib.ListN.{drop, length, length-map}
+use lib.ListN.{length}
 use lib.Dec.{eqb}
 use mathlib.Core.Path.{◌≡◌, refl, sym, ◌∙◌}
 use native.Mathlib.Omega.{arith}
-use Prim.Native.Nat.{◌≤◌, ◌-◌}
-use Rattle.executive.specs.Lists.{all_of, ◌and◌}
 use Rattle.executive.specs.Numbers.{most_tasks}
 use Rattle.executive.specs.Places.{nobody}
 use Rattle.executive.specs.Check.{is_nobody}

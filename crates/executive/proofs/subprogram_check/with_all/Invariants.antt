@@ -1,13 +1,9 @@
-use lib.ListN.{drop, length, length-map}
+use lib.ListN.{drop}
 use lib.Dec.{eqb}
-use mathlib.Core.Path.{◌≡◌, refl, sym, ◌∙◌}
-use native.Mathlib.Omega.{arith}
+use mathlib.Core.Path.{◌≡◌}
 use Prim.Native.Nat.{◌≤◌, ◌-◌}
 use Rattle.executive.specs.Lists.{all_of, ◌and◌}
-use Rattle.executive.specs.Numbers.{most_tasks}
-use Rattle.executive.specs.Places.{nobody}
 use Rattle.executive.specs.Check.{is_nobody}
-use Rattle.executive.proofs.check.PutTogether.{every_put, every-done, or-none, none-begun}
 use Rattle.executive.proofs.subprogram_check.with_all.Given as goal
 
 abbrev pub invariant-loop-i : goal.invariant-loop-i

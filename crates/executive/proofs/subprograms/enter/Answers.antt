@@ -1,7 +1,6 @@
 use mathlib.Core.Path.{refl}
 use borrow.Author.Tests.{lt-ltb, le-ltb, eq-eqb, ne_eqb}
 use Rattle.executive.specs.Decisions.{enter_deed}
-use borrow.Author.Rules.{rules}
 use Rattle.executive.proofs.subprograms.enter.Goals as goal
 
 pub returns-then-m-gt7 : goal.returns-then-m-gt7

@@ -1,16 +1,11 @@
 use lib.ListN.{drop}
-use mathlib.Core.Path.{◌≡◌, refl, ◌∙◌, ap}
+use mathlib.Core.Path.{◌≡◌}
 use mathlib.Core.Bool.{Bool, not}
-use native.Mathlib.Omega.{arith}
-use borrow.Author.Tests.{eq-eqb, ne_eqb}
 use Prim.Native.Nat.{◌≤◌, ◌-◌}
-use mathlib.Core.List.{[]}
 use Rattle.records.specs.declared.TaskNo.{TaskNo}
 use Rattle.executive.specs.declared.Sub.{Sub}
 use Rattle.executive.specs.Lists.{all_of}
-use Rattle.executive.specs.Places.{nobody}
-use Rattle.executive.specs.Subprograms.{holds?, holds_any_of}
-use Rattle.executive.proofs.Lists.Loops.{every-turn, every-not, every-end}
+use Rattle.executive.specs.Subprograms.{holds?}
 use Rattle.executive.proofs.subprograms.holds_any.Given as goal
 
 abbrev pub other : TaskNo → Sub → Bool

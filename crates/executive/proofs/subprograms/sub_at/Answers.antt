@@ -4,7 +4,6 @@ use lib.ListN.{get_or-eq_default}
 use Rattle.executive.specs.Lists.{pad}
 use Rattle.executive.specs.Subprograms.{no_subprogram}
 use Rattle.executive.proofs.Lists.Arrays.{get_d_within}
-use borrow.Author.Rules.{rules}
 use Rattle.executive.proofs.subprograms.sub_at.Goals as goal
 
 pub returns-then-m-gt7 : goal.returns-then-m-gt7

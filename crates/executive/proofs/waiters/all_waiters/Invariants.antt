@@ -1,13 +1,9 @@
-use mathlib.Core.Path.{◌≡◌, sym, ◌∙◌}
-use native.Mathlib.Omega.{arith}
+use mathlib.Core.Path.{◌≡◌}
 use Prim.Native.Nat.{◌≤◌, ◌-◌}
 use mathlib.Core.Bool.{true}
-use borrow.Author.Tests.{not-true, not-false}
 use lib.ListN.{take}
 use Rattle.executive.specs.Lists.{up_to}
 use Rattle.executive.specs.Check.{waiters_at}
-use Rattle.executive.proofs.Lists.Loops.{all_none, all_more, all-not}
-use Rattle.executive.proofs.check.Passes.{at_next}
 use Rattle.executive.proofs.waiters.all_waiters.Given as goal
 
 abbrev pub invariant-loop-k : goal.invariant-loop-k

@@ -1,5 +1,4 @@
 use borrow.Author.Tests.{eq-eqb, ne_eqb}
-use borrow.Author.Rules.{rules}
 use Rattle.executive.proofs.waiters.is_quiet.Goals as goal
 
 pub returns-then-kind-eq-AWAIT_START : goal.returns-then-kind-eq-AWAIT_START

@@ -1,9 +1,7 @@
-use lib.ListN.{take, drop}
 use mathlib.Core.Path.{◌≡◌}
 use native.Mathlib.Omega.{arith}
-use borrow.Author.Rules.{rules}
-use Prim.Native.Nat.{ℕ, ◌≤◌, ◌+◌}
-use Rattle.executive.specs.Check.{link_of, links_in}
+use Prim.Native.Nat.{ℕ}
+use Rattle.executive.specs.Check.{link_of}
 use Rattle.executive.proofs.Lists.Loops.{one-le, tally_start, tally_turn}
 use lib.Dec.{eqb}
 use Rattle.executive.specs.Lists.{one}

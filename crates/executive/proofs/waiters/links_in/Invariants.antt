@@ -1,14 +1,7 @@
 use lib.ListN.{take, drop}
 use mathlib.Core.Path.{◌≡◌}
-use native.Mathlib.Omega.{arith}
-use borrow.Author.Rules.{rules}
-use Prim.Native.Nat.{ℕ, ◌≤◌, ◌+◌}
-use Rattle.executive.specs.Check.{link_of, links_in}
-use Rattle.executive.proofs.Lists.Loops.{one-le, tally_start, tally_turn}
-use lib.Dec.{eqb}
-use Rattle.executive.specs.Lists.{one}
-use Rattle.executive.specs.declared.Request.{Request}
-use Rattle.executive.specs.Places.{no_request}
+use Prim.Native.Nat.{◌≤◌, ◌+◌}
+use Rattle.executive.specs.Check.{links_in}
 use Rattle.executive.proofs.waiters.links_in.Given as goal
 
 abbrev pub invariant-loop-i : goal.invariant-loop-i

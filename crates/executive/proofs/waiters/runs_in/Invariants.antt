@@ -1,14 +1,7 @@
-use lib.ListN.{take, drop, get_or}
+use lib.ListN.{take, drop}
 use mathlib.Core.Path.{◌≡◌}
-use native.Mathlib.Omega.{arith}
-use Prim.Native.Nat.{ℕ, ◌≤◌, ◌-◌, ◌+◌}
-use Rattle.executive.proofs.Lists.Loops.{one-le, tally_start, tally_turn}
-use lib.Dec.{eqb}
-use Rattle.executive.specs.Lists.{one}
-use Rattle.executive.specs.declared.Task.{Task}
-use Rattle.executive.specs.Places.{no_task}
+use Prim.Native.Nat.{◌≤◌, ◌+◌}
 use Rattle.executive.specs.WellFormed.{runs_of}
-use lib.Seq.{take_all}
 use Rattle.executive.proofs.waiters.runs_in.Given as goal
 
 abbrev pub invariant-loop-i : goal.invariant-loop-i

@@ -7,7 +7,6 @@ use Rattle.executive.specs.States.{await_start, is}
 use Rattle.executive.specs.WellFormed.{starts_of}
 use native.Mathlib.Nat.{add-zero}
 use borrow.Author.Tests.{eq-eqb, ne_eqb}
-use borrow.Author.Rules.{rules}
 use Rattle.executive.proofs.waiters.waiters_at.Goals as goal
 
 pub links_in-starts-requires : goal.links_in-starts-requires

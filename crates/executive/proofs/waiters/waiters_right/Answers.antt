@@ -1,8 +1,6 @@
 use mathlib.Core.Path.{sym, ◌∙◌}
-use borrow.Author.Tests.{not-false}
 use lib.ListN.{take}
 use Rattle.executive.proofs.check.Passes.{quiet-right}
-use borrow.Author.Rules.{rules}
 use Rattle.executive.proofs.waiters.waiters_right.Goals as goal
 
 pub returns-then-not-all_quiet : goal.returns-then-not-all_quiet

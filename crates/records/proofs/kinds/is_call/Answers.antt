@@ -1,5 +1,4 @@
 -- `kinds::is_call` meets its contract: each arm's kind picks its row of the table.
-use borrow.Author.Rules.{rules}
 use Rattle.records.proofs.kinds.is_call.Goals as goal
 
 pub returns-in-Unknown : goal.returns-in-Unknown

@@ -1,5 +1,4 @@
 -- `kinds::length_of` meets its contract: each arm's kind picks its row of the table.
-use borrow.Author.Rules.{rules}
 use Rattle.records.proofs.kinds.length_of.Goals as goal
 
 pub returns-in-Unknown : goal.returns-in-Unknown

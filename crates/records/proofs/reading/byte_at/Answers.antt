@@ -1,7 +1,6 @@
 -- `reading::byte_at` meets its contract: past the end the definition says 0 too.
 use mathlib.Core.Path.{sym}
 use lib.ListN.{get_or-eq_default}
-use borrow.Author.Rules.{rules}
 use Rattle.records.proofs.reading.byte_at.Goals as goal
 
 pub returns : goal.returns

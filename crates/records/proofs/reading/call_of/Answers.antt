@@ -1,6 +1,5 @@
 -- `reading::call_of` meets its contract: each arm's kind picks its row of the table, whose widths say which bytes are
 -- which number.
-use borrow.Author.Rules.{rules}
 use Rattle.records.proofs.reading.call_of.Goals as goal
 
 pub returns-in-Restart : goal.returns-in-Restart

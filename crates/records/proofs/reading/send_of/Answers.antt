@@ -1,7 +1,6 @@
 -- `reading::send_of` meets its contract: each number's bytes stand where the row's widths say.
 use mathlib.Core.Path.{ap}
 use lib.ListN.{get_or}
-use borrow.Author.Rules.{rules}
 use Rattle.records.specs.declared.Call.TheVariants as call
 use Rattle.records.specs.declared.Got.TheVariants as got
 use Rattle.records.proofs.Numbers.{halves}

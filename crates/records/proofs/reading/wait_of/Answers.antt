@@ -1,13 +1,12 @@
 -- `reading::wait_of` meets its contract: each number's bytes stand where the row's widths say.
-use borrow.Author.Rules.{rules}
 use Rattle.records.proofs.reading.wait_of.Goals as goal
 
 pub returns : goal.returns
 returns c = rw (
-      c.word.ensures,
-      c.byte_at-b.ensures,
-      c.byte_at-c.ensures,
-      c.byte_at.ensures,
-      c.byte_at-2.ensures,
-      c.byte_at-3.ensures,
-    )
+  c.word.ensures,
+  c.byte_at-b.ensures,
+  c.byte_at-c.ensures,
+  c.byte_at.ensures,
+  c.byte_at-2.ensures,
+  c.byte_at-3.ensures,
+)

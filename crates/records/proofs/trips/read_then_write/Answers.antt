@@ -2,7 +2,6 @@
 -- themselves.
 use mathlib.Core.Path.{sym, ◌∙◌}
 use native.Mathlib.Omega.{arith}
-use borrow.Author.Rules.{rules}
 use Rattle.records.specs.Numbers.{Bytes}
 use Rattle.records.proofs.RoundTrips.{again-call, again-out, again-refused, again_kept}
 use Rattle.records.proofs.trips.read_then_write.Goals as goal

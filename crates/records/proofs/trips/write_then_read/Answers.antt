@@ -7,7 +7,6 @@ use native.Mathlib.Omega.{arith}
 use lib.ListN.{length, replicate}
 use lib.Seq.{length-take-le}
 use lib.Dec.{lit≤}
-use borrow.Author.Rules.{rules}
 use Rattle.records.specs.Reading.{read_of}
 use Rattle.records.specs.Writing.{bytes_of}
 use Rattle.records.proofs.writing.Laws.{bytes-short, write_length, write_never, out-start}

@@ -4,7 +4,6 @@ use mathlib.Core.Path.{◌≡◌, refl}
 use mathlib.Core.List.{List}
 use lib.ListN.{length, take}
 use lib.Dec.{lit≤}
-use borrow.Author.Rules.{rules}
 use Rattle.records.specs.Writing.{bytes_of, Encodes}
 use Rattle.records.specs.declared.Call.{Call}
 use Rattle.records.proofs.writing.encode.Goals as goal

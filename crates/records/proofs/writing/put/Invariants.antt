@@ -1,11 +1,8 @@
 -- `writing::put` meets its contract. The invariant: the first i bytes are those to copy, and the rest are out's own.
 use Prim.Native.Nat.{◌≤◌, ◌-◌}
-use mathlib.Core.Path.{◌≡◌, ap, ◌∙◌}
+use mathlib.Core.Path.{◌≡◌}
 use mathlib.Core.List.{◌++◌}
-use native.Mathlib.Omega.{arith}
-use lib.ListN.{length, take, drop, set, get_or, length-set}
-use Rattle.records.proofs.writing.Laws.{copy_more}
-use borrow.Author.Rules.{rules}
+use lib.ListN.{length, take, drop}
 use Rattle.records.proofs.writing.put.Given as goal
 
 abbrev pub invariant-loop-i : goal.invariant-loop-i

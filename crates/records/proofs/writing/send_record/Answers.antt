@@ -2,7 +2,6 @@
 use mathlib.Core.Path.{refl, ap}
 use mathlib.Core.List.{◌∷◌}
 use lib.Dec.{lit≤}
-use borrow.Author.Rules.{rules}
 use Rattle.records.proofs.Numbers.{eight}
 use Rattle.records.proofs.writing.send_record.Goals as goal
 

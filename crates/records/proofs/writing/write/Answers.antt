@@ -4,7 +4,6 @@ use mathlib.Core.Path.{ap, ◌∙◌}
 use mathlib.Core.List.{◌++◌}
 use native.Mathlib.Omega.{arith}
 use lib.ListN.{length, drop}
-use borrow.Author.Rules.{rules}
 use Rattle.records.specs.Writing.{bytes_of}
 use Rattle.records.specs.declared.Written.TheVariants as written
 use Rattle.records.proofs.writing.Laws.{write_refused, out-kept, write_done, out-done}
