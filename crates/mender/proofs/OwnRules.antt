@@ -1,6 +1,6 @@
 -- The own rules of an entry: what it says that none is broken, both ways; which entries break none; and the rule that is
 -- broken first, in the table's terms.
-use Prim.Native.Nat.{ℕ, zero, suc, ◌-◌, ◌≤◌, ◌<◌}
+use Prim.Native.Nat.{ℕ, zero, suc, ◌≤◌, ◌<◌}
 use mathlib.Core.Path.{◌≡◌, refl, sym, ap, ◌∙◌}
 use mathlib.Core.Bool.{Bool, true, false, cond}
 use mathlib.Core.Logic.{◌≢◌, inl, inr}
@@ -20,7 +20,6 @@ use Rattle.executive.specs.Numbers.{most_tasks, highest, last_sub}
 use Rattle.executive.specs.Lists.{one, ◌and◌, all_of}
 use Rattle.executive.specs.Places.{no_task, task_at}
 use Rattle.executive.specs.States.{await_sub, await_message, state_kind, awaited_of, is_of, is_dormant}
-use Rattle.executive.specs.Flags.{met}
 use Rattle.executive.specs.Entries.{with_state}
 use Rattle.executive.specs.Messages.{no_mail, fits, mail_at}
 use Rattle.executive.specs.WellFormed.{fitting}

@@ -20,7 +20,7 @@ use Rattle.executive.specs.Lists.{one, sum_of, pad}
 use Rattle.executive.specs.Queue.{count}
 use Rattle.executive.specs.Places.{nobody, never, task_at}
 use Rattle.executive.specs.States.{dormant, ready, await_sub, awaited_of, is_of, is, is_dormant, is_ready, waits_for}
-use Rattle.executive.specs.Table.{items, line}
+use Rattle.executive.specs.Table.{items}
 use Rattle.executive.specs.Pool.{requests}
 use Rattle.executive.specs.Messages.{no_message, letters, fits, mail_at}
 use Rattle.executive.specs.Subprograms.{no_subprogram, sub_at, held_by}

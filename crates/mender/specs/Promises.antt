@@ -1,8 +1,7 @@
 -- What is promised of the mending of a table.
-use Rattle.std.specs.Prelude.{ℕ, suc, ◌≤◌, ◌<◌, ◌≡◌, ◌↔◌, ◌≢◌, ◌⊎◌, Bool, true, cond, ◌||◌, List, [], ◌∷◌, map, eqb, leb, ltb, length, get_or, take}
+use Rattle.std.specs.Prelude.{ℕ, suc, ◌≤◌, ◌<◌, ◌≡◌, ◌↔◌, ◌≢◌, ◌⊎◌, Bool, true, cond, ◌||◌, List, [], ◌∷◌, map, eqb, leb, ltb, get_or, take}
 use Rattle.executive.specs.declared.State.{State}
 use Rattle.executive.specs.declared.State.TheVariants.{Dormant, Ready}
-use Rattle.executive.specs.declared.Task.{Task}
 use Rattle.executive.specs.declared.Request.{Request}
 use Rattle.executive.specs.declared.Message.{Message}
 use Rattle.executive.specs.declared.Table.{Table}

@@ -1,5 +1,4 @@
 use mathlib.Core.Path.{refl}
-use borrow.Author.Rules.{rules}
 use borrow.Author.Tests.{le-leb, lt-leb}
 use Rattle.executive.proofs.Assured.{and_false_left, and_true_left}
 use Rattle.mender.proofs.CodeTests.{task-none, task-past, task-is}

@@ -1,16 +1,16 @@
-use Prim.Native.Nat.{ℕ, ◌-◌, ◌≤◌}
-use mathlib.Core.Path.{◌≡◌, refl, ap, ◌∙◌}
+use Prim.Native.Nat.{ℕ}
+use mathlib.Core.Path.{refl, ap, ◌∙◌}
 use mathlib.Core.Bool.{cond}
 use mathlib.Core.List.{List}
 use native.Mathlib.Omega.{arith}
-use lib.ListN.{take, get_or}
+use lib.ListN.{get_or}
 use Rattle.executive.specs.Messages.{no_message}
 use Rattle.executive.specs.Check.{message_in_range}
 use Rattle.executive.specs.declared.Message.{Message}
 use Rattle.executive.specs.Lists.{pad}
 use Rattle.executive.specs.Letters.{all_that}
 use Rattle.mender.specs.declared.closing.Posted.{Posted}
-use Rattle.mender.specs.Passes.{posted_of, posted_with}
+use Rattle.mender.specs.Passes.{posted_with}
 use Rattle.mender.proofs.Filters.{passed-few}
 use Rattle.mender.proofs.CodeRows.{closing_turn, closing_end}
 use Rattle.mender.proofs.closing.kept_messages.Goals as goal

@@ -1,15 +1,15 @@
-use Prim.Native.Nat.{ℕ, ◌-◌, ◌≤◌}
-use mathlib.Core.Path.{◌≡◌, refl, ap, ◌∙◌}
+use Prim.Native.Nat.{ℕ}
+use mathlib.Core.Path.{refl, ap, ◌∙◌}
 use mathlib.Core.Bool.{cond}
 use mathlib.Core.List.{List}
 use native.Mathlib.Omega.{arith}
-use lib.ListN.{take, get_or}
+use lib.ListN.{get_or}
 use Rattle.executive.specs.Places.{no_request}
 use Rattle.executive.specs.declared.Request.{Request}
 use Rattle.executive.specs.Lists.{pad}
 use Rattle.executive.specs.Letters.{all_that}
 use Rattle.mender.specs.declared.closing.Pooled.{Pooled}
-use Rattle.mender.specs.Passes.{pooled_of, pooled_with, keeps_request}
+use Rattle.mender.specs.Passes.{pooled_with, keeps_request}
 use Rattle.mender.proofs.Filters.{passed-few}
 use Rattle.mender.proofs.CodeRows.{closing_turn, closing_end}
 use Rattle.mender.proofs.closing.kept_requests.Goals as goal

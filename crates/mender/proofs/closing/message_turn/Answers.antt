@@ -1,6 +1,4 @@
 use mathlib.Core.Path.{refl, sym, ◌∙◌}
-use borrow.Author.Rules.{rules}
-use borrow.Author.Tests.{not-true, not-false}
 use Rattle.mender.proofs.CodeTests.{yes, no}
 use Rattle.mender.proofs.closing.message_turn.Goals as goal
 

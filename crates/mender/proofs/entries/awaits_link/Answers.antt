@@ -1,5 +1,4 @@
 use mathlib.Core.Path.{sym, ◌∙◌}
-use borrow.Author.Rules.{rules}
 use Rattle.mender.proofs.entries.awaits_link.Goals as goal
 
 pub returns-then-is_of : goal.returns-then-is_of

@@ -1,5 +1,4 @@
 use mathlib.Core.Path.{refl}
-use borrow.Author.Rules.{rules}
 use borrow.Author.Tests.{eq-eqb, ne_eqb, le-leb, lt-leb}
 use Rattle.mender.specs.Passes.{entry_after}
 use Rattle.mender.proofs.CodeTests.{yes, no}

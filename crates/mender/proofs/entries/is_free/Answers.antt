@@ -1,7 +1,6 @@
 use mathlib.Core.Path.{refl, ap}
 use native.Mathlib.Omega.{arith}
 use lib.ListN.{get_or-eq_default}
-use borrow.Author.Rules.{rules}
 use Rattle.executive.specs.declared.Sub.{Sub}
 use Rattle.executive.specs.Check.{is_nobody}
 use Rattle.executive.specs.Subprograms.{no_subprogram}

@@ -1,6 +1,4 @@
 use mathlib.Core.Path.{refl, sym, ◌∙◌}
-use borrow.Author.Rules.{rules}
-use borrow.Author.Tests.{not-true, not-false}
 use Rattle.executive.proofs.Assured.{and_false_left, and_true_left}
 use Rattle.mender.specs.Passes.{is_lost}
 use Rattle.mender.proofs.CodeTests.{yes, no}

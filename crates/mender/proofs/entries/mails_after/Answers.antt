@@ -1,11 +1,9 @@
-use Prim.Native.Nat.{suc, ◌-◌, ◌≤◌}
-use mathlib.Core.Path.{◌≡◌, refl}
-use mathlib.Core.List.{◌++◌}
+use Prim.Native.Nat.{suc}
+use mathlib.Core.Path.{refl}
 use native.Mathlib.Omega.{arith}
-use lib.ListN.{take, drop, get_or}
-use borrow.Author.Rules.{rules}
+use lib.ListN.{get_or}
 use Rattle.executive.specs.Messages.{no_mail}
-use Rattle.mender.specs.Passes.{mail_after, mails_after}
+use Rattle.mender.specs.Passes.{mail_after}
 use Rattle.mender.proofs.CodeRows.{number-turn}
 use Rattle.mender.proofs.Rows.{row-end}
 use Rattle.mender.proofs.entries.mails_after.Goals as goal

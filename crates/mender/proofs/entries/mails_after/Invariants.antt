@@ -1,13 +1,8 @@
-use Prim.Native.Nat.{suc, ◌-◌, ◌≤◌}
-use mathlib.Core.Path.{◌≡◌, refl}
+use Prim.Native.Nat.{◌-◌, ◌≤◌}
+use mathlib.Core.Path.{◌≡◌}
 use mathlib.Core.List.{◌++◌}
-use native.Mathlib.Omega.{arith}
-use lib.ListN.{take, drop, get_or}
-use borrow.Author.Rules.{rules}
-use Rattle.executive.specs.Messages.{no_mail}
-use Rattle.mender.specs.Passes.{mail_after, mails_after}
-use Rattle.mender.proofs.CodeRows.{number-turn}
-use Rattle.mender.proofs.Rows.{row-end}
+use lib.ListN.{take, drop}
+use Rattle.mender.specs.Passes.{mails_after}
 use Rattle.mender.proofs.entries.mails_after.Given as goal
 
 abbrev pub invariant-loop-i : goal.invariant-loop-i

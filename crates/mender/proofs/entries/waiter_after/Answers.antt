@@ -1,5 +1,4 @@
 use mathlib.Core.Path.{refl, sym, ◌∙◌}
-use borrow.Author.Rules.{rules}
 use Rattle.mender.specs.Passes.{waiter_after}
 use Rattle.mender.proofs.CodeTests.{yes, no}
 use Rattle.mender.proofs.entries.waiter_after.Goals as goal

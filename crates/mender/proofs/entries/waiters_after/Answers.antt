@@ -1,12 +1,9 @@
-use Prim.Native.Nat.{◌-◌, ◌≤◌}
-use mathlib.Core.Path.{◌≡◌, refl}
+use mathlib.Core.Path.{refl}
 use mathlib.Core.Bool.{false}
-use mathlib.Core.List.{◌++◌}
 use native.Mathlib.Omega.{arith}
-use lib.ListN.{take, drop, get_or}
-use borrow.Author.Rules.{rules}
+use lib.ListN.{get_or}
 use Rattle.executive.specs.Places.{no_task}
-use Rattle.mender.specs.Passes.{waiter_after, waiters_after}
+use Rattle.mender.specs.Passes.{waiter_after}
 use Rattle.mender.proofs.Rows.{row-turn, row-end}
 use Rattle.mender.proofs.entries.waiters_after.Goals as goal
 

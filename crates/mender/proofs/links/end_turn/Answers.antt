@@ -1,5 +1,4 @@
 use mathlib.Core.Path.{refl, sym, ◌∙◌}
-use borrow.Author.Rules.{rules}
 use borrow.Author.Tests.{eq-eqb, ne_eqb}
 use Rattle.executive.specs.Check.{is_nobody}
 use Rattle.executive.proofs.Assured.{true_and, and_false_left, and_false_right}
@@ -17,9 +16,9 @@ unfolding end_turn
 returns c =
     let q = c.args.a.request in
     elim c.else-q-eq0.branch [
-      else-q-eq0-via-then-q-eq0+else-stands w ↦
-        no _ _ _ (sym (and_false_right (is_nobody q.start_waiter) _ (sym (sym w.stands.ensures ∙ w.if-stands.false))))
-        (rw c.endless-request.ensures refl)
-    | else-q-eq0-via-else-q-eq0 w ↦
-        no _ _ _ (sym (and_false_left _ _ (ne_eqb _ _ w.if-q-eq0.false))) (rw c.endless-request.ensures refl)
+      | else-q-eq0-via-then-q-eq0+else-stands w ↦
+          no _ _ _ (sym (and_false_right (is_nobody q.start_waiter) _ (sym (sym w.stands.ensures ∙ w.if-stands.false))))
+          (rw c.endless-request.ensures refl)
+      | else-q-eq0-via-else-q-eq0 w ↦
+          no _ _ _ (sym (and_false_left _ _ (ne_eqb _ _ w.if-q-eq0.false))) (rw c.endless-request.ensures refl)
     ]

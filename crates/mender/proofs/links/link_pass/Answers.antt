@@ -1,5 +1,4 @@
 use mathlib.Core.Path.{refl}
-use borrow.Author.Rules.{rules}
 use Rattle.mender.specs.Passes.{link_pass}
 use Rattle.mender.proofs.links.link_pass.Goals as goal
 

@@ -1,7 +1,5 @@
-use Prim.Native.Nat.{◌-◌, ◌≤◌}
-use mathlib.Core.Path.{◌≡◌, refl, sym, ◌∙◌}
+use mathlib.Core.Path.{refl, sym, ◌∙◌}
 use native.Mathlib.Omega.{arith}
-use Rattle.executive.specs.Lists.{each}
 use Rattle.executive.proofs.Assured.{each_turn, each-end}
 use Rattle.mender.specs.Passes.{request_turn, linked_requests}
 use Rattle.mender.proofs.links.linked_requests.Goals as goal

@@ -1,9 +1,7 @@
 use Prim.Native.Nat.{◌-◌, ◌≤◌}
-use mathlib.Core.Path.{◌≡◌, refl, sym, ◌∙◌}
-use native.Mathlib.Omega.{arith}
+use mathlib.Core.Path.{◌≡◌}
 use Rattle.executive.specs.Lists.{each}
-use Rattle.executive.proofs.Assured.{each_turn, each-end}
-use Rattle.mender.specs.Passes.{request_turn, linked_requests}
+use Rattle.mender.specs.Passes.{request_turn}
 use Rattle.mender.proofs.links.linked_requests.Given as goal
 
 abbrev pub invariant-loop-i : goal.invariant-loop-i

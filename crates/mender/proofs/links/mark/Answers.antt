@@ -1,5 +1,4 @@
 use mathlib.Core.Path.{sym}
-use borrow.Author.Rules.{rules}
 use Rattle.mender.proofs.CodeLinks.{mark-place, mark-no-place}
 use Rattle.mender.proofs.links.mark.Goals as goal
 

@@ -1,5 +1,4 @@
 use mathlib.Core.Path.{sym}
-use borrow.Author.Rules.{rules}
 use Rattle.mender.proofs.CodeLinks.{named-place, named-no-place}
 use Rattle.mender.proofs.links.named_at.Goals as goal
 

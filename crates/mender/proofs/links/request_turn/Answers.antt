@@ -1,5 +1,4 @@
 use mathlib.Core.Path.{refl}
-use borrow.Author.Rules.{rules}
 use Rattle.mender.specs.Passes.{request_turn}
 use Rattle.mender.proofs.links.request_turn.Goals as goal
 

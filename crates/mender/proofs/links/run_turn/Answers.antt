@@ -1,4 +1,3 @@
-use borrow.Author.Rules.{rules}
 use Rattle.mender.proofs.CodeLinks.{run-stands, run_ends}
 use Rattle.mender.proofs.links.run_turn.Goals as goal
 

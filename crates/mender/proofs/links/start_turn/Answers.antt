@@ -1,5 +1,4 @@
 use mathlib.Core.Path.{refl, sym, ◌∙◌}
-use borrow.Author.Rules.{rules}
 use Rattle.mender.specs.Passes.{start_turn}
 use Rattle.mender.proofs.CodeTests.{yes, no}
 use Rattle.mender.proofs.links.start_turn.Goals as goal

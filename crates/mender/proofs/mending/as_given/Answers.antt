@@ -1,5 +1,4 @@
 use mathlib.Core.Path.{refl}
-use borrow.Author.Rules.{rules}
 use Rattle.mender.proofs.mending.as_given.Goals as goal
 
 pub returns : goal.returns

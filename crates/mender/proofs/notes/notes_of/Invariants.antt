@@ -1,12 +1,8 @@
-use Prim.Native.Nat.{◌+◌, ◌-◌, ◌≤◌}
-use mathlib.Core.Path.{◌≡◌, sym, ap, ◌∙◌}
-use native.Mathlib.Omega.{arith}
-use borrow.Author.Rules.{rules}
+use Prim.Native.Nat.{◌-◌, ◌≤◌}
+use mathlib.Core.Path.{◌≡◌}
 use Rattle.executive.specs.Lists.{each}
-use Rattle.executive.proofs.Assured.{each_turn, each-end}
-use Rattle.mender.specs.declared.notes.Notes.{Notes}
 use Rattle.mender.specs.Listing.{noted_of, note_turn, notes_of}
-use Rattle.mender.proofs.CodeNotes.{standing, notes_on}
+use Rattle.mender.proofs.CodeNotes.{standing}
 use Rattle.mender.proofs.notes.notes_of.Given as goal
 
 abbrev pub invariant-loop-i : goal.invariant-loop-i

@@ -1,5 +1,4 @@
 use mathlib.Core.Path.{refl}
-use borrow.Author.Rules.{rules}
 use borrow.Author.Tests.{eq-eqb, ne_eqb}
 use Rattle.mender.proofs.CodeTests.{yes, no}
 use Rattle.mender.proofs.notes.with_note.Goals as goal

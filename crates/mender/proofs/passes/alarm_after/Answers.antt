@@ -1,5 +1,4 @@
 use mathlib.Core.Path.{refl, sym, ◌∙◌}
-use borrow.Author.Rules.{rules}
 use Rattle.mender.proofs.CodeTests.{yes, no}
 use Rattle.mender.proofs.passes.alarm_after.Goals as goal
 

@@ -1,11 +1,8 @@
-use Prim.Native.Nat.{◌-◌, ◌≤◌}
-use mathlib.Core.Path.{◌≡◌, refl}
-use mathlib.Core.List.{◌++◌}
+use mathlib.Core.Path.{refl}
 use native.Mathlib.Omega.{arith}
-use lib.ListN.{take, drop, get_or}
-use borrow.Author.Rules.{rules}
+use lib.ListN.{get_or}
 use Rattle.executive.specs.Places.{never}
-use Rattle.mender.specs.Passes.{alarm_after, alarms_after}
+use Rattle.mender.specs.Passes.{alarm_after}
 use Rattle.mender.proofs.Rows.{row-turn, row-end}
 use Rattle.mender.proofs.passes.alarms_after.Goals as goal
 

@@ -1,12 +1,8 @@
 use Prim.Native.Nat.{◌-◌, ◌≤◌}
-use mathlib.Core.Path.{◌≡◌, refl}
+use mathlib.Core.Path.{◌≡◌}
 use mathlib.Core.List.{◌++◌}
-use native.Mathlib.Omega.{arith}
-use lib.ListN.{take, drop, get_or}
-use borrow.Author.Rules.{rules}
-use Rattle.executive.specs.Places.{never}
-use Rattle.mender.specs.Passes.{alarm_after, alarms_after}
-use Rattle.mender.proofs.Rows.{row-turn, row-end}
+use lib.ListN.{take, drop}
+use Rattle.mender.specs.Passes.{alarms_after}
 use Rattle.mender.proofs.passes.alarms_after.Given as goal
 
 abbrev pub invariant-loop-i : goal.invariant-loop-i

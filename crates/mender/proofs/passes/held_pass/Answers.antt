@@ -1,5 +1,4 @@
 use mathlib.Core.Path.{refl}
-use borrow.Author.Rules.{rules}
 use Rattle.mender.specs.Passes.{held_pass}
 use Rattle.mender.proofs.passes.held_pass.Goals as goal
 

@@ -1,5 +1,4 @@
 use mathlib.Core.Path.{refl}
-use borrow.Author.Rules.{rules}
 use Rattle.mender.specs.Passes.{queued_pass}
 use Rattle.mender.proofs.passes.queued_pass.Goals as goal
 

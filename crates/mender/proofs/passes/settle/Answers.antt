@@ -1,5 +1,4 @@
 use mathlib.Core.Path.{refl}
-use borrow.Author.Rules.{rules}
 use Rattle.mender.specs.Rounds.{settled}
 use Rattle.mender.proofs.passes.settle.Goals as goal
 

@@ -1,5 +1,4 @@
 use mathlib.Core.Path.{sym, ◌∙◌}
-use borrow.Author.Rules.{rules}
 use Rattle.mender.proofs.CodeLinks.{sub-kept, sub-freed}
 use Rattle.mender.proofs.passes.sub_after.Goals as goal
 

@@ -1,12 +1,9 @@
-use Prim.Native.Nat.{◌-◌, ◌≤◌}
-use mathlib.Core.Path.{◌≡◌, refl, ap, ◌∙◌}
-use mathlib.Core.List.{◌++◌}
+use mathlib.Core.Path.{refl, ap, ◌∙◌}
 use native.Mathlib.Omega.{arith}
-use lib.ListN.{take, drop, get_or}
-use borrow.Author.Rules.{rules}
+use lib.ListN.{get_or}
 use Rattle.executive.specs.Subprograms.{no_subprogram}
 use Rattle.executive.proofs.Assured.{get_d_within}
-use Rattle.mender.specs.Passes.{sub_after, subs_after}
+use Rattle.mender.specs.Passes.{sub_after}
 use Rattle.mender.proofs.Rows.{row-turn, row-end}
 use Rattle.mender.proofs.passes.subs_after.Goals as goal
 

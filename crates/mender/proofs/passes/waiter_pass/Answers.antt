@@ -1,5 +1,4 @@
 use mathlib.Core.Path.{refl}
-use borrow.Author.Rules.{rules}
 use Rattle.mender.specs.Passes.{waiter_pass}
 use Rattle.mender.proofs.passes.waiter_pass.Goals as goal
 

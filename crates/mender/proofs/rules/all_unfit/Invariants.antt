@@ -1,12 +1,7 @@
 use Prim.Native.Nat.{◌-◌, ◌≤◌}
-use mathlib.Core.Path.{◌≡◌, refl, sym, ap, ◌∙◌}
-use mathlib.Core.Bool.{not}
-use native.Mathlib.Omega.{arith}
+use mathlib.Core.Path.{◌≡◌}
 use lib.ListN.{drop}
-use borrow.Author.Rules.{rules}
 use Rattle.executive.specs.Lists.{all_of}
-use Rattle.executive.specs.Messages.{no_message}
-use Rattle.executive.proofs.Assured.{every-turn, every-not, every-end}
 use Rattle.mender.specs.Rules.{unfit}
 use Rattle.mender.proofs.rules.all_unfit.Given as goal
 

@@ -1,6 +1,5 @@
 use mathlib.Core.Path.{refl, sym, ◌∙◌}
-use borrow.Author.Rules.{rules}
-use borrow.Author.Tests.{le-leb, lt-leb, not-true, not-false}
+use borrow.Author.Tests.{le-leb, lt-leb}
 use Rattle.mender.specs.Rules.{first_broken}
 use Rattle.mender.proofs.CodeTests.{yes, no}
 use Rattle.mender.proofs.rules.first_broken.Goals as goal

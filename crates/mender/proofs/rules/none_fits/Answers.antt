@@ -1,6 +1,4 @@
 use mathlib.Core.Path.{sym, ◌∙◌}
-use borrow.Author.Rules.{rules}
-use borrow.Author.Tests.{not-true, not-false}
 use Rattle.mender.proofs.rules.none_fits.Goals as goal
 
 pub returns-then-not-is_of : goal.returns-then-not-is_of

@@ -1,5 +1,4 @@
 use mathlib.Core.Path.{refl, sym, ◌∙◌}
-use borrow.Author.Rules.{rules}
 use Rattle.executive.proofs.Assured.{and_false_left, and_true_left}
 use Rattle.mender.proofs.rules.numbers_kept.Goals as goal
 

@@ -1,4 +1,3 @@
-use borrow.Author.Rules.{rules}
 use borrow.Author.Tests.{le-leb, lt-leb}
 use Rattle.mender.specs.Rules.{own_rule}
 use Rattle.mender.proofs.CodeTests.{yes, no}

@@ -1,12 +1,9 @@
-use Prim.Native.Nat.{suc, ◌-◌, ◌≤◌}
-use mathlib.Core.Path.{◌≡◌, refl}
-use mathlib.Core.List.{◌++◌}
+use Prim.Native.Nat.{suc}
+use mathlib.Core.Path.{refl}
 use native.Mathlib.Omega.{arith}
-use lib.ListN.{take, drop, get_or, replicate}
-use borrow.Author.Rules.{rules}
+use lib.ListN.{get_or, replicate}
 use Rattle.executive.specs.Places.{no_task, task_at}
 use Rattle.executive.specs.Messages.{no_mail, mail_at}
-use Rattle.mender.specs.Rows.{row}
 use Rattle.mender.specs.Rules.{own_rule, own_rules}
 use Rattle.mender.proofs.CodeRows.{number-turn}
 use Rattle.mender.proofs.Rows.{row-end}

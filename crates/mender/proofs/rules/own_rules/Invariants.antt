@@ -1,15 +1,11 @@
 use Prim.Native.Nat.{suc, ◌-◌, ◌≤◌}
-use mathlib.Core.Path.{◌≡◌, refl}
+use mathlib.Core.Path.{◌≡◌}
 use mathlib.Core.List.{◌++◌}
-use native.Mathlib.Omega.{arith}
 use lib.ListN.{take, drop, get_or, replicate}
-use borrow.Author.Rules.{rules}
-use Rattle.executive.specs.Places.{no_task, task_at}
-use Rattle.executive.specs.Messages.{no_mail, mail_at}
+use Rattle.executive.specs.Places.{no_task}
+use Rattle.executive.specs.Messages.{no_mail}
 use Rattle.mender.specs.Rows.{row}
-use Rattle.mender.specs.Rules.{own_rule, own_rules}
-use Rattle.mender.proofs.CodeRows.{number-turn}
-use Rattle.mender.proofs.Rows.{row-end}
+use Rattle.mender.specs.Rules.{own_rule}
 use Rattle.mender.proofs.rules.own_rules.Given as goal
 
 abbrev pub invariant-loop-i : goal.invariant-loop-i

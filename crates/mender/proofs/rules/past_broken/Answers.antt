@@ -1,5 +1,4 @@
 use mathlib.Core.Path.{refl, sym, ◌∙◌}
-use borrow.Author.Rules.{rules}
 use Rattle.executive.specs.Check.{is_blank}
 use Rattle.executive.proofs.Assured.{true_and, and_false_left, and_false_right}
 use Rattle.mender.specs.Rules.{past_broken}
@@ -15,8 +14,8 @@ pub returns : goal.returns
 unfolding past_broken
 returns c =
     elim c.else-is_blank.branch [
-      else-is_blank-via-then-is_blank+else-is_no_mail w ↦
-        no _ _ _ (sym (and_false_right (is_blank c.args.e) _ (sym (sym w.is_no_mail.ensures ∙ w.if-is_no_mail.false)))) refl
-    | else-is_blank-via-else-is_blank w ↦
-        no _ _ _ (sym (and_false_left _ _ (sym c.is_blank.ensures ∙ w.if-is_blank.false))) refl
+      | else-is_blank-via-then-is_blank+else-is_no_mail w ↦
+          no _ _ _ (sym (and_false_right (is_blank c.args.e) _ (sym (sym w.is_no_mail.ensures ∙ w.if-is_no_mail.false)))) refl
+      | else-is_blank-via-else-is_blank w ↦
+          no _ _ _ (sym (and_false_left _ _ (sym c.is_blank.ensures ∙ w.if-is_blank.false))) refl
     ]

@@ -1,6 +1,4 @@
 use mathlib.Core.Path.{sym, ◌∙◌}
-use borrow.Author.Rules.{rules}
-use borrow.Author.Tests.{not-true, not-false}
 use Rattle.executive.proofs.Assured.{and_false_left, and_true_left}
 use Rattle.mender.proofs.rules.zeros_kept.Goals as goal
 

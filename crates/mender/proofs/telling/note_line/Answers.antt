@@ -1,6 +1,4 @@
-use Prim.Native.Nat.{◌-◌}
 use native.Mathlib.Omega.{arith}
-use borrow.Author.Rules.{rules}
 use Rattle.text.proofs.Assured.{promises, then, put_last}
 use Rattle.mender.specs.Telling.{note_line}
 use Rattle.mender.proofs.telling.note_line.Goals as goal

@@ -1,8 +1,5 @@
-use Prim.Native.Nat.{◌+◌, ◌-◌, ◌*◌, ◌≤◌}
 use mathlib.Core.Path.{◌≡◌, ap}
 use native.Mathlib.Omega.{arith}
-use borrow.Author.Rules.{rules}
-use Rattle.text.specs.Glyphs.{Adds}
 use Rattle.text.proofs.Assured.{nothing, then, named}
 use Rattle.mender.specs.Telling.{note_lines}
 use Rattle.mender.proofs.Told.{lines_none, lines_more}

@@ -1,11 +1,6 @@
 use Prim.Native.Nat.{◌+◌, ◌-◌, ◌*◌, ◌≤◌}
-use mathlib.Core.Path.{◌≡◌, ap}
-use native.Mathlib.Omega.{arith}
-use borrow.Author.Rules.{rules}
 use Rattle.text.specs.Glyphs.{Adds}
-use Rattle.text.proofs.Assured.{nothing, then, named}
 use Rattle.mender.specs.Telling.{note_lines}
-use Rattle.mender.proofs.Told.{lines_none, lines_more}
 use Rattle.mender.proofs.telling.note_lines.Given as goal
 
 abbrev pub invariant-loop-i : goal.invariant-loop-i

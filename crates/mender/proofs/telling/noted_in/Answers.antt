@@ -1,6 +1,4 @@
-use Prim.Native.Nat.{◌-◌}
 use native.Mathlib.Omega.{arith}
-use borrow.Author.Rules.{rules}
 use Rattle.mender.proofs.Told.{noted-most, noted-all}
 use Rattle.mender.proofs.telling.noted_in.Goals as goal
 

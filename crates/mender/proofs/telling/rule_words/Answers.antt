@@ -1,7 +1,5 @@
-use Prim.Native.Nat.{◌-◌}
 use mathlib.Core.Path.{sym, ap}
 use native.Mathlib.Omega.{arith}
-use borrow.Author.Rules.{rules}
 use Rattle.text.proofs.Assured.{named, put_last}
 use Rattle.mender.specs.Telling.{rule_words}
 use Rattle.mender.proofs.Told.{words_else}

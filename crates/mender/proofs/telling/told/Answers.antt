@@ -1,7 +1,5 @@
-use Prim.Native.Nat.{◌-◌}
 use mathlib.Core.Path.{sym, ap, ◌∙◌}
 use native.Mathlib.Omega.{arith}
-use borrow.Author.Rules.{rules}
 use Rattle.text.proofs.Assured.{named, put_last}
 use Rattle.mender.specs.Telling.{note_lines}
 use Rattle.mender.proofs.Told.{text-refused, text_same, text_unchanged, text-lines}

@@ -1,5 +1,4 @@
 -- `glyphs::bits` meets its contract: three digits as one text.
-use borrow.Author.Rules.{rules}
 use Rattle.text.proofs.glyphs.bits.Goals as goal
 
 pub returns : goal.returns

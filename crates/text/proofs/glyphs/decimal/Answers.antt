@@ -3,10 +3,9 @@ use Prim.Native.Nat.{◌+◌}
 use mathlib.Core.Path.{sym, ap, ◌∙◌}
 use lib.Dec.{leb}
 use lib.ListN.{length}
-use borrow.Author.Tests.{leb-true, leb-false, not-true, not-false}
+use borrow.Author.Tests.{leb-true, leb-false}
 use Rattle.text.specs.Glyphs.{decimal_of}
 use Rattle.text.proofs.Adding.{adds-puts, puts_none}
-use borrow.Author.Rules.{rules}
 use Rattle.text.proofs.glyphs.decimal.Goals as goal
 
 pub returns-then-not-has_room : goal.returns-then-not-has_room

@@ -1,10 +1,8 @@
 -- `glyphs::digit_count` meets its contract: the digits counted and those left are all of them.
-use native.Mathlib.Omega.{arith}
 use Prim.Native.Nat.{◌+◌, ◌≤◌, ◌<◌}
-use mathlib.Core.Path.{◌≡◌, ap}
+use mathlib.Core.Path.{◌≡◌}
 use lib.ListN.{length}
 use Rattle.text.specs.Glyphs.{decimal_of}
-use Rattle.text.proofs.Digits.{decimal_one, decimal_length, decimal_short}
 use Rattle.text.proofs.glyphs.digit_count.Given as goal
 
 abbrev pub invariant-loop-left : goal.invariant-loop-left

@@ -1,5 +1,4 @@
 -- `glyphs::hex` meets its contract: two digits as one text.
-use borrow.Author.Rules.{rules}
 use Rattle.text.proofs.glyphs.hex.Goals as goal
 
 pub returns : goal.returns

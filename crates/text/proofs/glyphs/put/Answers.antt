@@ -2,7 +2,6 @@
 use native.Mathlib.Omega.{arith}
 use mathlib.Core.List.{[], ◌∷◌}
 use Rattle.text.proofs.Adding.{one_byte, adds-puts, puts_none}
-use borrow.Author.Rules.{rules}
 use Rattle.text.proofs.glyphs.put.Goals as goal
 
 pub returns-then-out-at : goal.returns-then-out-at

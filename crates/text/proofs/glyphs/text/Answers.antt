@@ -1,13 +1,12 @@
 -- `glyphs::text` meets its contract: byte after byte, what has been put is added.
 use borrow.Author.Rules.{rules}
 use native.Mathlib.Omega.{arith}
-use Prim.Native.Nat.{◌+◌, ◌-◌, ◌≤◌, ◌<◌}
+use Prim.Native.Nat.{◌+◌, ◌≤◌, ◌<◌}
 use native.Mathlib.Numerals.{add-one}
 use mathlib.Core.Path.{sym, ◌∙◌}
-use lib.ListN.{length, take}
+use lib.ListN.{length}
 use lib.Seq.{take-suc, take_all, length-take-le}
-use borrow.Author.Tests.{leb-true, leb-false, not-true, not-false}
-use Rattle.text.specs.Glyphs.{Adds}
+use borrow.Author.Tests.{leb-true, leb-false}
 use Rattle.text.proofs.Adding.{nothing, then, adds-puts, puts-adds, puts_none}
 use Rattle.text.proofs.glyphs.text.Goals as goal
 

@@ -1,14 +1,7 @@
 -- `glyphs::text` meets its contract: byte after byte, what has been put is added.
-use borrow.Author.Rules.{rules}
-use native.Mathlib.Omega.{arith}
-use Prim.Native.Nat.{◌+◌, ◌-◌, ◌≤◌, ◌<◌}
-use native.Mathlib.Numerals.{add-one}
-use mathlib.Core.Path.{sym, ◌∙◌}
+use Prim.Native.Nat.{◌+◌, ◌-◌, ◌≤◌}
 use lib.ListN.{length, take}
-use lib.Seq.{take-suc, take_all, length-take-le}
-use borrow.Author.Tests.{leb-true, leb-false, not-true, not-false}
 use Rattle.text.specs.Glyphs.{Adds}
-use Rattle.text.proofs.Adding.{nothing, then, adds-puts, puts-adds, puts_none}
 use Rattle.text.proofs.glyphs.text.Given as goal
 
 abbrev pub invariant-loop-i : goal.invariant-loop-i

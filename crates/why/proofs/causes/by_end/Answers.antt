@@ -6,7 +6,6 @@ use lib.Seq.{length-take-le}
 use borrow.Author.Tests.{le-leb, lt-leb}
 use mathlib.Core.Bool.{false}
 use Rattle.why.specs.Causes.{named_at}
-use borrow.Author.Rules.{rules}
 use Rattle.why.proofs.causes.by_end.Goals as goal
 
 pub returns-then-queued-p : goal.returns-then-queued-p

@@ -1,7 +1,6 @@
 -- `causes::by_queue` meets its contract: nobody ahead is active.
 use mathlib.Core.Path.{refl}
 use borrow.Author.Tests.{eq-eqb, ne_eqb}
-use borrow.Author.Rules.{rules}
 use Rattle.why.proofs.causes.by_queue.Goals as goal
 
 pub returns-then-n-eq0 : goal.returns-then-n-eq0

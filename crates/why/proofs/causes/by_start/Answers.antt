@@ -1,6 +1,5 @@
 -- `causes::by_start` meets its contract.
 use mathlib.Core.Path.{refl}
-use borrow.Author.Rules.{rules}
 use Rattle.why.proofs.causes.by_start.Goals as goal
 
 pub returns : goal.returns

@@ -1,7 +1,6 @@
 -- `causes::cause_of` meets its contract: state by state.
 use mathlib.Core.Path.{refl, ◌∙◌}
 use Rattle.why.proofs.Causing.{ahead-items, cause-at}
-use borrow.Author.Rules.{rules}
 use Rattle.why.proofs.causes.cause_of.Goals as goal
 
 pub returns-in-Dormant : goal.returns-in-Dormant

@@ -5,7 +5,6 @@ use lib.ListN.{get_or-eq_default}
 use Rattle.executive.specs.declared.Sub.{Sub}
 use Rattle.executive.specs.Subprograms.{no_subprogram}
 use Rattle.why.proofs.Causing.{get_d_within}
-use borrow.Author.Rules.{rules}
 use Rattle.why.proofs.causes.holder_at.Goals as goal
 
 pub returns-then-m-gt7 : goal.returns-then-m-gt7

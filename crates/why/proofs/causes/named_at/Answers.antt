@@ -1,13 +1,11 @@
 -- `causes::named_at` meets its contract: request after request is looked at.
-use borrow.Author.Rules.{rules}
 use native.Mathlib.Omega.{arith}
-use Prim.Native.Nat.{◌-◌}
 use mathlib.Core.Path.{◌≡◌, sym, ap, ◌∙◌}
 use borrow.Author.Tests.{eq-eqb, ne_eqb}
 use lib.Dec.{eqb}
 use lib.ListN.{length, take}
 use lib.Seq.{get_or-take, length-take-le}
-use Rattle.why.proofs.Searching.{Looks, look-start, look_hit, look-on, look-over}
+use Rattle.why.proofs.Searching.{look-start, look_hit, look-on, look-over}
 use Rattle.executive.specs.declared.Request.{Request}
 use Rattle.executive.specs.Places.{no_request}
 use Rattle.why.specs.Causes.{waiter_of, named_at}

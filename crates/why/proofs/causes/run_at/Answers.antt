@@ -1,10 +1,8 @@
 -- `causes::run_at` meets its contract: run after run is looked at.
-use borrow.Author.Rules.{rules}
 use native.Mathlib.Omega.{arith}
-use Prim.Native.Nat.{◌-◌}
 use borrow.Author.Tests.{eq-eqb, ne_eqb}
 use lib.Dec.{eqb}
-use Rattle.why.proofs.Searching.{Looks, look-start, look_hit, look-on, look-over}
+use Rattle.why.proofs.Searching.{look-start, look_hit, look-on, look-over}
 use Rattle.executive.specs.declared.Task.{Task}
 use Rattle.executive.specs.Places.{no_task}
 use Rattle.why.specs.Causes.{run_at}

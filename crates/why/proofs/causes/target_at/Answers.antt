@@ -5,7 +5,6 @@ use lib.ListN.{take}
 use lib.Seq.{length-take-le}
 use Rattle.why.specs.Causes.{target_at}
 use Rattle.why.proofs.Causing.{target_none, target_past, target_in}
-use borrow.Author.Rules.{rules}
 use Rattle.why.proofs.causes.target_at.Goals as goal
 
 pub returns-then-place-eq0 : goal.returns-then-place-eq0

@@ -1,5 +1,4 @@
 -- `following::explain` meets its contract: the check, the task's number, and then the path.
-use borrow.Author.Rules.{rules}
 use native.Mathlib.Omega.{arith}
 use mathlib.Core.Path.{sym, ap, ◌∙◌}
 use Rattle.why.specs.Paths.{task_path, unmet}

@@ -1,6 +1,5 @@
 -- `telling::at_most` meets its contract: there are no more places.
 use native.Mathlib.Omega.{arith}
-use Prim.Native.Nat.{◌-◌}
 use mathlib.Core.Path.{◌≡◌, refl, sym, ◌∙◌}
 use lib.ListN.{length}
 use lib.Seq.{take_all}

@@ -1,9 +1,7 @@
 -- `telling::bit` meets its contract: a bit that is not set adds nothing.
 use native.Mathlib.Omega.{arith}
-use Prim.Native.Nat.{◌-◌}
 use Rattle.text.proofs.Assured.{nothing}
 use borrow.Author.Tests.{eq-eqb, ne_eqb}
-use borrow.Author.Rules.{rules}
 use Rattle.why.proofs.telling.bit.Goals as goal
 
 pub returns-then-left-eq1 : goal.returns-then-left-eq1

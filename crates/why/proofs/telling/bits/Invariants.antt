@@ -1,13 +1,9 @@
 -- `telling::bits` meets its contract: bit after bit, what is left is the word shifted.
-use borrow.Author.Rules.{rules}
-use native.Mathlib.Omega.{arith}
 use Prim.Native.Nat.{◌+◌, ◌-◌, ◌*◌, ◌≤◌}
-use mathlib.Core.Path.{◌≡◌, ap}
+use mathlib.Core.Path.{◌≡◌}
 use Rattle.text.specs.Glyphs.{Adds}
-use Rattle.text.proofs.Assured.{nothing, then, named}
 use Prim.Native.Nat.{◌/◌, ◌^◌}
 use Rattle.why.specs.Texts.{bits_of}
-use Rattle.why.proofs.Told.{bits_none, bits-more, left-first, left-next}
 use Rattle.why.proofs.telling.bits.Given as goal
 
 abbrev pub invariant-loop-n : goal.invariant-loop-n

@@ -1,8 +1,6 @@
 -- `telling::cause_text` meets its contract: cause by cause.
 use native.Mathlib.Omega.{arith}
-use Prim.Native.Nat.{◌-◌}
 use Rattle.text.proofs.Assured.{then, put_last}
-use borrow.Author.Rules.{rules}
 use Rattle.why.proofs.telling.cause_text.Goals as goal
 
 pub returns-in-Dormant : goal.returns-in-Dormant

@@ -1,9 +1,7 @@
 -- `telling::message_words` meets its contract: a sender, or any.
 use native.Mathlib.Omega.{arith}
-use Prim.Native.Nat.{◌-◌}
 use Rattle.text.proofs.Assured.{put_last}
 use borrow.Author.Tests.{eq-eqb, ne_eqb}
-use borrow.Author.Rules.{rules}
 use Rattle.why.proofs.telling.message_words.Goals as goal
 
 pub returns-then-s-eq0 : goal.returns-then-s-eq0

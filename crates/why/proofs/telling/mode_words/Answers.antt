@@ -1,8 +1,6 @@
 -- `telling::mode_words` meets its contract.
 use native.Mathlib.Omega.{arith}
-use Prim.Native.Nat.{◌-◌}
 use Rattle.text.proofs.Assured.{put_last}
-use borrow.Author.Rules.{rules}
 use Rattle.why.proofs.telling.mode_words.Goals as goal
 
 pub returns-in-Any : goal.returns-in-Any

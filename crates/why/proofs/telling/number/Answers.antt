@@ -1,8 +1,6 @@
 -- `telling::number` meets its contract: a number of 64 bits has at most twenty digits.
 use native.Mathlib.Omega.{arith}
-use Prim.Native.Nat.{◌-◌}
 use Rattle.text.proofs.Assured.{promises, put_last}
-use borrow.Author.Rules.{rules}
 use Rattle.why.proofs.telling.number.Goals as goal
 
 pub returns : goal.returns

@@ -1,13 +1,11 @@
 -- `telling::ring_line` meets its contract: with no task in the ring nothing is added.
 use native.Mathlib.Omega.{arith}
-use Prim.Native.Nat.{◌-◌}
 use mathlib.Core.Path.{◌≡◌}
 use lib.ListN.{length, take, drop}
 use Rattle.text.proofs.Assured.{nothing, then, named, put_last}
 use lib.ListN.{length-drop}
 use lib.Seq.{length-take-le}
 use Rattle.why.proofs.Told.{ring-none, ring-some}
-use borrow.Author.Rules.{rules}
 use Rattle.why.proofs.telling.ring_line.Goals as goal
 
 pub returns-then-count-from : goal.returns-then-count-from

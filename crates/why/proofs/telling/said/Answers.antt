@@ -1,8 +1,6 @@
 -- `telling::said` meets its contract: words behind the number.
 use native.Mathlib.Omega.{arith}
-use Prim.Native.Nat.{◌-◌}
 use Rattle.text.proofs.Assured.{then, put_last}
-use borrow.Author.Rules.{rules}
 use Rattle.why.proofs.telling.said.Goals as goal
 
 pub returns : goal.returns

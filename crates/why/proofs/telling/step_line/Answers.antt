@@ -1,9 +1,7 @@
 -- `telling::step_line` meets its contract: its pieces one after the other.
 use native.Mathlib.Omega.{arith}
-use Prim.Native.Nat.{◌-◌}
 use Rattle.text.proofs.Assured.{then, put_last}
 use Rattle.why.specs.Texts.{step_line}
-use borrow.Author.Rules.{rules}
 use Rattle.why.proofs.telling.step_line.Goals as goal
 
 pub returns : goal.returns

@@ -1,10 +1,8 @@
 -- `telling::step_lines` meets its contract: line after line.
-use borrow.Author.Rules.{rules}
 use native.Mathlib.Omega.{arith}
-use Prim.Native.Nat.{◌+◌, ◌-◌, ◌*◌, ◌≤◌, ◌<◌}
+use Prim.Native.Nat.{◌<◌}
 use mathlib.Core.Path.{◌≡◌, ap}
 use lib.ListN.{length, take}
-use Rattle.text.specs.Glyphs.{Adds}
 use Rattle.text.proofs.Assured.{nothing, then, named}
 use Rattle.why.specs.Texts.{step_lines}
 use Rattle.why.proofs.Told.{lines_none, lines_more}

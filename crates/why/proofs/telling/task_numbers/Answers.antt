@@ -1,10 +1,8 @@
 -- `telling::task_numbers` meets its contract: task after task.
-use borrow.Author.Rules.{rules}
 use native.Mathlib.Omega.{arith}
-use Prim.Native.Nat.{◌+◌, ◌-◌, ◌*◌, ◌≤◌, ◌<◌}
+use Prim.Native.Nat.{◌+◌, ◌-◌, ◌<◌}
 use mathlib.Core.Path.{◌≡◌, sym, ap, ◌∙◌}
 use lib.ListN.{length, get_or, take, drop}
-use Rattle.text.specs.Glyphs.{Adds}
 use Rattle.text.proofs.Assured.{nothing, then, named}
 use mathlib.Core.List.{◌∷◌, ◌++◌}
 use lib.ListN.{length-drop}
@@ -37,10 +35,10 @@ loop-i-preserved c =
     let ly : length ys ≡ a.count - a.from = length-drop a.from xs ∙ ap (λ n. n - a.from) lx in
     let h : l.i < length ys = omega (arith, c.loop-i-test.true) in
     let e : get_or ys l.i no_step ≡ get_or a.steps (a.from + l.i) no_step = get_or-drop a.from xs l.i no_step
-        ∙ get_or-take a.count a.steps (a.from + l.i) no_step (omega (arith, ly)) in (
+    ∙ get_or-take a.count a.steps (a.from + l.i) no_step (omega (arith, ly)) in (
       omega arith,
       named (ap (λ (x : Step). task_numbers (take l.i ys) ++ (32 ∷ decimal_of x.task.0)) (sym e) ∙ numbers_more ys l.i h)
-        (then l.invariant.1 c.worded-place.ensures.0),
+          (then l.invariant.1 c.worded-place.ensures.0),
       omega (arith, l.invariant.2, c.worded-place.ensures.1),
     )
 
@@ -56,8 +54,7 @@ returns c =
     let xs = take a.count a.steps in
     let ys = drop a.from xs in
     let lx : length xs ≡ a.count = length-take-le a.count a.steps (omega (arith, c.requires.2)) in
-    let ly : length ys ≡ a.count - a.from = length-drop a.from xs ∙ ap (λ n. n - a.from) lx in
-    (
+    let ly : length ys ≡ a.count - a.from = length-drop a.from xs ∙ ap (λ n. n - a.from) lx in (
       named (ap task_numbers (take_all l.i ys (omega (arith, c.loop-i-test.false, ly)))) l.invariant.1,
       omega (arith, l.invariant.0, l.invariant.2, c.requires.1, c.requires.2),
     )

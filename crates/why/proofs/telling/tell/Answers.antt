@@ -1,10 +1,8 @@
 -- `telling::tell` meets its contract: what stands in its own buffer is the text, and it is handed out whole.
 use native.Mathlib.Omega.{arith}
-use Prim.Native.Nat.{◌-◌}
 use mathlib.Core.Path.{sym}
 use lib.Seq.{length-take-le}
 use Rattle.text.proofs.Assured.{inside}
-use borrow.Author.Rules.{rules}
 use Rattle.why.proofs.telling.tell.Goals as goal
 
 pub slice_bounds-text-end : goal.slice_bounds-text-end

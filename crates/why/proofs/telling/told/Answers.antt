@@ -1,9 +1,7 @@
 -- `telling::told` meets its contract: the lines one after the other.
 use native.Mathlib.Omega.{arith}
-use Prim.Native.Nat.{◌-◌}
 use Rattle.text.proofs.Assured.{then, named}
 use Rattle.why.proofs.Told.{text-refused, text_path}
-use borrow.Author.Rules.{rules}
 use Rattle.why.proofs.telling.told.Goals as goal
 
 pub returns-then-reasons-ne0 : goal.returns-then-reasons-ne0

@@ -1,8 +1,6 @@
 -- `telling::worded` meets its contract: the words, and the number behind them.
 use native.Mathlib.Omega.{arith}
-use Prim.Native.Nat.{◌-◌}
 use Rattle.text.proofs.Assured.{then, put_last}
-use borrow.Author.Rules.{rules}
 use Rattle.why.proofs.telling.worded.Goals as goal
 
 pub number-requires : goal.number-requires
