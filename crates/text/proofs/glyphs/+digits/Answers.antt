@@ -6,7 +6,7 @@ use Rattle.text.proofs.glyphs.+digits.Goals as goal
 pub returns-then-n-lt10 : goal.returns-then-n-lt10
 returns-then-n-lt10 t c =
     let one = decimal_one c.args.n c.if-n-lt10.true in
-    rw one (puts-adds c.args.out.now c.args.at ((48 + c.args.n) ∷ []) (omega (arith, ap length one, c.requires)) c.put.ensures)
+    rw one (puts-adds _ _ ((48 + c.args.n) ∷ []) (omega (arith, ap length one, c.requires)) c.put.ensures)
 
 pub digits-place-requires : goal.digits-place-requires
 digits-place-requires t c = (omega arith, omega (arith, decimal_length c.args.n c.if-n-lt10.false))

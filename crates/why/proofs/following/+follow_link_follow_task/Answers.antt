@@ -1,7 +1,6 @@
 -- A task that is met for the first time, where the path has its step, makes the path what its cause says.
 use native.Mathlib.Omega.{arith}
-use mathlib.Core.Path.{refl, sym, ap, ◌∙◌}
-use mathlib.Core.Path.{◌≡◌}
+use mathlib.Core.Path.{◌≡◌, refl, sym, ap, ◌∙◌}
 use Rattle.why.specs.Paths.{closed, unmet, task_path}
 use Rattle.why.proofs.Onward.{path_ring, path_full, path_on}
 use Rattle.why.proofs.following.+follow_link_follow_task.Goals as goal
