@@ -1,30 +1,31 @@
 // The bench program: reads an input from standard input, at most one byte more than an input may have, and writes
-// its listing to standard output.
+// its listing to standard output. A read or a write that fails ends it with that error.
 #![tactic(auto)]
 
 use bench::listing;
-use libc::{STDIN_FILENO, STDOUT_FILENO};
+use std::io;
+use std::io::Write;
 
 // The bytes of a listing that are written at a time.
 const PIECE: usize = 65536;
 
 // Writes the listing of an input, a buffer at a time.
-fn tell(input: &[u8]) {
+fn tell(input: &[u8], writer: &mut impl Write) -> io::Result<()> {
     let mut out = [0u8; PIECE];
     let mut run = listing::start(input);
     loop {
         let filled = listing::fill(input, run, &mut out);
         let used = filled.used;
-        io::write_all(STDOUT_FILENO, &out[..used]);
+        writer.write_all(&out[..used])?;
         if !filled.more {
-            return;
+            return Ok(());
         }
         run = filled.run;
     }
 }
 
-fn main() {
-    let mut input = [0u8; listing::MOST_BYTES + 1];
-    let n = io::read_full(STDIN_FILENO, &mut input);
-    tell(&input[..n]);
+fn main(rt: HostRuntime) -> io::Result<()> {
+    let mut bytes = [0u8; listing::MOST_BYTES + 1];
+    let n = input::read_full(&mut rt.stdin(), &mut bytes)?;
+    tell(&bytes[..n], &mut rt.stdout())
 }

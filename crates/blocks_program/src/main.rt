@@ -1,12 +1,14 @@
 // The blocks program: reads a question from standard input, its head and then the image, and writes the answer to
-// standard output: its number as one byte and, with 0, the record in hex, one line, or the image.
+// standard output: its number as one byte and, with 0, the record in hex, one line, or the image. A read or a write
+// that fails ends it with that error.
 #![tactic(auto)]
 
-ghost use Rattle.io.specs.Counts.{IsPrefixLen};
+ghost use Rattle.std.specs.Io.{ReadsAtMost};
 
 use blocks::{asking, hex};
-use libc::{STDIN_FILENO, STDOUT_FILENO};
 use records::kinds;
+use std::io;
+use std::io::{Read, Write};
 
 // The longest head: 9 bytes, 255 addresses of 2, a record of 255.
 const HEAD: usize = 774;
@@ -15,63 +17,64 @@ const HEAD: usize = 774;
 const IMAGE: usize = 65537;
 
 // Reads a head, a byte at a time, since only its own bytes say where it ends: how many bytes were read.
-fn read_head(head: &mut [u8]) -> usize
-    ensures { IsPrefixLen result head.new }
+fn read_head<R: Read>(reader: &mut R, head: &mut [u8]) -> io::Result<usize>
+    ensures { ReadsAtMost result head.new }
 {
     let mut n: usize = 0;
     let mut one = [0u8; 1];
     while n < head.len() {
         if asking::end_of(head) <= n {
-            return n;
+            return Ok(n);
         }
-        if io::read_full(STDIN_FILENO, &mut one) == 0 {
-            return n;
+        if input::read_full(reader, &mut one)? == 0 {
+            return Ok(n);
         }
         head[n] = one[0];
         n += 1;
     }
-    n
+    Ok(n)
 }
 
 // Writes a record in hex, one line.
-fn tell(record: [u8; 6]) {
+fn tell(record: [u8; 6], writer: &mut impl Write) -> io::Result<()> {
     let length = kinds::length_of(kinds::kind_of(record[0]));
     let mut i: usize = 0;
     while i < 6 {
         if length <= i {
-            return;
+            return Ok(());
         }
         let next: u8 = if i + 1 == length { 10 } else { 32 };
         let text = hex::pair(record[i], next);
-        io::write_all(STDOUT_FILENO, &text);
+        writer.write_all(&text)?;
         i += 1;
     }
+    Ok(())
 }
 
 // Answers the question of a head and an image.
-fn answer(head: &[u8], image: &mut [u8]) {
+fn answer(head: &[u8], image: &mut [u8], writer: &mut impl Write) -> io::Result<()> {
     let mut record = [0u8; 6];
     let number = blocks::quermanic_block(head, image, &mut record);
     let said = [number];
-    io::write_all(STDOUT_FILENO, &said);
+    writer.write_all(&said)?;
     if number != 0 {
-        return;
+        return Ok(());
     }
     if head.len() == 0 {
-        return;
+        return Ok(());
     }
     if head[0] == 1 {
-        io::write_all(STDOUT_FILENO, image);
-        return;
+        return writer.write_all(image);
     }
-    tell(record);
+    tell(record, writer)
 }
 
-fn main() {
+fn main(rt: HostRuntime) -> io::Result<()> {
     let mut head = [0u8; HEAD];
     let mut image = [0u8; IMAGE];
-    let h = read_head(&mut head);
-    let n = io::read_full(STDIN_FILENO, &mut image);
+    let mut stdin = rt.stdin();
+    let h = read_head(&mut stdin, &mut head)?;
+    let n = input::read_full(&mut stdin, &mut image)?;
     let whole: &mut [u8] = &mut image;
-    answer(&head[..h], &mut whole[..n]);
+    answer(&head[..h], &mut whole[..n], &mut rt.stdout())
 }
