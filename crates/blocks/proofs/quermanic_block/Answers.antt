@@ -5,7 +5,6 @@ use mathlib.Core.Bool.{false}
 use mathlib.Core.List.{List}
 use native.Mathlib.Omega.{arith}
 use lib.ListN.{length, get_or, take}
-use borrow.Author.Rules.{rules}
 use Rattle.blocks.specs.Asking.{list_in, is_no_head, read_in}
 use Rattle.blocks.proofs.asking.Laws.{list-is, count-is, record_is, read_is, ends, not-asked, asked_write, read_no, read_told, read_short}
 use Rattle.blocks.proofs.quermanic_block.Goals as goal
@@ -31,12 +30,12 @@ counts : (m : After-count_in-count) → m.count_in-count.result ≡ length (take
 counts m = count-is (head m) m.list_in-list.result m.count_in-count.result m.count_in-count.ensures.1 m.list_in-list.ensures
 
 -- what is asked is a read, and this is what it gives
-is_read : (x : After-read) → get_or (head (goal.at.After-read x).After-list_in-list) 0 0 ≡ 1 → ⊥
+is_read : (x : After-read) → get_or (head (goal.at.After-read x).After-count_in-count) 0 0 ≡ 1 → ⊥
 is_read x z = x.if-byte_at-eq1.false (x.byte_at.ensures ∙ z)
 
-given : (x : After-read) → let m = (goal.at.After-read x).After-list_in-list in read_in (head m) (image m) ≡ x.read.result
+given : (x : After-read) → let m = (goal.at.After-read x).After-count_in-count in read_in (head m) (image m) ≡ x.read.result
 given x =
-    let m = (goal.at.After-read x).After-list_in-list in
+    let m = (goal.at.After-read x).After-count_in-count in
     let a = m.address_in-address.ensures in
     let b = m.beside_in-beside.ensures in
     read_is (head m) (image m) _ _ _ a (list m) b x.read.result x.read.ensures
@@ -67,29 +66,29 @@ returns-then-byte_at-eq1 c =
     asked_write q (image m) (room m) (is-head m) _ _ _ _ _ _ w a (list m) r b c.write_record.ensures
 
 pub slice_bounds-read-end : goal.slice_bounds-read-end
-slice_bounds-read-end c = counts (goal.at.slice_bounds-read-end c).After-list_in-list
+slice_bounds-read-end c = counts (goal.at.slice_bounds-read-end c).After-count_in-count
 
 pub returns-in-Length : goal.returns-in-Length
 returns-in-Length c =
     let x = (goal.at.returns-in-Length c).After-read in
-    let m = (goal.at.After-read x).After-list_in-list in
-    let k = c.call-1.given in
+    let m = (goal.at.After-read x).After-count_in-count in
+    let k = c.in-Call in
     let w = c.write.ensures in
     let n = sym w.answer ∙ c.in-Length.is in
-    read_told (head m) (image m) (room m) (is-head m) (is_read x) k.0.0 _ (given x ∙ k.1) w.buffer _ n
+    read_told (head m) (image m) (room m) (is-head m) (is_read x) k.call _ (given x ∙ k.is) w.buffer _ n
 
 pub returns-in-Refused-write : goal.returns-in-Refused-write
 returns-in-Refused-write c =
     let x = (goal.at.returns-in-Refused-write c).After-read in
-    let m = (goal.at.After-read x).After-list_in-list in
-    let k = c.call-1.given in
+    let m = (goal.at.After-read x).After-count_in-count in
+    let k = c.in-Call in
     let w = c.write.ensures in
-    let n = c.number-1.given in
-    read_short (head m) (image m) (room m) (is-head m) (is_read x) k.0.0 _ (given x ∙ k.1) w.buffer n.0.0 (sym w.answer ∙ n.1)
+    let n = c.in-Refused-write in
+    read_short (head m) (image m) (room m) (is-head m) (is_read x) k.call _ (given x ∙ k.is) w.buffer n.number (sym w.answer ∙ n.is)
 
 pub returns-in-Refused : goal.returns-in-Refused
 returns-in-Refused c =
     let x = (goal.at.returns-in-Refused c).After-read in
-    let m = (goal.at.After-read x).After-list_in-list in
-    let n = c.number-in-Refused-read-1.given in
-    read_no (head m) (image m) (room m) (is-head m) (is_read x) n.0.0 (given x ∙ n.1)
+    let m = (goal.at.After-read x).After-count_in-count in
+    let n = c.in-Refused in
+    read_no (head m) (image m) (room m) (is-head m) (is_read x) n.number (given x ∙ n.is)

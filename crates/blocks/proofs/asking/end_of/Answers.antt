@@ -4,7 +4,6 @@ use native.Mathlib.Omega.{arith}
 use Prim.Native.Nat.{◌+◌, ◌*◌, ◌-◌}
 use lib.ListN.{get_or}
 use Rattle.blocks.specs.Asking.{count_in}
-use borrow.Author.Rules.{rules}
 use Rattle.blocks.proofs.asking.end_of.Goals as goal
 
 pub returns : goal.returns

@@ -1,7 +1,6 @@
 -- `asking::is_no_head` meets its contract: its tests are those of the definition.
 use native.Mathlib.Omega.{arith}
 use Rattle.blocks.proofs.asking.Laws.{no_way, by_length}
-use borrow.Author.Rules.{rules}
 use Rattle.blocks.proofs.asking.is_no_head.Goals as goal
 
 pub returns-then-byte_at-gt1 : goal.returns-then-byte_at-gt1

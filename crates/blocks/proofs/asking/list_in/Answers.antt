@@ -2,10 +2,9 @@
 use mathlib.Core.List.{[], ◌∷◌}
 use mathlib.Core.Path.{◌≡◌, refl, sym, ap, ◌∙◌}
 use native.Mathlib.Omega.{arith}
-use borrow.Author.Rules.{rules}
 use Rattle.blocks.proofs.asking.Laws.{list-turn}
-use Prim.Native.Nat.{ℕ, ◌≤◌, ◌-◌}
-use lib.ListN.{length, take, replicate, length-replicate, length-set}
+use Prim.Native.Nat.{ℕ}
+use lib.ListN.{take, replicate, length-replicate, length-set}
 use Rattle.records.specs.Numbers.{number_of, cut}
 use Rattle.blocks.proofs.asking.list_in.Goals as goal
 

@@ -1,12 +1,8 @@
 -- `asking::list_in` meets its contract: the invariant is that the array begins with the addresses that were read.
-use mathlib.Core.List.{[], ◌∷◌}
-use mathlib.Core.Path.{◌≡◌, refl, sym, ap, ◌∙◌}
-use native.Mathlib.Omega.{arith}
-use borrow.Author.Rules.{rules}
-use Rattle.blocks.proofs.asking.Laws.{list-turn}
-use Prim.Native.Nat.{ℕ, ◌≤◌, ◌-◌}
-use lib.ListN.{length, take, replicate, length-replicate, length-set}
-use Rattle.records.specs.Numbers.{number_of, cut}
+use mathlib.Core.Path.{◌≡◌}
+use Prim.Native.Nat.{◌≤◌, ◌-◌}
+use lib.ListN.{length, take, replicate}
+use Rattle.records.specs.Numbers.{cut}
 use Rattle.blocks.proofs.asking.list_in.Given as goal
 
 abbrev pub invariant-loop-i : goal.invariant-loop-i

@@ -1,6 +1,5 @@
 -- `hex::digit` meets its contract: its test is that of the definition.
 use borrow.Author.Tests.{lt-ltb, le-ltb}
-use borrow.Author.Rules.{rules}
 use Rattle.blocks.proofs.hex.digit.Goals as goal
 
 pub returns-then-d-lt10 : goal.returns-then-d-lt10

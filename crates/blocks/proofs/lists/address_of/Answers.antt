@@ -1,5 +1,4 @@
 -- `lists::address_of` meets its contract: a task from 1 on stands at its place, and one past the list has 0.
-use borrow.Author.Rules.{rules}
 use Rattle.blocks.proofs.Places.{address-some, address-none}
 use Rattle.blocks.proofs.lists.address_of.Goals as goal
 

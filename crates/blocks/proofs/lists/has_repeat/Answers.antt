@@ -1,11 +1,7 @@
 -- `lists::has_repeat` meets its contract: the invariant is that the rest of the list has a repeat exactly where the
 -- whole has.
-use Prim.Native.Nat.{◌-◌}
-use mathlib.Core.Path.{◌≡◌, refl, sym, ◌∙◌}
+use mathlib.Core.Path.{refl, sym, ◌∙◌}
 use native.Mathlib.Omega.{arith}
-use lib.ListN.{length, drop}
-use borrow.Author.Rules.{rules}
-use Rattle.blocks.specs.Lists.{has_repeat}
 use Rattle.blocks.proofs.Places.{repeat_here, repeat_next, repeat_end}
 use Rattle.blocks.proofs.lists.has_repeat.Goals as goal
 

@@ -1,6 +1,5 @@
 -- `lists::is_bad` meets its contract: its test picks the case of `is_bad`.
 use borrow.Author.Tests.{lt-ltb, le-ltb}
-use borrow.Author.Rules.{rules}
 use Rattle.blocks.specs.Lists.{is_bad}
 use Rattle.blocks.proofs.lists.is_bad.Goals as goal
 

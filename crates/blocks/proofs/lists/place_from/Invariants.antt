@@ -1,12 +1,9 @@
 -- `lists::place_from` meets its contract: the invariant is that the place counted from here is the place counted from
 -- the start.
 use Prim.Native.Nat.{◌+◌, ◌-◌}
-use mathlib.Core.Path.{◌≡◌, refl}
-use native.Mathlib.Omega.{arith}
+use mathlib.Core.Path.{◌≡◌}
 use lib.ListN.{length, drop}
-use borrow.Author.Rules.{rules}
 use Rattle.blocks.specs.Lists.{place_of}
-use Rattle.blocks.proofs.Places.{place_here, place-next, place_end}
 use Rattle.blocks.proofs.lists.place_from.Given as goal
 
 abbrev pub invariant-loop-i : goal.invariant-loop-i

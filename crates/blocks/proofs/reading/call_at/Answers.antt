@@ -1,6 +1,5 @@
 -- `reading::call_at` meets its contract: each arm's byte picks its form, whose widths say which bytes are which number.
 use mathlib.Core.Path.{sym, ap, ◌∙◌}
-use borrow.Author.Rules.{rules}
 use Rattle.blocks.specs.Types.{is_none, form_at}
 use Rattle.blocks.proofs.reading.Laws.{at_0, at_1, at_2, at_5}
 use Rattle.blocks.proofs.Places.{clash}

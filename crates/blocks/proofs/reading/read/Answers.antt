@@ -4,7 +4,6 @@ use mathlib.Core.Path.{◌≡◌, sym, ap, ◌∙◌}
 use mathlib.Core.List.{List}
 use native.Mathlib.Omega.{arith}
 use lib.ListN.{length}
-use borrow.Author.Rules.{rules}
 use Rattle.records.specs.Firsts.{first_of}
 use Rattle.blocks.specs.Types.{form_at, size_of}
 use Rattle.blocks.specs.Refusals.{by_place}

@@ -1,6 +1,5 @@
 -- `reading::task_of` meets its contract: a place is at most the list's length, so that its number fits a byte.
 use native.Mathlib.Omega.{arith}
-use borrow.Author.Rules.{rules}
 use Rattle.blocks.proofs.Places.{place-most}
 use Rattle.blocks.proofs.reading.task_of.Goals as goal
 

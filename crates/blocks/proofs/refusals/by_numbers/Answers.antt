@@ -3,7 +3,6 @@ use Prim.Native.Nat.{ℕ}
 use mathlib.Core.Bool.{Bool, true, false, cond, ◌||◌}
 use mathlib.Core.Path.{◌≡◌, refl}
 use lib.Dec.{eqb, ltb}
-use borrow.Author.Rules.{rules}
 use Rattle.records.specs.Firsts.{first_of}
 use Rattle.blocks.specs.Types.{form_of}
 use Rattle.blocks.proofs.refusals.by_numbers.Goals as goal

@@ -1,7 +1,6 @@
 -- `refusals::by_place` meets its contract: each test picks the first of the refusals.
 use mathlib.Core.Path.{sym, ◌∙◌}
 use native.Mathlib.Omega.{arith}
-use borrow.Author.Rules.{rules}
 use Rattle.blocks.proofs.Judged.{inside, place-outside, place_none, place-past, place-bad, place-good}
 use Rattle.blocks.proofs.refusals.by_place.Goals as goal
 

@@ -1,5 +1,4 @@
 -- `types::has_block` meets its contract: each arm's kind is in the table or not.
-use borrow.Author.Rules.{rules}
 use Rattle.blocks.specs.Types.{form_of}
 use Rattle.blocks.proofs.types.has_block.Goals as goal
 

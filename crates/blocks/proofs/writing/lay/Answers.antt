@@ -1,7 +1,6 @@
 -- `writing::lay` meets its contract: each arm's bytes are those of its form.
 use mathlib.Core.Path.{refl}
 use lib.Dec.{lit≤}
-use borrow.Author.Rules.{rules}
 use Rattle.blocks.specs.Types.{form_of}
 use Rattle.blocks.proofs.Places.{clash}
 use Rattle.blocks.proofs.writing.lay.Goals as goal

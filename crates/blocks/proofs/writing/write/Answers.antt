@@ -4,7 +4,6 @@ use mathlib.Core.Path.{◌≡◌, refl, sym, ap, ◌∙◌}
 use mathlib.Core.List.{List}
 use native.Mathlib.Omega.{arith}
 use lib.ListN.{length}
-use borrow.Author.Rules.{rules}
 use Rattle.records.specs.Firsts.{first_of}
 use Rattle.records.specs.Calls.{fields_of}
 use Rattle.records.specs.declared.Call.{Call}
@@ -67,7 +66,7 @@ put-requires c =
     let n = (goal.at.put-requires c).After-by_numbers-more in
     let b = (goal.at.After-by_numbers-more n).After-by_place-number in
     let y = b.lay-laid in
-    let f = (goes_in n).ranges in
+    let f = (goes_in n).fits in
     let k : y.result.1 ≡ length_in (form_for (call b)) = y.ensures.size ∙ rw (goes_in n).some refl in
     (y.ensures.small, omega arith)
 

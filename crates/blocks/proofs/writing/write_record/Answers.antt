@@ -4,7 +4,6 @@ use mathlib.Core.Path.{sym, ap, ◌∙◌}
 use mathlib.Core.Bool.{not}
 use native.Mathlib.Omega.{arith}
 use borrow.Author.Tests.{not-false, not-true}
-use borrow.Author.Rules.{rules}
 use Rattle.blocks.specs.Types.{is_none, form_of}
 use Rattle.blocks.proofs.writing.Laws.{as_record, record_no, record_outside, record_empty, record_none, record_misfit}
 use Rattle.blocks.proofs.writing.write_record.Goals as goal
@@ -52,9 +51,8 @@ returns-in-Call c =
     let l = d.list.now in
     let bs = d.bytes.now in
     let w = d.work in
-    let k = c.call-1.given in
-    let r = sym c.read.ensures ∙ k.1 in
-    as_record s a l bs k.0.0 w _ _ r c.write.ensures
+    let r = sym c.read.ensures ∙ c.in-Call.is in
+    as_record s a l bs c.in-Call.call w _ _ r c.write.ensures
 
 pub returns-in-Refused : goal.returns-in-Refused
 returns-in-Refused c =
@@ -68,6 +66,6 @@ returns-in-Refused c =
     let o = c.if-bytes-eq0.false in
     let b = c.has_block.ensures ∙ ap (λ k. not (is_none (form_of k))) c.kind_of.ensures in
     let e = not-true _ (sym b ∙ c.if-not-has_block.false) in
-    let r = c.number-1.given in
-    let n = record_misfit s a l bs i o r.0.0 e (sym c.read.ensures ∙ r.1) in
-    record_no s a l bs w r.0.0 n.1 (λ z. omega (arith, n.0))
+    let r = c.in-Refused in
+    let n = record_misfit s a l bs i o r.number e (sym c.read.ensures ∙ r.is) in
+    record_no s a l bs w r.number n.1 (λ z. omega (arith, n.0))
