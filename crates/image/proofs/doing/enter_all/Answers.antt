@@ -27,7 +27,7 @@ pub enter-walked-requires : goal.enter-walked-requires
 enter-walked-requires c = c.loop-i.invariant.0
 
 pub overflow_add-walked : goal.overflow_add-walked
-overflow_add-walked c = omega (arith, c.loop-i.invariant.4, c.loop-i.invariant.3, c.enter-walked.ensures.0, c.loop-i-test.true)
+overflow_add-walked c = omega (arith, c.loop-i.invariant.4, c.loop-i.invariant.3, c.enter-walked.ensures.upper_bound, c.loop-i-test.true)
 
 pub loop-i-preserved : goal.loop-i-preserved
 loop-i-preserved c =
@@ -36,8 +36,8 @@ loop-i-preserved c =
       omega arith,
       v.invariant.2,
       v.invariant.3,
-      omega (arith, v.invariant.4, c.enter-walked.ensures.0),
-      λ t l f h d. stage_turn _ _ _ _ v.invariant.2 _ _ v.walked _ v.i c.loop-i-test.true (v.invariant.5 t l f h d) c.enter-walked.ensures.1,
+      omega (arith, v.invariant.4, c.enter-walked.ensures.upper_bound),
+      λ t l f h d. stage_turn _ _ _ _ v.invariant.2 _ _ v.walked _ v.i c.loop-i-test.true (v.invariant.5 t l f h d) c.enter-walked.ensures.laid,
     )
 
 pub shape_of-b : goal.shape_of-b

@@ -9,16 +9,16 @@ pub returns-then-b-s : goal.returns-then-b-s
 returns-then-b-s c = λ t l w. c.refused.ensures ∙ receive-bad t.tasks t.rest c.args.c c.args.s (rw (count-read t l) at c.if-b-s.true)
 
 pub first_fit-i-requires : goal.first_fit-i-requires
-first_fit-i-requires c = (c.requires, c.at_most-n.ensures.0)
+first_fit-i-requires c = (c.requires, c.at_most-n.ensures.upper_bound)
 
 pub message_at-m-requires : goal.message_at-m-requires
-message_at-m-requires c = (c.requires, c.at_most-n.ensures.0)
+message_at-m-requires c = (c.requires, c.at_most-n.ensures.upper_bound)
 
 pub returns : goal.returns
 returns c =
     let a = c.args in
     λ t l w.
     let q = w.numbers.sent in
-    let en = c.at_most-n.ensures.1 (rw (sent-read t l) q) ∙ sent-read t l in
+    let en = c.at_most-n.ensures.value (rw (sent-read t l) q) ∙ sent-read t l in
     rw (c.accepted.ensures, c.receiving-deed.ensures, c.handing-marks.ensures, c.message_at-m.ensures t l)
     (receive-done t.tasks t.rest a.c a.s (rw (count-read t l) at c.if-b-s.false) l.sizes.messages q _ _ en (c.first_fit-i.ensures t l))

@@ -22,7 +22,7 @@ returns-then-holder-eq0 c =
     (enter-free t.tasks t.rest a.c a.m c.if-m-gt7.false _ (holder-read t l a.m.0 (omega (arith, c.if-m-gt7.false))) c.if-c-holder.false c.if-holder-eq0.true)
 
 pub ahead-at-requires : goal.ahead-at-requires
-ahead-at-requires c = (c.requires, omega (arith, c.if-m-gt7.false), c.at_most-n.ensures.0)
+ahead-at-requires c = (c.requires, omega (arith, c.if-m-gt7.false), c.at_most-n.ensures.upper_bound)
 
 pub returns : goal.returns
 returns c =
@@ -30,7 +30,7 @@ returns c =
     λ t l w.
     let h = holder-read t l a.m.0 (omega (arith, c.if-m-gt7.false)) in
     let g = waiting-read t l a.m.0 (omega (arith, c.if-m-gt7.false)) in
-    let en = c.at_most-n.ensures.1 (rw g (w.numbers.waiting a.m.0)) ∙ g in
+    let en = c.at_most-n.ensures.value (rw g (w.numbers.waiting a.m.0)) ∙ g in
     rw (c.accepted-2.ensures, c.alone-waits.ensures, c.only_z-marks.ensures)
     (enter-held t.tasks t.rest a.c a.m c.if-m-gt7.false _ h c.if-c-holder.false c.if-holder-eq0.false _ _ _ en (c.level-p.ensures t l)
-    (c.ahead-at.ensures.1 t l (sub_at t.rest a.m.0).line (sub-line-at t l a.m.0 (omega (arith, c.if-m-gt7.false)))))
+    (c.ahead-at.ensures.value t l (sub_at t.rest a.m.0).line (sub-line-at t l a.m.0 (omega (arith, c.if-m-gt7.false)))))

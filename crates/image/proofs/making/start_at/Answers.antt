@@ -14,7 +14,7 @@ returns c =
     λ t n l f d a.
     let e = c.beginning.ensures t l in
     start-one _ _ p.1 t n l f d _ _ _ c.byte_at.ensures c.if-byte_at-ne1.false c.byte_at-own.ensures a refl
-    (c.line_up.ensures.1 t _ e f.fit (omega (arith, f.room)) f.lit d a).0
+    (c.line_up.ensures.laid t _ e f.fit (omega (arith, f.room)) f.lit d a).0
 
 pub overflow_cast-at : goal.overflow_cast-at
 overflow_cast-at c = omega arith

@@ -33,10 +33,11 @@ pub returns-then-is_due : goal.returns-then-is_due
 returns-then-is_due c =
     let a = c.args in
     let v = c.loop-i in
-    let u = c.loop-i-test.true in (
-      (v.invariant.0, v.invariant.1),
-      λ t l r. due-hit a.time t l v.i u (sym (c.is_due.ensures t l (runs r v.i u (v.invariant.2 u))) ∙ c.if-is_due.true) ∙ v.invariant.3 t l r,
-    )
+    let u = c.loop-i-test.true in
+    record {
+      lower_bound = (v.invariant.0, v.invariant.1);
+      value = λ t l r. due-hit a.time t l v.i u (sym (c.is_due.ensures t l (runs r v.i u (v.invariant.2 u))) ∙ c.if-is_due.true) ∙ v.invariant.3 t l r;
+    }
 
 pub overflow_add-i : goal.overflow_add-i
 overflow_add-i c = omega (arith, c.loop-i-test.true)
@@ -63,4 +64,7 @@ pub returns : goal.returns
 returns c =
     let a = c.args in
     let v = c.loop-i in
-    ((v.invariant.0, v.invariant.1), λ t l r. due-end a.time t l v.i c.loop-i-test.false ∙ v.invariant.3 t l r)
+    record {
+      lower_bound = (v.invariant.0, v.invariant.1);
+      value = λ t l r. due-end a.time t l v.i c.loop-i-test.false ∙ v.invariant.3 t l r;
+    }

@@ -38,17 +38,17 @@ pub next_due-i-requires : goal.next_due-i-requires
 next_due-i-requires c = (c.requires.0, omega (arith, c.loop-i-test.true))
 
 pub loop-i-smaller : goal.loop-i-smaller
-loop-i-smaller c = omega (arith, c.next_due-i.ensures.0.0, c.next_due-i.ensures.0.1, c.loop-i-test.true)
+loop-i-smaller c = omega (arith, c.next_due-i.ensures.lower_bound.0, c.next_due-i.ensures.lower_bound.1, c.loop-i-test.true)
 
 pub loop-i-preserved : goal.loop-i-preserved
 loop-i-preserved c =
     let a = c.args in
     let v = c.loop-i in
     let u = c.loop-i-test.true in (
-      c.next_due-i.ensures.0.1,
+      c.next_due-i.ensures.lower_bound.1,
       λ t l r e.
           let m = v.invariant.1 t l r e in
-          let h = in_on (record { 0 = a.time }) t.rest.alarms (bit_or v.more (2 ^ v.i)) l.sizes.alarms (v.i + 1) c.next_due-i.result (omega (arith, u)) (c.next_due-i.ensures.1 t l r) in
+          let h = in_on (record { 0 = a.time }) t.rest.alarms (bit_or v.more (2 ^ v.i)) l.sizes.alarms (v.i + 1) c.next_due-i.result (omega (arith, u)) (c.next_due-i.ensures.value t l r) in
           (h.2, rw c.bit_of-more.ensures (sym h.3 ∙ sym (in_turn (record { 0 = a.time }) t.rest.alarms v.more v.i u (m.0 u)) ∙ m.1)),
     )
 

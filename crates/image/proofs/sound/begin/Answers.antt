@@ -59,7 +59,7 @@ returns-then-not-alarms c =
     let h : Bytes s = λ k. omega (arith, c.shared_slice_known-1.given k) in
     let t = c.long_in-time in
     let fs = c.word_in-flags in
-    let e = c.all_alarms-alarms.ensures.0 in
+    let e = c.all_alarms-alarms.ensures.right_value in
     rule-broken s h t.result fs.result t.ensures fs.ensures (λ z. never (sym (sym e ∙ c.if-not-alarms.true) ∙ z.alarms))
 
 pub kind_sets-sets-requires : goal.kind_sets-sets-requires
@@ -98,6 +98,6 @@ returns c =
     let bs = sym c.in_bounds.ensures ∙ c.if-not-in_bounds.false in
     let right = c.if-not-alarms.false in
     begun-right s h t.result fs.result t.ensures fs.ensures c.if-b-ne-IMAGE.false n es zs bs
-    (sym c.all_alarms-alarms.ensures.0 ∙ right)
+    (sym c.all_alarms-alarms.ensures.right_value ∙ right)
     (sym c.queue_right.ensures ∙ c.if-not-queue_right.false)
-    c.kind_sets-sets.ensures (c.all_alarms-alarms.ensures.1 right)
+    c.kind_sets-sets.ensures (c.all_alarms-alarms.ensures.running right)

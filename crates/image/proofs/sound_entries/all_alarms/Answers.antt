@@ -19,6 +19,7 @@ use Rattle.image.proofs.Loaded.{alarms-size, read-end}
 use Rattle.image.proofs.Marked.{marks-first}
 use Rattle.image.proofs.EntriesRead.{runs, alarm-rests, alarm-runs, alarm-wrong, all-running}
 use Rattle.image.proofs.sound_entries.all_alarms.Goals as goal
+use Rattle.image.proofs.sound_entries.all_alarms.Goals.{then-eight-ne0+else-not-is_stored, else-eight-ne0}
 
 pub loop-i-init : goal.loop-i-init
 loop-i-init c = (omega arith, refl, marks-first (runs c.args.b.now))
@@ -38,10 +39,11 @@ long_in-at-requires c = omega (arith, c.requires, c.loop-i-test.true)
 pub returns-then-not-is_stored : goal.returns-then-not-is_stored
 returns-then-not-is_stored c =
     let s = c.args.b.now in
-    let v = c.loop-i in (
-      sym (sym v.invariant.1 ∙ alarm-wrong s c.args.time.0 v.i c.loop-i-test.true c.eight.result c.eight.ensures v.running v.invariant.2 c.if-eight-ne0.true c.long_in-at.result c.long_in-at.ensures (sym c.is_stored.ensures ∙ c.if-not-is_stored.true)),
-      λ e. false_not_true e,
-    )
+    let v = c.loop-i in
+    record {
+      right_value = sym (sym v.invariant.1 ∙ alarm-wrong s c.args.time.0 v.i c.loop-i-test.true c.eight.result c.eight.ensures v.running v.invariant.2 c.if-eight-ne0.true c.long_in-at.result c.long_in-at.ensures (sym c.is_stored.ensures ∙ c.if-not-is_stored.true));
+      running = λ e. false_not_true e;
+    }
 
 pub overflow_shl-running : goal.overflow_shl-running
 overflow_shl-running c = omega (arith, c.loop-i-test.true)
@@ -58,18 +60,21 @@ loop-i-preserved c =
     let v = c.loop-i in
     let h : v.i < 32 = c.loop-i-test.true in
     let bit : 1 * 2 ^ v.i % 4294967296 ≡ 2 ^ v.i = simp (one-mul, mod-eq_of_lt (pow-lt {j = 32} h)) in
-    ⊎_elim
-    (λ w.
-    let z = alarm-runs s c.args.time.0 v.i h c.eight.result c.eight.ensures v.running v.invariant.2 w.0.taken w.1.result w.1.ensures (sym w.2.ensures ∙ not-false _ w.3.left) (1 * 2 ^ v.i % 4294967296) bit in
-    (omega arith, z.0 ∙ v.invariant.1, rw w.4 z.1))
-    (λ w. let z = alarm-rests s c.args.time.0 v.i h c.eight.result c.eight.ensures v.running v.invariant.2 w.0.left in (omega arith, z.0 ∙ v.invariant.1, rw w.1 z.1))
-    c.if-eight-ne0.branch
+    elim c.if-eight-ne0.branch [
+    | then-eight-ne0+else-not-is_stored w ↦
+        let z = alarm-runs s c.args.time.0 v.i h c.eight.result c.eight.ensures v.running v.invariant.2 w.if-eight-ne0.true w.long_in-at.result w.long_in-at.ensures (sym w.is_stored.ensures ∙ w.if-not-is_stored.false) (1 * 2 ^ v.i % 4294967296) bit in
+        (omega arith, z.0 ∙ v.invariant.1, rw w.running-is z.1)
+    | else-eight-ne0 w ↦
+        let z = alarm-rests s c.args.time.0 v.i h c.eight.result c.eight.ensures v.running v.invariant.2 w.if-eight-ne0.false in
+        (omega arith, z.0 ∙ v.invariant.1, rw w.running-is z.1)
+    ]
 
 pub returns : goal.returns
 returns c =
     let s = c.args.b.now in
     let v = c.loop-i in
-    let e : v.i ≡ 32 = omega (arith, v.invariant.0, c.loop-i-test.false) in (
-      sym (read-end (alarm_right c.args.time.0) never (load_of s).rest.alarms 32 (alarms-size s) v.i c.loop-i-test.false) ∙ v.invariant.1,
-      λ t. all-running s v.running (rw e at v.invariant.2),
-    )
+    let e : v.i ≡ 32 = omega (arith, v.invariant.0, c.loop-i-test.false) in
+    record {
+      right_value = sym (read-end (alarm_right c.args.time.0) never (load_of s).rest.alarms 32 (alarms-size s) v.i c.loop-i-test.false) ∙ v.invariant.1;
+      running = λ t. all-running s v.running (rw e at v.invariant.2);
+    }

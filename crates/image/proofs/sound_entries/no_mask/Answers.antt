@@ -4,4 +4,4 @@ use borrow.Author.Rules.{rules}
 use Rattle.image.proofs.sound_entries.no_mask.Goals as goal
 
 pub returns : goal.returns
-returns c = with_byte c.quad.result c.wide.result _ _ c.quad.ensures.0 c.wide.ensures
+returns c = with_byte c.quad.result c.wide.result _ _ c.quad.ensures.result_value c.wide.ensures

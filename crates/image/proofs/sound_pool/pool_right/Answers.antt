@@ -21,21 +21,21 @@ returns-then-not-w c =
     let a = c.args in
     let g = c.requires in
     let r = c.requests_right-w.result in
-    pool-wrong a.b.now a.count a.queued g.2 g.1 c.named-runs.result c.named-runs.ensures r.right r.starts r.ends c.requests_right-w.ensures.0 c.requests_right-w.ensures.1 c.if-not-w.true
+    pool-wrong a.b.now a.count a.queued g.2 g.1 c.named-runs.result c.named-runs.ensures r.right r.starts r.ends c.requests_right-w.ensures.right_value c.requests_right-w.ensures.starts_value c.if-not-w.true
 
 pub returns-then-w-starts : goal.returns-then-w-starts
 returns-then-w-starts c =
     let a = c.args in
     let g = c.requires in
     let r = c.requests_right-w.result in
-    starts-differ a.b.now a.count a.queued g.2 g.1 c.named-runs.result c.named-runs.ensures r.right r.starts r.ends c.requests_right-w.ensures.0 c.requests_right-w.ensures.1 c.if-not-w.false a.starts a.ends g.4 g.5 c.if-w-starts.true
+    starts-differ a.b.now a.count a.queued g.2 g.1 c.named-runs.result c.named-runs.ensures r.right r.starts r.ends c.requests_right-w.ensures.right_value c.requests_right-w.ensures.starts_value c.if-not-w.false a.starts a.ends g.4 g.5 c.if-w-starts.true
 
 pub returns-then-w-ends : goal.returns-then-w-ends
 returns-then-w-ends c =
     let a = c.args in
     let g = c.requires in
     let r = c.requests_right-w.result in
-    ends-differ a.b.now a.count a.queued g.2 g.1 c.named-runs.result c.named-runs.ensures r.right r.starts r.ends c.requests_right-w.ensures.0 c.requests_right-w.ensures.1 c.if-not-w.false a.starts a.ends g.4 g.5 c.if-w-starts.false c.if-w-ends.true
+    ends-differ a.b.now a.count a.queued g.2 g.1 c.named-runs.result c.named-runs.ensures r.right r.starts r.ends c.requests_right-w.ensures.right_value c.requests_right-w.ensures.starts_value c.if-not-w.false a.starts a.ends g.4 g.5 c.if-w-starts.false c.if-w-ends.true
 
 pub overflow_mul-queued : goal.overflow_mul-queued
 overflow_mul-queued c = omega (arith, c.requires.1)
@@ -51,4 +51,4 @@ returns c =
     let a = c.args in
     let g = c.requires in
     let r = c.requests_right-w.result in
-    pool-last a.b.now a.count a.queued g.2 g.1 c.named-runs.result c.named-runs.ensures r.right r.starts r.ends c.requests_right-w.ensures.0 c.requests_right-w.ensures.1 c.if-not-w.false a.starts a.ends g.4 g.5 c.if-w-starts.false c.if-w-ends.false g.6 c.are_zero.result c.are_zero.ensures
+    pool-last a.b.now a.count a.queued g.2 g.1 c.named-runs.result c.named-runs.ensures r.right r.starts r.ends c.requests_right-w.ensures.right_value c.requests_right-w.ensures.starts_value c.if-not-w.false a.starts a.ends g.4 g.5 c.if-w-starts.false c.if-w-ends.false g.6 c.are_zero.result c.are_zero.ensures

@@ -14,6 +14,7 @@ use Rattle.image.proofs.Alike.{never}
 use Rattle.image.proofs.PoolRead.{one-wrong, one_right, one-named, none_named, all_right, all_named}
 use Rattle.image.proofs.PoolRead.{target-over, target-idle, level-over, request_unfit, request_fit, request_lone, start-nobody, end-nobody}
 use Rattle.image.proofs.sound_pool.requests_right.Goals as goal
+use Rattle.image.proofs.sound_pool.requests_right.Goals.{then-quad-gt65535+else-not-request_fits, else-quad-gt65535}
 
 pub loop-i-init : goal.loop-i-init
 loop-i-init c = (omega arith, refl, refl, refl)
@@ -32,7 +33,10 @@ returns-then-count-target c =
     let a = c.args in
     let g = c.requires in
     let v = c.loop-i in
-    (one-wrong a.b.now a.queued a.count g.1 v.i c.loop-i-test.true v.invariant.1 (target-over a.b.now a.count (704 + v.i * 6) c.if-count-target.true), λ e. absurd (never e))
+    record {
+      right_value = one-wrong a.b.now a.queued a.count g.1 v.i c.loop-i-test.true v.invariant.1 (target-over a.b.now a.count (704 + v.i * 6) c.if-count-target.true);
+      starts_value = λ e. absurd (never e);
+    }
 
 pub overflow_cast-target : goal.overflow_cast-target
 overflow_cast-target c = omega (arith, c.if-count-target.false, c.requires.2)
@@ -45,7 +49,10 @@ returns-then-idle-target-eq1 c =
     let a = c.args in
     let g = c.requires in
     let v = c.loop-i in
-    (one-wrong a.b.now a.queued a.count g.1 v.i c.loop-i-test.true v.invariant.1 (target-idle a.b.now a.count (704 + v.i * 6) a.idle g.3 c.if-count-target.false c.if-idle-target-eq1.true), λ e. absurd (never e))
+    record {
+      right_value = one-wrong a.b.now a.queued a.count g.1 v.i c.loop-i-test.true v.invariant.1 (target-idle a.b.now a.count (704 + v.i * 6) a.idle g.3 c.if-count-target.false c.if-idle-target-eq1.true);
+      starts_value = λ e. absurd (never e);
+    }
 
 pub overflow_add-at-in-loop-i : goal.overflow_add-at-in-loop-i
 overflow_add-at-in-loop-i c = omega (arith, c.requires.0, c.requires.1, c.loop-i-test.true)
@@ -58,7 +65,10 @@ returns-then-b-at-gt15 c =
     let a = c.args in
     let g = c.requires in
     let v = c.loop-i in
-    (one-wrong a.b.now a.queued a.count g.1 v.i c.loop-i-test.true v.invariant.1 (level-over a.b.now a.count (704 + v.i * 6) c.if-b-at-gt15.true), λ e. absurd (never e))
+    record {
+      right_value = one-wrong a.b.now a.queued a.count g.1 v.i c.loop-i-test.true v.invariant.1 (level-over a.b.now a.count (704 + v.i * 6) c.if-b-at-gt15.true);
+      starts_value = λ e. absurd (never e);
+    }
 
 pub overflow_add-at-in-loop-i-2 : goal.overflow_add-at-in-loop-i-2
 overflow_add-at-in-loop-i-2 c = omega (arith, c.requires.0, c.requires.1, c.loop-i-test.true)
@@ -74,7 +84,10 @@ returns-then-not-request_fits c =
     let a = c.args in
     let g = c.requires in
     let v = c.loop-i in
-    (one-wrong a.b.now a.queued a.count g.1 v.i c.loop-i-test.true v.invariant.1 (request_unfit a.b.now a.count (704 + v.i * 6) c.request_in-q.result c.request_in-q.ensures (sym c.request_fits.ensures ∙ c.if-not-request_fits.true)), λ e. absurd (never e))
+    record {
+      right_value = one-wrong a.b.now a.queued a.count g.1 v.i c.loop-i-test.true v.invariant.1 (request_unfit a.b.now a.count (704 + v.i * 6) c.request_in-q.result c.request_in-q.ensures (sym c.request_fits.ensures ∙ c.if-not-request_fits.true));
+      starts_value = λ e. absurd (never e);
+    }
 
 pub overflow_add-at-then-quad-gt65535 : goal.overflow_add-at-then-quad-gt65535
 overflow_add-at-then-quad-gt65535 c = omega (arith, c.requires.0, c.requires.1, c.loop-i-test.true)
@@ -106,20 +119,20 @@ loop-i-preserved c =
     let g = c.requires in
     let v = c.loop-i in
     let h = c.loop-i-test.true in
-    ⊎_elim
-    (λ w. (
+    elim c.if-quad-gt65535.branch [
+    | then-quad-gt65535+else-not-request_fits w ↦ (
       omega (arith, h),
-      one_right a.b.now a.queued a.count g.1 v.i h v.invariant.1 (request_fit a.b.now a.count (704 + v.i * 6) a.idle g.3 c.if-count-target.false c.if-idle-target-eq1.false w.1.result w.1.ensures (sym w.2.ensures ∙ not-false _ w.3.left)),
-      one-named a.b.now a.queued a.count g.1 v.i h 4 v.starts _ v.invariant.2 _ (w.8 ∙ w.5.ensures),
-      one-named a.b.now a.queued a.count g.1 v.i h 5 v.all-ends _ v.invariant.3 _ (w.9 ∙ w.7.ensures),
-    ))
-    (λ w. (
+      one_right a.b.now a.queued a.count g.1 v.i h v.invariant.1 (request_fit a.b.now a.count (704 + v.i * 6) a.idle g.3 c.if-count-target.false c.if-idle-target-eq1.false w.request_in-q.result w.request_in-q.ensures (sym w.request_fits.ensures ∙ w.if-not-request_fits.false)),
+      one-named a.b.now a.queued a.count g.1 v.i h 4 v.starts _ v.invariant.2 _ (w.starts-is ∙ w.with-starts.ensures),
+      one-named a.b.now a.queued a.count g.1 v.i h 5 v.all-ends _ v.invariant.3 _ (w.all_ends-is ∙ w.with-all_ends.ensures),
+    )
+    | else-quad-gt65535 w ↦ (
       omega (arith, h),
-      one_right a.b.now a.queued a.count g.1 v.i h v.invariant.1 (request_lone a.b.now a.count (704 + v.i * 6) a.idle g.3 c.if-count-target.false c.if-idle-target-eq1.false c.if-b-at-gt15.false c.quad.result c.quad.ensures.1 w.0.left),
-      rw w.1 (none_named a.b.now a.queued a.count g.1 v.i h 4 v.starts _ v.invariant.2 (start-nobody a.b.now a.count (704 + v.i * 6) a.idle g.3 c.if-count-target.false c.if-idle-target-eq1.false c.if-b-at-gt15.false c.quad.result c.quad.ensures.1 w.0.left)),
-      rw w.2 (none_named a.b.now a.queued a.count g.1 v.i h 5 v.all-ends _ v.invariant.3 (end-nobody a.b.now a.count (704 + v.i * 6) a.idle g.3 c.if-count-target.false c.if-idle-target-eq1.false c.if-b-at-gt15.false c.quad.result c.quad.ensures.1 w.0.left)),
-    ))
-    c.if-quad-gt65535.branch
+      one_right a.b.now a.queued a.count g.1 v.i h v.invariant.1 (request_lone a.b.now a.count (704 + v.i * 6) a.idle g.3 c.if-count-target.false c.if-idle-target-eq1.false c.if-b-at-gt15.false c.quad.result c.quad.ensures.result_value_2 w.if-quad-gt65535.false),
+      rw w.starts-is (none_named a.b.now a.queued a.count g.1 v.i h 4 v.starts _ v.invariant.2 (start-nobody a.b.now a.count (704 + v.i * 6) a.idle g.3 c.if-count-target.false c.if-idle-target-eq1.false c.if-b-at-gt15.false c.quad.result c.quad.ensures.result_value_2 w.if-quad-gt65535.false)),
+      rw w.all_ends-is (none_named a.b.now a.queued a.count g.1 v.i h 5 v.all-ends _ v.invariant.3 (end-nobody a.b.now a.count (704 + v.i * 6) a.idle g.3 c.if-count-target.false c.if-idle-target-eq1.false c.if-b-at-gt15.false c.quad.result c.quad.ensures.result_value_2 w.if-quad-gt65535.false)),
+    )
+    ]
 
 pub returns : goal.returns
 returns c =
@@ -127,4 +140,10 @@ returns c =
     let g = c.requires in
     let v = c.loop-i in
     let h = c.loop-i-test.false in
-    (all_right a.b.now a.queued a.count g.1 v.i h v.invariant.1, λ e. (all_named a.b.now a.queued a.count g.1 v.i h 708 v.starts _ v.invariant.2, all_named a.b.now a.queued a.count g.1 v.i h 709 v.all-ends _ v.invariant.3))
+    record {
+      right_value = all_right a.b.now a.queued a.count g.1 v.i h v.invariant.1;
+      starts_value = λ e. (
+        all_named a.b.now a.queued a.count g.1 v.i h 708 v.starts _ v.invariant.2,
+        all_named a.b.now a.queued a.count g.1 v.i h 709 v.all-ends _ v.invariant.3,
+      );
+    }

@@ -12,7 +12,7 @@ use Rattle.image.specs.Sound.{tasks_in}
 use Rattle.image.proofs.SetBits.{bit-set}
 use Rattle.image.proofs.PostRead.{letter_to, letter_by, letters_from, LetterRight, letters-over, letter-bad, letter-good, takes_none}
 use Rattle.image.proofs.sound_post.letters_right.Goals as goal
-use Rattle.image.proofs.sound_post.letters_right.Goals.{In-loop-i, Joined-free-to-eq0}
+use Rattle.image.proofs.sound_post.letters_right.Goals.{In-loop-i, Joined-free-to-eq0, then-free-to-eq0+else-to-eq0+else-is_taken, else-free-to-eq0}
 
 pub loop-i-init : goal.loop-i-init
 loop-i-init c = (omega arith, omega arith, refl)
@@ -90,10 +90,12 @@ addressed c =
     let a = c.args in
     let s = a.b.now in
     let i = c.loop-i.i in
-    ⊎_elim
-    (λ w. (omega (arith, w.1.left), sym w.2.ensures ∙ w.3.left))
-    (λ w. let f = c.requires.3 (letter_to s i) c.if-count-to.false (bit-set a.free (letter_to s i) w.left) in (f.0, takes_none (tasks_in s) (letter_by s i) (letter_to s i) f.1))
-    c.if-free-to-eq0.branch
+    elim c.if-free-to-eq0.branch [
+    | then-free-to-eq0+else-to-eq0+else-is_taken w ↦ (omega arith, sym w.is_taken.ensures ∙ w.if-is_taken.false)
+    | else-free-to-eq0 w ↦
+        let f = c.requires.3 (letter_to s i) c.if-count-to.false (bit-set a.free (letter_to s i) w.if-free-to-eq0.false) in
+        (f.0, takes_none (tasks_in s) (letter_by s i) (letter_to s i) f.1)
+    ]
 
 pub loop-i-preserved : goal.loop-i-preserved
 loop-i-preserved c =

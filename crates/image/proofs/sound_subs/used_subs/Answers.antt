@@ -10,6 +10,7 @@ use Rattle.image.specs.Marks.{Marked}
 use Rattle.image.proofs.LinesRead.{in_use, used-more, used-not}
 use Rattle.image.proofs.Marked.{marks-first, one_same}
 use Rattle.image.proofs.sound_subs.used_subs.Goals as goal
+use Rattle.image.proofs.sound_subs.used_subs.Goals.{then-sixteen-quad-ne0, else-sixteen-quad-ne0}
 
 pub loop-m-init : goal.loop-m-init
 loop-m-init c = (omega arith, marks-first _)
@@ -52,10 +53,10 @@ loop-m-preserved c =
     let h : v.m < 32 = omega (arith, c.loop-m-test.true) in
     let bit : 1 * 2 ^ v.m % 4294967296 ≡ 2 ^ v.m = simp (one-mul, mod-eq_of_lt (pow-lt {j = 32} h)) in (
       omega (arith, c.loop-m-test.true),
-      ⊎_elim
-          (λ w. rw w.1 (used-more s a.sets v.m v.used v.invariant.1 c.sixteen.result c.quad.result c.sixteen.ensures c.quad.ensures.0 (1 * 2 ^ v.m % 4294967296) bit w.0.taken))
-          (λ w. rw w.1 (used-not s a.sets v.m v.used v.invariant.1 c.sixteen.result c.quad.result c.sixteen.ensures c.quad.ensures.0 w.0.left))
-          c.if-sixteen-quad-ne0.branch,
+      elim c.if-sixteen-quad-ne0.branch [
+          | then-sixteen-quad-ne0 w ↦ rw w.used-is (used-more s a.sets v.m v.used v.invariant.1 c.sixteen.result c.quad.result c.sixteen.ensures c.quad.ensures.result_value (1 * 2 ^ v.m % 4294967296) bit w.if-sixteen-quad-ne0.true)
+          | else-sixteen-quad-ne0 w ↦ rw w.used-is (used-not s a.sets v.m v.used v.invariant.1 c.sixteen.result c.quad.result c.sixteen.ensures c.quad.ensures.result_value w.if-sixteen-quad-ne0.false)
+          ],
     )
 
 pub returns : goal.returns

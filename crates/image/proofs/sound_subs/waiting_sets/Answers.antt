@@ -12,6 +12,7 @@ use Rattle.image.specs.Sound.{tasks_in}
 use Rattle.image.specs.Marks.{Waiting}
 use Rattle.image.proofs.LinesRead.{waiting-first, waiting-next, waiting-kind, waiting-past, waiting-one}
 use Rattle.image.proofs.sound_subs.waiting_sets.Goals as goal
+use Rattle.image.proofs.sound_subs.waiting_sets.Goals.{then-m-lt8, else-m-lt8}
 
 pub next_in-k-requires : goal.next_in-k-requires
 next_in-k-requires c = omega arith
@@ -56,10 +57,10 @@ loop-k-preserved c =
       c.next_in-k-in-loop-k.ensures.most,
       c.next_in-k-in-loop-k.ensures.member,
       waiting-next s a.count a.waiters g.1 g.3 v.k c.next_in-k-in-loop-k.result c.if-m-lt8.sets l c.next_in-k-in-loop-k.ensures
-          (⊎_elim
-          (λ w. rw w.1 (waiting-one s v.k h q v.sets w₀ (1 * 2 ^ v.k % 65536) bit w.0.taken))
-          (λ w. rw w.1 (waiting-past s v.k h q v.sets w₀ w.0.left))
-          c.if-m-lt8.branch),
+          (elim c.if-m-lt8.branch [
+          | then-m-lt8 w ↦ rw w.sets-is (waiting-one s v.k h q v.sets w₀ (1 * 2 ^ v.k % 65536) bit w.if-m-lt8.true)
+          | else-m-lt8 w ↦ rw w.sets-is (waiting-past s v.k h q v.sets w₀ w.if-m-lt8.false)
+          ]),
     )
 
 pub returns : goal.returns

@@ -38,7 +38,7 @@ pub next_due-first-requires : goal.next_due-first-requires
 next_due-first-requires c = (c.requires, omega arith)
 
 pub rings-more-requires : goal.rings-more-requires
-rings-more-requires c = (c.requires, c.next_due-first.ensures.0.1)
+rings-more-requires c = (c.requires, c.next_due-first.ensures.lower_bound.1)
 
 pub woken-entrants-requires : goal.woken-entrants-requires
 woken-entrants-requires c = c.requires
@@ -49,7 +49,7 @@ returns c =
     let ec = c.long_in-now.ensures ∙ clock-read t l in
     let eg = c.wide.ensures.0 ∙ granule-read t l in
     let ef = c.word_in-flags.ensures ∙ flags-read t l in
-    let ei = c.next_due-first.ensures.1 t l g.running-told in
+    let ei = c.next_due-first.ensures.value t l g.running-told in
     let unmet : AllUnmet c.word_in-flags.result t.tasks = λ j. subst (λ (x : ℕ). Unmet x (task_at t.tasks j).state) (sym ef) (w.masks j) in
     let u = tick-woken t.tasks l.sizes.tasks _ _ _ _ g.flagged-told c.held_by-held.ensures _ _ unmet g.timed-told _ (c.woken-entrants.ensures t l) in
     c.accepted.ensures

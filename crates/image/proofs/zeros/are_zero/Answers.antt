@@ -59,7 +59,7 @@ loop-at-2-preserved c =
     let a = c.args in
     let v = c.loop-at-2 in
     let t = c.loop-at-2-test.true in
-    (omega (arith, v.invariant.0), omega (arith, v.invariant.1, t), or-past a.b.now 4 a.from v.at v.all c.quad-all.result v.invariant.0 v.invariant.2 c.quad-all.ensures.0)
+    (omega (arith, v.invariant.0), omega (arith, v.invariant.1, t), or-past a.b.now 4 a.from v.at v.all c.quad-all.result v.invariant.0 v.invariant.2 c.quad-all.ensures.result_value)
 
 pub loop-at-3-init : goal.loop-at-3-init
 loop-at-3-init c = c.loop-at-2.invariant

@@ -6,4 +6,4 @@ use Rattle.image.proofs.zeros.eight.Goals as goal
 pub returns : goal.returns
 returns c =
     let a = c.args in
-    or-noughts a.b.now 4 4 a.at c.quad.result c.quad-2.result c.quad.ensures.0 c.quad-2.ensures.0
+    or-noughts a.b.now 4 4 a.at c.quad.result c.quad-2.result c.quad.ensures.result_value c.quad-2.ensures.result_value
