@@ -212,15 +212,15 @@ module _ (s ws : List ℕ) (n used : ℕ) (hn : n ≤ 16) (t : Waiting n ws (tas
     here : held_from (tasks_in s) n (subs_in s) m ≡ held_right (tasks_in s) n (subs_in s)
     here = let z : m ≡ min m 8 = omega arith in ap (held_from (tasks_in s) n (subs_in s)) z ∙ e
 
-    pub held-off : not c ≡ true → false ≡ held_right (tasks_in s) n (subs_in s)
-    held-off f = sym (off s n m h (sym (k m (t.each m h)) ∙ not-true c f)) ∙ here
+    pub held-off : c ≡ false → false ≡ held_right (tasks_in s) n (subs_in s)
+    held-off f = sym (off s n m h (sym (k m (t.each m h)) ∙ f)) ∙ here
 
-    pub held_next : not c ≡ false → (r : ℕ) → Next used (m + 1) r → held_from (tasks_in s) n (subs_in s) (min r 8) ≡ held_right (tasks_in s) n (subs_in s)
+    pub held_next : c ≡ true → (r : ℕ) → Next used (m + 1) r → held_from (tasks_in s) n (subs_in s) (min r 8) ≡ held_right (tasks_in s) n (subs_in s)
     held_next f r x =
         let z : m + 1 + (min r 8 - (m + 1)) ≡ min r 8 = omega (arith, x.least) in
         ap (held_from (tasks_in s) n (subs_in s)) (sym z)
         ∙ over-free (m + 1) (min r 8 - (m + 1)) (omega arith) (λ j g l. x.skipped j g (omega arith))
-        ∙ on s n m h (sym (k m (t.each m h)) ∙ not-false c f)
+        ∙ on s n m h (sym (k m (t.each m h)) ∙ f)
         ∙ here
 
 -- past the last

@@ -1,33 +1,33 @@
 -- Whoever owns a table knows that its numbers fit and that its arrays have their lengths.
 use Prim.Native.Nat.{ℕ}
-use mathlib.Core.Path.{◌≡◌, sym, ◌∙◌}
-use mathlib.Core.List.{List, [], ◌∷◌, map}
+use mathlib.Core.Path.{◌≡◌}
+use mathlib.Core.List.{List, [], ◌∷◌}
 use native.Mathlib.Omega.{arith}
-use lib.ListN.{length, length-map}
+use lib.ListN.{length}
 use mir.Val.{Val}
 use denote.Shadow.{shadow}
 use denote.Laws.{Is}
 use denote.Array.{each, Array}
-use denote.Struct.Field.{Field}
-use denote.Struct.Declared.{row, field}
+use denote.RattleType.{RattleType}
+use denote.Struct.Declared.{row}
 use denote.Struct.Laws.{owed}
 use denote.Enum.Declared.{row as Enum-Row}
 use denote.Enum.Laws.{owed as enum-owed}
-use Rattle.records.specs.contracts.TaskNo.{the_type as task-no-type}
+use Rattle.records.specs.contracts.TaskNo.{the_type as task-no-type, the_row as task-no-row}
 use Rattle.records.proofs.TaskNo.TheLaws.{the_laws as task-no-laws}
-use Rattle.executive.specs.contracts.Millis.{the_type as millis-type}
+use Rattle.executive.specs.contracts.Millis.{the_type as millis-type, the_row as millis-row}
 use Rattle.executive.proofs.Millis.TheLaws.{the_laws as millis-laws}
 use Rattle.executive.specs.contracts.State.{the_type as state-type}
 use Rattle.executive.proofs.State.TheLaws.{the_laws as state-laws}
-use Rattle.executive.specs.contracts.Task.{the_type as task-type}
+use Rattle.executive.specs.contracts.Task.{the_type as task-type, the_row as task-row}
 use Rattle.executive.proofs.Task.TheLaws.{the_laws as task-laws}
-use Rattle.executive.specs.contracts.Request.{the_type as request-type}
+use Rattle.executive.specs.contracts.Request.{the_type as request-type, the_row as request-row}
 use Rattle.executive.proofs.Request.TheLaws.{the_laws as request-laws}
-use Rattle.executive.specs.contracts.Sub.{the_type as sub-type}
+use Rattle.executive.specs.contracts.Sub.{the_type as sub-type, the_row as sub-row}
 use Rattle.executive.proofs.Sub.TheLaws.{the_laws as sub-laws}
-use Rattle.executive.specs.contracts.Message.{the_type as message-type}
+use Rattle.executive.specs.contracts.Message.{the_type as message-type, the_row as message-row}
 use Rattle.executive.proofs.Message.TheLaws.{the_laws as message-laws}
-use Rattle.executive.specs.contracts.Mail.{the_type as mail-type}
+use Rattle.executive.specs.contracts.Mail.{the_type as mail-type, the_row as mail-row}
 use Rattle.executive.proofs.Mail.TheLaws.{the_laws as mail-laws}
 use Rattle.executive.specs.contracts.Rest.{the_type as rest-type}
 use Rattle.executive.proofs.Rest.TheLaws.{the_laws as rest-laws}
@@ -90,33 +90,33 @@ alarm-owned : (a : Millis) (vs : List Val) → Is (row millis-type) a vs → Fit
 alarm-owned a vs q = let f = owed millis-type millis-laws a vs q in (omega arith, tt)
 
 -- an array's elements, each with what its owner knows of it
-module _ (F : Field) (P : F.Value → Type 0) (known : (x : F.Value) (vs : List Val) → Is F.row (F.into x) vs → P x) where
-  each_owned : (xs : List F.Value) (us : List Val) → shadow (each F.row.Denot F.row.own_val (map F.into xs) us) → Each P xs
+module _ (R : RattleType) (P : R.Denot → Type 0) (known : (x : R.Denot) (vs : List Val) → Is R x vs → P x) where
+  each_owned : (xs : List R.Denot) (us : List Val) → shadow (each R.Denot R.own_val xs us) → Each P xs
   each_owned [] us s = tt
   each_owned (x ∷ xs) [] s = absurd s
   each_owned (x ∷ xs) (u ∷ us) s = (known x (u ∷ []) s.0, each_owned xs us s.1)
 
-  pub array_owned : (n : ℕ) (xs : List F.Value) (vs : List Val) → Is (Array F.row n) (map F.into xs) vs → (length xs ≡ n) × Each P xs
-  array_owned n xs vs q = (sym (length-map xs F.into) ∙ q.1.0.1, each_owned xs q.0 q.1.1)
+  pub array_owned : (n : ℕ) (xs : List R.Denot) (vs : List Val) → Is (Array R n) xs vs → (length xs ≡ n) × Each P xs
+  array_owned n xs vs q = (q.1.0.1, each_owned xs q.0 q.1.1)
 
 sub-owned : (x : Sub) (vs : List Val) → Is (row sub-type) x vs → FitsSub x
 sub-owned x vs q =
     let f = owed sub-type sub-laws x vs q in
-    let ks = array_owned (field task-no-type) (λ k. Fits place_widths (place_numbers k)) place-owned 16 x.line _ f.1.0 in
+    let ks = array_owned task-no-row (λ k. Fits place_widths (place_numbers k)) place-owned 16 x.line _ f.1.0 in
     record { numbers = (omega arith, (omega arith, tt)); size = ks.0; line = ks.1 }
 
 pub table-owned : (t : Table) (vs : List Val) → Is (row table-type) t vs → FitsTable t
 table-owned t vs q =
     let f = owed table-type table-laws t vs q in
     let g = owed rest-type rest-laws t.rest _ f.1.1.1.1.0 in
-    let ts = array_owned (field task-type) (λ e. Fits task_widths (task_numbers e)) task-owned 16 t.tasks _ f.0 in
-    let qs = array_owned (field task-no-type) (λ k. Fits place_widths (place_numbers k)) place-owned 16 t.queue _ f.1.0 in
-    let al = array_owned (field millis-type) (λ a. Fits alarm_widths (alarm_numbers a)) alarm-owned 32 t.rest.alarms _ g.1.1.1.1.0 in
-    let rs = array_owned (field request-type) (λ r. Fits request_widths (request_numbers r)) request_owned 32 t.rest.pool _ g.1.1.1.1.1.0 in
-    let ws = array_owned (field task-type) (λ e. Fits awaited_widths (awaited_numbers e)) awaited-owned 16 t.tasks _ f.0 in
-    let ss = array_owned (field sub-type) FitsSub sub-owned 8 t.rest.subs _ g.1.1.1.1.1.1.1.0 in
-    let ms = array_owned (field message-type) (λ m. Fits message_widths (message_numbers m)) message_owned 32 t.rest.messages _ g.1.1.1.1.1.1.1.1.0 in
-    let ml = array_owned (field mail-type) (λ x. Fits mail_widths (mail_numbers x)) mail-owned 16 t.rest.mail _ g.1.1.1.1.1.1.1.1.1.1.0 in
+    let ts = array_owned task-row (λ e. Fits task_widths (task_numbers e)) task-owned 16 t.tasks _ f.0 in
+    let qs = array_owned task-no-row (λ k. Fits place_widths (place_numbers k)) place-owned 16 t.queue _ f.1.0 in
+    let al = array_owned millis-row (λ a. Fits alarm_widths (alarm_numbers a)) alarm-owned 32 t.rest.alarms _ g.1.1.1.1.0 in
+    let rs = array_owned request-row (λ r. Fits request_widths (request_numbers r)) request_owned 32 t.rest.pool _ g.1.1.1.1.1.0 in
+    let ws = array_owned task-row (λ e. Fits awaited_widths (awaited_numbers e)) awaited-owned 16 t.tasks _ f.0 in
+    let ss = array_owned sub-row FitsSub sub-owned 8 t.rest.subs _ g.1.1.1.1.1.1.1.0 in
+    let ms = array_owned message-row (λ m. Fits message_widths (message_numbers m)) message_owned 32 t.rest.messages _ g.1.1.1.1.1.1.1.1.0 in
+    let ml = array_owned mail-row (λ x. Fits mail_widths (mail_numbers x)) mail-owned 16 t.rest.mail _ g.1.1.1.1.1.1.1.1.1.1.0 in
     record {
       sizes = record {
         tasks = ts.0;

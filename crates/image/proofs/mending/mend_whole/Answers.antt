@@ -10,20 +10,17 @@ use Rattle.image.proofs.Owned.{mended-owned}
 use Rattle.image.proofs.Listed.{mend_refused, mend_done}
 use borrow.Author.Rules.{rules}
 use Rattle.image.proofs.mending.mend_whole.Goals as goal
-use Rattle.image.proofs.mending.mend_whole.Goals.{After-mend-mended}
-
--- the table that was mended is what the bytes load to
-mended : (m : After-mend-mended) → m.mend-mended.result ≡ mend_of (load_of m.args.image.now)
-mended m = m.mend-mended.ensures.answer ∙ ap mend_of m.load_whole-table.ensures
 
 pub returns-then-number-ne0 : goal.returns-then-number-ne0
 returns-then-number-ne0 c =
-    let m = (goal.at.returns-then-number-ne0 c).After-mend-mended in
-    mend_refused m.args.image.now m.args.list.now m.requires.0 m.requires.1 m.mend-mended.result (mended m) c.if-number-ne0.true
+    let a = c.args in
+    mend_refused a.image.now a.list.now c.requires.0 c.requires.1 c.mend-mended.result
+    (c.mend-mended.ensures.answer ∙ ap mend_of c.load_whole-table.ensures) c.if-number-ne0.true
 
 pub returns : goal.returns
 returns c =
-    let m = (goal.at.returns c).After-load_whole-table in
-    mend_done m.args.image.now m.args.list.now m.requires.0 m.requires.1 m.mend-mended.result (mended m)
-    (omega (arith, c.if-number-ne0.false)) (mended-owned m.mend-mended.result _ m.mend-mended.type-inv) c.put_table.ensures
-    (c.put_list.ensures ∙ ap (λ (y : Notes). written m.args.list.now 0 (notes_bytes y)) c.notes_of-notes.ensures)
+    let a = c.args in
+    let x = c.mend-mended.result in
+    mend_done a.image.now a.list.now c.requires.0 c.requires.1 x (c.mend-mended.ensures.answer ∙ ap mend_of c.load_whole-table.ensures)
+    (omega (arith, c.if-number-ne0.false)) (mended-owned x _ c.mend-mended.type_inv) c.put_table.ensures
+    (c.put_list.ensures ∙ ap (λ (y : Notes). written a.list.now 0 (notes_bytes y)) c.notes_of-notes.ensures)

@@ -60,7 +60,7 @@ returns-then-not-alarms c =
     let t = c.long_in-time in
     let fs = c.word_in-flags in
     let e = c.all_alarms-alarms.ensures.right_value in
-    rule-broken s h t.result fs.result t.ensures fs.ensures (λ z. never (sym (sym e ∙ c.if-not-alarms.true) ∙ z.alarms))
+    rule-broken s h t.result fs.result t.ensures fs.ensures (λ z. never (sym (sym e ∙ not-true _ c.if-not-alarms.true) ∙ z.alarms))
 
 pub kind_sets-sets-requires : goal.kind_sets-sets-requires
 kind_sets-sets-requires c =
@@ -96,7 +96,7 @@ returns c =
     let es = sym c.entries_right.ensures ∙ c.if-not-entries_right.false in
     let zs = sym c.blank_past.ensures ∙ c.if-not-blank_past.false in
     let bs = sym c.in_bounds.ensures ∙ c.if-not-in_bounds.false in
-    let right = c.if-not-alarms.false in
+    let right = not-false _ c.if-not-alarms.false in
     begun-right s h t.result fs.result t.ensures fs.ensures c.if-b-ne-IMAGE.false n es zs bs
     (sym c.all_alarms-alarms.ensures.right_value ∙ right)
     (sym c.queue_right.ensures ∙ c.if-not-queue_right.false)

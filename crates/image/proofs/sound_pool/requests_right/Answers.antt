@@ -124,13 +124,13 @@ loop-i-preserved c =
       omega (arith, h),
       one_right a.b.now a.queued a.count g.1 v.i h v.invariant.1 (request_fit a.b.now a.count (704 + v.i * 6) a.idle g.3 c.if-count-target.false c.if-idle-target-eq1.false w.request_in-q.result w.request_in-q.ensures (sym w.request_fits.ensures ∙ w.if-not-request_fits.false)),
       one-named a.b.now a.queued a.count g.1 v.i h 4 v.starts _ v.invariant.2 _ (w.starts-is ∙ w.with-starts.ensures),
-      one-named a.b.now a.queued a.count g.1 v.i h 5 v.all-ends _ v.invariant.3 _ (w.all_ends-is ∙ w.with-all_ends.ensures),
+      one-named a.b.now a.queued a.count g.1 v.i h 5 v.all_ends _ v.invariant.3 _ (w.all_ends-is ∙ w.with-all_ends.ensures),
     )
     | else-quad-gt65535 w ↦ (
       omega (arith, h),
       one_right a.b.now a.queued a.count g.1 v.i h v.invariant.1 (request_lone a.b.now a.count (704 + v.i * 6) a.idle g.3 c.if-count-target.false c.if-idle-target-eq1.false c.if-b-at-gt15.false c.quad.result c.quad.ensures.result_value_2 w.if-quad-gt65535.false),
       rw w.starts-is (none_named a.b.now a.queued a.count g.1 v.i h 4 v.starts _ v.invariant.2 (start-nobody a.b.now a.count (704 + v.i * 6) a.idle g.3 c.if-count-target.false c.if-idle-target-eq1.false c.if-b-at-gt15.false c.quad.result c.quad.ensures.result_value_2 w.if-quad-gt65535.false)),
-      rw w.all_ends-is (none_named a.b.now a.queued a.count g.1 v.i h 5 v.all-ends _ v.invariant.3 (end-nobody a.b.now a.count (704 + v.i * 6) a.idle g.3 c.if-count-target.false c.if-idle-target-eq1.false c.if-b-at-gt15.false c.quad.result c.quad.ensures.result_value_2 w.if-quad-gt65535.false)),
+      rw w.all_ends-is (none_named a.b.now a.queued a.count g.1 v.i h 5 v.all_ends _ v.invariant.3 (end-nobody a.b.now a.count (704 + v.i * 6) a.idle g.3 c.if-count-target.false c.if-idle-target-eq1.false c.if-b-at-gt15.false c.quad.result c.quad.ensures.result_value_2 w.if-quad-gt65535.false)),
     )
     ]
 
@@ -144,6 +144,6 @@ returns c =
       right_value = all_right a.b.now a.queued a.count g.1 v.i h v.invariant.1;
       starts_value = λ e. (
         all_named a.b.now a.queued a.count g.1 v.i h 708 v.starts _ v.invariant.2,
-        all_named a.b.now a.queued a.count g.1 v.i h 709 v.all-ends _ v.invariant.3,
+        all_named a.b.now a.queued a.count g.1 v.i h 709 v.all_ends _ v.invariant.3,
       );
     }

@@ -24,7 +24,7 @@ returns-then-not-line c =
     let a = c.args in
     let g = c.requires in
     let w = c.walk-line.result in
-    queue-wrong a.b.now a.count a.ready g.2 g.1 w.right w.seen w.word c.walk-line.ensures (c.if-not-line.true)
+    queue-wrong a.b.now a.count a.ready g.2 g.1 w.right w.seen w.word c.walk-line.ensures (not-true _ c.if-not-line.true)
 
 pub pair_in-requires : goal.pair_in-requires
 pair_in-requires c = omega (arith, c.requires.0)
@@ -34,14 +34,14 @@ returns-then-line-pair_in c =
     let a = c.args in
     let g = c.requires in
     let w = c.walk-line.result in
-    queue_unlit a.b.now a.count a.ready g.2 g.1 w.right w.seen w.word c.walk-line.ensures (c.if-not-line.false) c.pair_in.result c.pair_in.ensures c.if-line-pair_in.true
+    queue_unlit a.b.now a.count a.ready g.2 g.1 w.right w.seen w.word c.walk-line.ensures (not-false _ c.if-not-line.false) c.pair_in.result c.pair_in.ensures c.if-line-pair_in.true
 
 pub returns-then-line-set : goal.returns-then-line-set
 returns-then-line-set c =
     let a = c.args in
     let g = c.requires in
     let w = c.walk-line.result in
-    queue-other a.b.now a.count a.ready g.2 g.1 w.right w.seen w.word c.walk-line.ensures (c.if-not-line.false) a.set g.3 c.if-line-set.true
+    queue-other a.b.now a.count a.ready g.2 g.1 w.right w.seen w.word c.walk-line.ensures (not-false _ c.if-not-line.false) a.set g.3 c.if-line-set.true
 
 pub blank_from-requires : goal.blank_from-requires
 blank_from-requires c = (c.requires.0, omega arith, c.if-ready-gt16.false)
@@ -51,5 +51,5 @@ returns c =
     let a = c.args in
     let g = c.requires in
     let w = c.walk-line.result in
-    queue-last a.b.now a.count a.ready g.2 g.1 w.right w.seen w.word c.walk-line.ensures (c.if-not-line.false) c.if-count-gt16.false c.if-ready-gt16.false
+    queue-last a.b.now a.count a.ready g.2 g.1 w.right w.seen w.word c.walk-line.ensures (not-false _ c.if-not-line.false) c.if-count-gt16.false c.if-ready-gt16.false
     c.pair_in.result a.set c.pair_in.ensures c.if-line-pair_in.false g.3 c.if-line-set.false c.blank_from.result c.blank_from.ensures

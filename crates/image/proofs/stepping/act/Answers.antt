@@ -9,19 +9,19 @@ use borrow.Author.Rules.{rules}
 use Rattle.image.proofs.stepping.act.Goals as goal
 
 pub returns-then-not-seen : goal.returns-then-not-seen
-returns-then-not-seen c = rw c.no_table.ensures (act_refused c.args.image.now c.args.call.now (sym c.see-seen.ensures.told ∙ c.if-not-seen.true))
+returns-then-not-seen c = rw c.no_table.ensures (act_refused c.args.image.now c.args.call.now (sym c.see-seen.ensures.told ∙ not-true _ c.if-not-seen.true))
 
 pub step-requires : goal.step-requires
 step-requires c =
     let s = c.args.image.now in
     let e = c.see-seen.ensures in
-    let r = c.if-not-seen.false in
+    let r = not-false _ c.if-not-seen.false in
     let b = and_true (is_image s) _ (sym e.told ∙ r) in
     (b.0, b.1, learned s b.1 _ _ (e.kinds r) (e.alarms r))
 
 pub returns : goal.returns
 returns c =
     let s = c.args.image.now in
-    let b = and_true (is_image s) _ (sym c.see-seen.ensures.told ∙ c.if-not-seen.false) in
+    let b = and_true (is_image s) _ (sym c.see-seen.ensures.told ∙ not-false _ c.if-not-seen.false) in
     let e = c.step.ensures in
     act_said s c.args.call.now c.step.result b.0 e.0 e.1.0 e.1.1
