@@ -1,10 +1,6 @@
 # How a command gets the proved program behind it: sourced by ./why, ./blocks and ./mend. Whoever sources it has refuse
 # and the repository's folder in root, has sourced tools/setup.sh, and has what it is called in who.
-
-# stale FILE: it is missing, or some source is newer.
-stale() {
-    [ ! -e "$1" ] || [ -n "$(find "$root/crates" "$root/crates.txt" -type f -newer "$1" 2>/dev/null)" ]
-}
+. "$root/tools/progress.sh"
 
 # the_program [OTHER]: sets program to what answers: another one where it is named, else who_program, proved and built
 # where some source is newer.
@@ -17,7 +13,7 @@ the_program() {
         echo "$who: proving and building the $who program; this takes minutes." >&2
         log=$root/target/${who}_build.log
         mkdir -p "$root/target" || exit 1
-        (cd "$root" && rt check "${who}_program") >"$log" 2>&1 || {
+        built "${who}_program" >"$log" 2>&1 || {
             tail -n 20 "$log" >&2
             refuse "the $who program could not be built; '$log' has all that was said."
         }

@@ -12,7 +12,7 @@ crates_below() {
         }
         { sub(/#.*/, "") }
         /:/ {
-            name = $0
+            name = $1
             sub(/:.*/, "", name)
             sub(/^[^:]*:/, "")
             rests[name] = $0
@@ -26,10 +26,10 @@ crates_below() {
 
 # What rt says is read line by line by the shell itself: an awk may wait for more before it looks at a line.
 
-# is_done LINE: true where it says that a crate or a must-fail edit is done.
+# is_done LINE: true where rt ci or rt must-fail says that a crate or a must-fail edit is done.
 is_done() {
     case $1 in
-    'rt: must-fail '*': '* | 'rt: '[a-z]*' proved ('* | 'rt: '[a-z]*' NOT PROVED'*) return 0 ;;
+    'rt: must-fail '*': '* | 'rt: '[a-z]*' proved' | 'rt: '[a-z]*' NOT PROVED'* | 'rt: '[a-z]*' is kept: '*) return 0 ;;
     *) return 1 ;;
     esac
 }
@@ -39,22 +39,34 @@ now_is() {
     [ -z "${1-}" ] || printf '; now %s' "$1"
 }
 
-# told_of WHO CRATES..: reads what rt says of these crates, and tells a line for each that is done, and one before them.
+# told_of WHO CRATES..: reads what rt says of these crates, the last of which it was called for, and tells a line for each
+# that is done, and one before them. rt says which crate it begins with, unless that is built already, and then whether
+# it is proved; the crates before one that it begins with are done.
 told_of() {
-    who=$1 total=$(($# - 1)) done=0
+    who=$1 total=$(($# - 1)) done=0 begun=
     shift
     echo "$who: proving $total crates, which takes minutes$(now_is "$1")"
     while IFS= read -r line; do
         printf '%s\n' "$line" >&4
-        is_done "$line" || case $line in 'rt: target/staticlib/'*) ;; *) continue ;; esac
-        name=${1-} verb=proved how=' before' done=$((done + 1))
         case $line in
-        *' s)') how=${line% s)} && how=${how##* } && how=" in ${how#(} s" ;;
-        'rt: target/staticlib/'*) how=' and built' ;;
+        'rt: chose --jobs '*' for '*)
+            begun=$(date +%s) name=${line##* for }
+            while [ $# -gt 0 ] && [ "$1" != "$name" ]; do
+                done=$((done + 1)) told=$1
+                shift
+                echo "$who: $told proved before, $done of $total$(now_is "$@")"
+            done
+            continue
+            ;;
+        'logic=proved '*) verb=proved ;;
+        'logic=not-proved'*) verb='NOT PROVED' ;;
+        *) continue ;;
         esac
-        case $line in *' NOT PROVED'*) verb='NOT PROVED' ;; esac
+        how=' before' done=$((done + 1)) told=${1-}
+        [ -z "$begun" ] || how=" in $(($(date +%s) - begun)) s"
+        begun=
         [ $# -eq 0 ] || shift
-        echo "$who: $name $verb$how, $done of $total$(now_is "$@")"
+        echo "$who: $told $verb$how, $done of $total$(now_is "$@")"
     done
 }
 
@@ -66,6 +78,24 @@ proving() {
     ended=$({ { "$@" 3>&- 2>&1; echo $? >&3; } | told_of "$who" $crates 4>"$said" >&2; } 3>&1)
     return "$ended"
 }
+
+# built NAME [RT]: has rt, or another command in its place, prove and build the program or the library for C NAME, and
+# leaves it as target/bin/NAME or target/staticlib/libNAME.a. A program is run by that, on its own input. The library of
+# blocks_c is libblocks.a. Whoever calls it has sourced tools/setup.sh.
+built() (
+    name=$1 rt=${2-rt} made=$root/crates/$1/out
+    cd "$root/crates/$name" || exit 1
+    if [ -e src/main.rt ]; then
+        given=/dev/null
+        [ ! -e stdin ] || given=stdin
+        "$rt" run <$given >/dev/null && mkdir -p "$root/target/bin" &&
+            cp "$made/$name" "$root/target/bin/$name.$$" && mv -f "$root/target/bin/$name.$$" "$root/target/bin/$name"
+    else
+        archive=$root/target/staticlib/lib${name%_c}.a
+        "$rt" lib && mkdir -p "$root/target/staticlib" && cp "$made/lib$name.a" "$archive.$$" &&
+            mv -f "$archive.$$" "$archive"
+    fi
+)
 
 # counted TOTAL: what rt says, as it comes; each crate and each must-fail edit that is done is counted. A tally is
 # marked as rt's own.

@@ -1,6 +1,7 @@
 # What ./test, ./bench and the comparisons need beyond the Rattle kit, and how they run what it builds: sourced by each.
 
-# The kit builds for x86-64 Linux. On another machine its programs run under its own emulator, and C is compiled across.
+# The kit builds for x86-64 Linux. On another machine its programs run under an emulator beside the kit's compiler, if it
+# has one there, and C is compiled across.
 machine=$(uname -m)
 case $machine in
 x86_64 | amd64) emulated=no c_prefix= c_packages=gcc ;;
@@ -8,18 +9,25 @@ x86_64 | amd64) emulated=no c_prefix= c_packages=gcc ;;
 esac
 c_compiler=${c_prefix}gcc c_lister=${c_prefix}objdump
 
-# kit_home, kit_tools: print the Rattle kit's folder, and the one of its compiler for this machine.
+# kit_home, kit_tools: print the Rattle kit's folder, and the one of its compiler.
 kit_home() {
     rt_path=$(readlink -f "$(command -v rt)") || rt_path=
-    printf '%s\n' "${RATTLE_HOME:-${rt_path%/bin/rt}}"
+    printf '%s\n' "${rt_path%/bin/rt}"
 }
 kit_tools() {
-    printf '%s/on/%s/toolchain\n' "$(kit_home)" "$machine"
+    printf '%s/toolchain\n' "$(kit_home)"
+}
+
+# stale FILE: it is missing, or some source is newer. What the kit leaves in a crate's out/ is no source. Whoever asks has
+# the repository's folder in root.
+stale() {
+    [ ! -e "$1" ] || [ -n "$(find "$root/crates" "$root/crates.txt" -name out -prune -o -type f -newer "$1" -print \
+        2>/dev/null)" ]
 }
 
 # emulator: sets parts to the folder that has the kit's emulator, or says in one sentence what is missing.
 emulator() {
-    if [ -z "${RATTLE_HOME-}" ] && ! command -v rt >/dev/null 2>&1; then
+    if ! command -v rt >/dev/null 2>&1; then
         echo "Please put the Rattle kit's command rt on the PATH: the kit's emulator runs x86-64 programs here." >&2
         return 1
     fi
