@@ -5,7 +5,6 @@ pub mod Loops
 pub mod Places
 pub mod Order
 pub mod Choices
-pub mod Lending
 pub mod Numbering
 pub mod Alike
 pub mod Flight

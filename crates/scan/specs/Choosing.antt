@@ -1,5 +1,5 @@
 -- Whom the second engine chooses (02): highest priority, then earliest arrival number, by a scan of all entries.
-use Rattle.std.specs.Prelude.{ℕ, zero, suc, ◌≤◌, ◌<◌, ◌≡◌, ◌↔◌, ◌≢◌, Bool, true, false, not, cond, List, [], ◌∷◌, ltb, length, set}
+use Rattle.std.specs.Prelude.{ℕ, zero, suc, ◌≤◌, ◌<◌, ◌≡◌, ◌↔◌, true, false, not, cond, List, [], ◌∷◌, ltb, length, set}
 use Rattle.records.specs.declared.TaskNo.{TaskNo}
 use Rattle.executive.specs.Places.{nobody}
 use Rattle.scan.specs.declared.Entry.{Entry}

@@ -1,6 +1,6 @@
 -- What is promised of the second engine (02): its answers are the first engine's, for any configuration and any steps,
 -- and from any well-formed table of its own; its table is kept well formed, by a check of its own.
-use Rattle.std.specs.Prelude.{ℕ, ◌+◌, ◌≤◌, ◌<◌, ◌≡◌, ◌↔◌, ◌≢◌, true, false, List, [], ◌∷◌, map, eqb}
+use Rattle.std.specs.Prelude.{ℕ, ◌+◌, ◌≤◌, ◌<◌, ◌≡◌, ◌↔◌, ◌≢◌, true, false, List, [], ◌∷◌, map}
 use Rattle.records.specs.declared.TaskNo.{TaskNo}
 use Rattle.records.specs.Numbers.{Bytes}
 use Rattle.executive.specs.declared.Answer.{Answer}

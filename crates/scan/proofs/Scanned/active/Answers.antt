@@ -1,6 +1,5 @@
 use native.Mathlib.Omega.{arith}
 use Rattle.scan.proofs.Choices.{number_is, number-none}
-use borrow.Author.Rules.{rules}
 use Rattle.scan.proofs.Scanned.active.Goals as goal
 
 pub overflow_cast-result : goal.overflow_cast-result

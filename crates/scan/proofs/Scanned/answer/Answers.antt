@@ -1,6 +1,5 @@
 use mathlib.Core.Path.{refl}
 use Rattle.scan.proofs.Places.{tasks-at}
-use borrow.Author.Rules.{rules}
 use Rattle.scan.proofs.Scanned.answer.Goals as goal
 
 pub returns : goal.returns

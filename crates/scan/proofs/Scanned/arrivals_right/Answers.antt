@@ -1,4 +1,3 @@
-use borrow.Author.Rules.{rules}
 use Rattle.scan.specs.Sound.{arrivals_right}
 use Rattle.scan.proofs.Scanned.arrivals_right.Goals as goal
 

@@ -1,6 +1,5 @@
 use mathlib.Core.Path.{sym, ◌∙◌}
 use Rattle.scan.proofs.Stepping.{checked_right, checked_wrong}
-use borrow.Author.Rules.{rules}
 use Rattle.scan.proofs.Scanned.check.Goals as goal
 
 pub returns-then-is_sound : goal.returns-then-is_sound

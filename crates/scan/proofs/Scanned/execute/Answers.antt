@@ -1,5 +1,4 @@
 use mathlib.Core.Path.{refl}
-use borrow.Author.Rules.{rules}
 use Rattle.scan.specs.Moves.{apply_scan}
 use Rattle.scan.proofs.Scanned.execute.Goals as goal
 

@@ -1,6 +1,5 @@
 use mathlib.Core.Path.{refl}
 use Rattle.scan.specs.Sound.{is_sound}
-use borrow.Author.Rules.{rules}
 use Rattle.scan.proofs.Scanned.is_sound.Goals as goal
 
 pub returns-then-arrivals_right : goal.returns-then-arrivals_right

@@ -1,6 +1,5 @@
 use mathlib.Core.Path.{sym, ◌∙◌}
 use Rattle.scan.proofs.Moving.{left-gone, left-stays}
-use borrow.Author.Rules.{rules}
 use Rattle.scan.proofs.Scanned.left.Goals as goal
 
 pub returns-then-leaves : goal.returns-then-leaves

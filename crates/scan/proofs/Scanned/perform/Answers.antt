@@ -1,7 +1,6 @@
 use Prim.Native.Nat.{ℕ}
 use mathlib.Core.Path.{◌≡◌, sym, ap, ◌∙◌}
 use mathlib.Core.List.{List}
-use borrow.Author.Rules.{rules}
 use Rattle.executive.specs.declared.deciding.Settled.{Settled}
 use Rattle.executive.specs.Deciding.{rest_after, settled_for}
 use Rattle.scan.specs.declared.Scanned.{Scanned}

@@ -1,7 +1,6 @@
 use mathlib.Core.Path.{refl}
 use borrow.Author.Tests.{ne_eqb}
 use Rattle.scan.specs.Step.{refused_scan}
-use borrow.Author.Rules.{rules}
 use Rattle.scan.proofs.Scanned.refuse.Goals as goal
 
 pub returns-then-number-eq1 : goal.returns-then-number-eq1

@@ -1,5 +1,4 @@
 use mathlib.Core.Path.{sym, ◌∙◌}
-use borrow.Author.Rules.{rules}
 use Rattle.scan.proofs.Stepping.{step-broken}
 use Rattle.scan.proofs.Scanned.step.Goals as goal
 

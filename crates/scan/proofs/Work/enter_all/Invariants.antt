@@ -1,11 +1,8 @@
-use mathlib.Core.Path.{◌≡◌, refl, sym, ◌∙◌}
-use native.Mathlib.Omega.{arith}
-use borrow.Author.Rules.{rules}
+use mathlib.Core.Path.{◌≡◌}
 use Prim.Native.Nat.{◌-◌, ◌*◌, ◌≤◌}
-use lib.ListN.{length, length-map, take, drop}
+use lib.ListN.{length, take, drop}
 use Rattle.executive.specs.Decisions.{joins_for}
 use Rattle.scan.specs.Moves.{enter_all_scan}
-use Rattle.scan.proofs.Moving.{enters-turn, enters-end}
 use Rattle.scan.proofs.Work.enter_all.Given as goal
 
 abbrev pub invariant-loop-i : goal.invariant-loop-i

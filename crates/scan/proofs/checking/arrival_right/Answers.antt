@@ -1,6 +1,5 @@
 use native.Mathlib.Omega.{arith}
 use borrow.Author.Tests.{le-ltb, lt-ltb, lt-leb, le-leb}
-use borrow.Author.Rules.{rules}
 use Rattle.scan.proofs.checking.arrival_right.Goals as goal
 
 pub returns-then-x-lt1 : goal.returns-then-x-lt1

@@ -1,14 +1,10 @@
-use mathlib.Core.Path.{◌≡◌, refl, sym, ◌∙◌}
+use mathlib.Core.Path.{refl, sym, ◌∙◌}
 use native.Mathlib.Omega.{arith}
-use borrow.Author.Rules.{rules}
-use Prim.Native.Nat.{◌-◌, ◌≤◌}
-use borrow.Author.Tests.{not-true, not-false, le-leb}
+use borrow.Author.Tests.{le-leb}
 use lib.Dec.{leb}
-use lib.ListN.{drop}
 use Rattle.executive.specs.Lists.{all_of}
 use Rattle.scan.specs.Entries.{no_entry}
 use Rattle.scan.specs.Entries.{most_arrivals}
-use Rattle.executive.specs.Lists.{◌and◌}
 use Rattle.scan.proofs.Basics.{and_none}
 use Rattle.scan.specs.Sound.{arrival_right}
 use Rattle.scan.proofs.Loops.{every-turn, every-not, every-end}

@@ -1,5 +1,4 @@
 use borrow.Author.Tests.{lt-ltb, le-ltb}
-use borrow.Author.Rules.{rules}
 use Rattle.scan.proofs.choosing.better.Goals as goal
 
 pub returns-then-not-ready : goal.returns-then-not-ready

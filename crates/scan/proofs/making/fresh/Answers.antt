@@ -1,6 +1,5 @@
 use mathlib.Core.Path.{refl}
 use Rattle.scan.specs.Making.{made_of}
-use borrow.Author.Rules.{rules}
 use Rattle.scan.proofs.making.fresh.Goals as goal
 
 pub returns : goal.returns

@@ -1,12 +1,9 @@
-use mathlib.Core.Path.{◌≡◌, refl, sym, ap, ◌∙◌}
+use mathlib.Core.Path.{refl, sym, ap, ◌∙◌}
 use native.Mathlib.Omega.{arith}
-use borrow.Author.Rules.{rules}
-use Prim.Native.Nat.{◌+◌, ◌-◌, ◌≤◌}
 use mathlib.Core.List.{◌++◌}
-use lib.ListN.{length, take, drop, get_or, length-set}
+use lib.ListN.{take, get_or, length-set}
 use Rattle.executive.specs.States.{ready, is_of}
 use Rattle.executive.specs.Places.{no_task}
-use Rattle.scan.specs.Making.{numbered_from}
 use Rattle.scan.proofs.Basics.{one-small}
 use Rattle.scan.proofs.Loops.{take_more, take_all, number-on, number-end}
 use Rattle.scan.proofs.making.numbered.Goals as goal

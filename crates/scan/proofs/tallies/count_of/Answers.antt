@@ -1,14 +1,10 @@
 -- `tallies::count_of` meets its contract. The invariant: what was counted and what is to be counted from i on make the
 -- whole, and the entry at i is counted.
-use Prim.Native.Nat.{◌+◌, ◌-◌, ◌≤◌, ◌<◌}
-use mathlib.Core.Path.{◌≡◌, ap}
-use mathlib.Core.Bool.{true}
+use mathlib.Core.Path.{ap}
 use native.Mathlib.Omega.{arith}
-use lib.ListN.{drop, get_or}
-use borrow.Author.Rules.{rules}
 use Rattle.executive.specs.Lists.{one}
 use Rattle.scan.specs.declared.Entry.{Entry}
-use Rattle.scan.specs.Entries.{no_entry, passes, count_of}
+use Rattle.scan.specs.Entries.{no_entry, passes}
 use Rattle.scan.proofs.Loops.{sum-on, sum-end}
 use Rattle.scan.proofs.tallies.count_of.Goals as goal
 

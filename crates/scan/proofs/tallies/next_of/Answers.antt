@@ -1,12 +1,9 @@
 -- `tallies::next_of` meets its contract. The invariant: none is counted between the first place and i.
-use Prim.Native.Nat.{◌-◌, ◌≤◌}
-use mathlib.Core.Path.{◌≡◌, sym, ap, ◌∙◌}
+use mathlib.Core.Path.{sym, ap, ◌∙◌}
 use native.Mathlib.Omega.{arith}
-use lib.ListN.{drop}
-use borrow.Author.Rules.{rules}
 use Rattle.executive.specs.Lists.{one}
 use Rattle.scan.specs.declared.Entry.{Entry}
-use Rattle.scan.specs.Entries.{no_entry, passes, count_of}
+use Rattle.scan.specs.Entries.{no_entry, passes}
 use Rattle.scan.proofs.Loops.{sum-on}
 use Rattle.scan.proofs.tallies.next_of.Goals as goal
 

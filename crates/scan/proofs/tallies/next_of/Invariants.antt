@@ -1,13 +1,8 @@
 -- `tallies::next_of` meets its contract. The invariant: none is counted between the first place and i.
 use Prim.Native.Nat.{◌-◌, ◌≤◌}
-use mathlib.Core.Path.{◌≡◌, sym, ap, ◌∙◌}
-use native.Mathlib.Omega.{arith}
+use mathlib.Core.Path.{◌≡◌}
 use lib.ListN.{drop}
-use borrow.Author.Rules.{rules}
-use Rattle.executive.specs.Lists.{one}
-use Rattle.scan.specs.declared.Entry.{Entry}
-use Rattle.scan.specs.Entries.{no_entry, passes, count_of}
-use Rattle.scan.proofs.Loops.{sum-on}
+use Rattle.scan.specs.Entries.{count_of}
 use Rattle.scan.proofs.tallies.next_of.Given as goal
 
 abbrev pub invariant-loop-i : goal.invariant-loop-i

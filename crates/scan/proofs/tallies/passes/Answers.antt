@@ -1,4 +1,3 @@
-use borrow.Author.Rules.{rules}
 use Rattle.scan.proofs.tallies.passes.Goals as goal
 
 pub returns-in-IsReady : goal.returns-in-IsReady
