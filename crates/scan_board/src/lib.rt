@@ -1,4 +1,5 @@
-// The second engine's table as bytes, and its entry points for C, on byte slices and numbers only.
+// The second engine's table as bytes, and its entry points, on byte slices and numbers only; `scan_board_c` has them
+// under their symbols for C.
 #![tactic(auto)]
 
 ghost use Rattle.scan_board.specs.EntryPoints.{MakesScan, CheckedScan, StepsScan};
@@ -14,8 +15,7 @@ pub const IMAGE: usize = image::IMAGE + 68;
 
 // Makes a fresh table from configuration bytes: 0 and its image written; 30 where the buffer has not the image's
 // length, 2 where they are no configuration, and then no byte is changed.
-#[unsafe(no_mangle)]
-pub extern "C" fn quermanic_scan_fresh(config: &[u8], image: &mut [u8]) -> u8
+pub fn quermanic_scan_fresh(config: &[u8], image: &mut [u8]) -> u8
     ensures { MakesScan config.now image.old image.new result }
 {
     if image.len() != IMAGE {
@@ -32,8 +32,7 @@ pub extern "C" fn quermanic_scan_fresh(config: &[u8], image: &mut [u8]) -> u8
 }
 
 // Checks an image: 0 where it is that of a well-formed table, else 1.
-#[unsafe(no_mangle)]
-pub extern "C" fn quermanic_scan_check(image: &[u8]) -> u8
+pub fn quermanic_scan_check(image: &[u8]) -> u8
     ensures { CheckedScan image.now result }
 {
     if !images::is_scan(image) {
@@ -46,8 +45,7 @@ pub extern "C" fn quermanic_scan_check(image: &[u8]) -> u8
 // Takes a step: the answer's number, and the answer at the start of its buffer. Accepted (0), the image is rewritten;
 // refused, none of its bytes is changed. Where the answer's buffer is shorter than 25 bytes: 30, and no byte of any
 // buffer is changed.
-#[unsafe(no_mangle)]
-pub extern "C" fn quermanic_scan_step(image: &mut [u8], call: &[u8], answer: &mut [u8]) -> u8
+pub fn quermanic_scan_step(image: &mut [u8], call: &[u8], answer: &mut [u8]) -> u8
     ensures { StepsScan image.old call.now answer.old image.new answer.new result }
 {
     if answer.len() < 25 {
