@@ -1,6 +1,6 @@
 -- Equal blocks that stand one after the other in a row of bytes, and bytes written over a part of a buffer. Nothing
 -- here knows of the table.
-use Rattle.std.specs.Prelude.{ℕ, zero, suc, ◌+◌, ◌≡◌, Bool, true, false, cond, List, [], ◌∷◌, ◌++◌, eqb, length, take, drop}
+use Rattle.std.specs.Prelude.{ℕ, zero, suc, ◌+◌, Bool, true, false, cond, List, [], ◌∷◌, ◌++◌, eqb, length, take, drop}
 use Prim.{Unit}
 
 -- the blocks of some elements, laid one after the other

@@ -1,7 +1,6 @@
 -- `check` meets its contract: 0 exactly where the bytes are the image of a well-formed table.
 use mathlib.Core.Path.{sym, ◌∙◌}
 use Rattle.image.proofs.Answered.{check_sound, check_unsound}
-use borrow.Author.Rules.{rules}
 use Rattle.image.proofs.check.Goals as goal
 
 pub returns-then-is_sound : goal.returns-then-is_sound

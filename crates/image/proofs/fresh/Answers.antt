@@ -1,9 +1,7 @@
 -- `fresh` meets its contract: its three outcomes are the definition's.
 use mathlib.Core.Path.{sym, ◌∙◌}
 use native.Mathlib.Omega.{arith}
-use borrow.Author.Tests.{not-true, not-false}
 use Rattle.image.proofs.Answered.{fresh-length, fresh-refused, fresh-made}
-use borrow.Author.Rules.{rules}
 use Rattle.image.proofs.fresh.Goals as goal
 
 pub returns-then-image-ne-IMAGE : goal.returns-then-image-ne-IMAGE

@@ -2,7 +2,6 @@
 use mathlib.Core.Path.{ap, sym, ◌∙◌}
 use Rattle.image.specs.EntryPoints.{lamp_byte}
 use Rattle.image.proofs.Shown.{lamp-short, lamp-read}
-use borrow.Author.Rules.{rules}
 use Rattle.image.proofs.lamp.Goals as goal
 
 pub returns-then-image-ne-IMAGE : goal.returns-then-image-ne-IMAGE

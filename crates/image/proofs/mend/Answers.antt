@@ -2,7 +2,6 @@
 use mathlib.Core.Path.{sym}
 use native.Mathlib.Omega.{arith}
 use Rattle.image.proofs.Listed.{mend_short, mend_none, mend_kept}
-use borrow.Author.Rules.{rules}
 use Rattle.image.proofs.mend.Goals as goal
 
 pub returns-then-list-lt33 : goal.returns-then-list-lt33

@@ -1,6 +1,5 @@
 -- `step` meets its contract: a short buffer for the answer is refused before all, and else the answer is written there.
 use native.Mathlib.Omega.{arith}
-use borrow.Author.Rules.{rules}
 use Rattle.image.proofs.Answered.{step-short, step-acted}
 use Rattle.image.proofs.step.Goals as goal
 

@@ -1,6 +1,5 @@
 -- `why` meets its contract: its two outcomes are the definition's.
 use Rattle.image.proofs.Answered.{why_short, why_told}
-use borrow.Author.Rules.{rules}
 use Rattle.image.proofs.why.Goals as goal
 
 pub returns-then-out-lt196 : goal.returns-then-out-lt196

@@ -4,7 +4,6 @@ use native.Mathlib.Omega.{arith}
 use lib.ListN.{length}
 use borrow.Author.Tests.{lt-ltb, le-ltb}
 use Rattle.image.specs.EntryPoints.{answer_length}
-use borrow.Author.Rules.{rules}
 use Rattle.image.proofs.answers.give.Goals as goal
 
 pub returns-then-out-lt25 : goal.returns-then-out-lt25

@@ -1,6 +1,5 @@
 -- `answers::put_answer` meets its contract: its seven writes make one.
 use Rattle.image.proofs.Pieces.{wrote-answer}
-use borrow.Author.Rules.{rules}
 use Rattle.image.proofs.answers.put_answer.Goals as goal
 
 pub returns : goal.returns

@@ -2,7 +2,6 @@ use native.Mathlib.Omega.{arith}
 use Rattle.image.proofs.Parts.{wrote, request_laid}
 use Rattle.image.proofs.ReadOff.{queued-read}
 use Rattle.image.proofs.RestLaid.{added-laid}
-use borrow.Author.Rules.{rules}
 use Rattle.image.proofs.changes.add_request.Goals as goal
 
 pub returns-then-n-gt31 : goal.returns-then-n-gt31

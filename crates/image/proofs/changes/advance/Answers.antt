@@ -3,7 +3,6 @@ use native.Mathlib.Omega.{arith}
 use mathlib.Core.Path.{refl, ◌∙◌}
 use Rattle.image.proofs.ReadOff.{clock-read, granule-read}
 use Rattle.image.proofs.RestLaid.{sum_of, advanced-laid}
-use borrow.Author.Rules.{rules}
 use Rattle.image.proofs.changes.advance.Goals as goal
 
 pub returns-then-clock-gt1099511627776 : goal.returns-then-clock-gt1099511627776

@@ -1,5 +1,4 @@
 -- Each change is done by its own function, and what that ensures is what is asked.
-use borrow.Author.Rules.{rules}
 use Rattle.image.proofs.changes.change.Goals as goal
 
 pub returns-in-Same : goal.returns-in-Same

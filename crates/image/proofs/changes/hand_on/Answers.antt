@@ -6,7 +6,6 @@ use Rattle.image.proofs.Joined.{row_read}
 use Rattle.image.proofs.Spans.{Wide, each_all}
 use Rattle.image.specs.Image.{place_bytes}
 use Rattle.image.proofs.RestLaid.{having-own, having-read, holder-laid, line-closed-laid, waiting-laid, free-laid, handed_on-laid}
-use borrow.Author.Rules.{rules}
 use Rattle.image.proofs.changes.hand_on.Goals as goal
 
 pub returns-then-m-gt7 : goal.returns-then-m-gt7

@@ -1,7 +1,6 @@
 use native.Mathlib.Omega.{arith}
 use Rattle.image.proofs.ReadOff.{sent-read}
 use Rattle.image.proofs.RestLaid.{letters-closed, handed-laid}
-use borrow.Author.Rules.{rules}
 use Rattle.image.proofs.changes.hand_out.Goals as goal
 
 pub returns-then-n-eq0 : goal.returns-then-n-eq0

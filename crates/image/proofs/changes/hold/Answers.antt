@@ -1,7 +1,6 @@
 use native.Mathlib.Omega.{arith}
 use Rattle.executive.specs.Subprograms.{sub_at}
 use Rattle.image.proofs.RestLaid.{having-own, holder-laid}
-use borrow.Author.Rules.{rules}
 use Rattle.image.proofs.changes.hold.Goals as goal
 
 pub returns-then-m-gt7 : goal.returns-then-m-gt7

@@ -1,7 +1,6 @@
 use native.Mathlib.Omega.{arith}
 use Rattle.executive.specs.Subprograms.{sub_at}
 use Rattle.image.proofs.RestLaid.{having-own, having-read, line_slid_laid, waiting-laid, joined-laid}
-use borrow.Author.Rules.{rules}
 use Rattle.image.proofs.changes.line_up.Goals as goal
 
 pub returns-then-m-gt7 : goal.returns-then-m-gt7

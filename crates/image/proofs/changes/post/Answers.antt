@@ -2,7 +2,6 @@
 use native.Mathlib.Omega.{arith}
 use Rattle.image.proofs.ReadOff.{sent-read}
 use Rattle.image.proofs.RestLaid.{letters_slid, posted-laid}
-use borrow.Author.Rules.{rules}
 use Rattle.image.proofs.changes.post.Goals as goal
 
 pub returns-then-n-gt31 : goal.returns-then-n-gt31

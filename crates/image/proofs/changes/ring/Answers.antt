@@ -1,7 +1,6 @@
 use mathlib.Core.Path.{◌∙◌}
 use Rattle.image.proofs.ReadOff.{alarm-read, flags-read}
 use Rattle.image.proofs.RestLaid.{ring-none, ring-late, ring-due}
-use borrow.Author.Rules.{rules}
 use Rattle.image.proofs.changes.ring.Goals as goal
 
 pub returns-then-alarm-eq0 : goal.returns-then-alarm-eq0

@@ -1,14 +1,9 @@
 -- The due alarms ring, of those that are running. The loop's invariant: the bytes are the image of a table in which those
 -- before i rang and the others are as they were, and what is left to ring from i on gives the whole. The measure is what is
 -- left of the 32.
-use mathlib.Core.Path.{◌≡◌, sym, ◌∙◌}
+use mathlib.Core.Path.{sym, ◌∙◌}
 use native.Mathlib.Omega.{arith}
-use Prim.Native.Nat.{◌-◌}
-use lib.ListN.{length}
-use Rattle.executive.specs.declared.Table.{Table}
-use Rattle.image.specs.Laid.{Laid}
-use Rattle.image.specs.Marks.{Running}
-use Rattle.image.proofs.RestLaid.{Rung, rung-first, rung-next, rung-end, rung-none}
+use Rattle.image.proofs.RestLaid.{rung-first, rung-next, rung-end, rung-none}
 use Rattle.image.proofs.changes.ring_from.Goals as goal
 
 pub returns-then-first-gt31 : goal.returns-then-first-gt31

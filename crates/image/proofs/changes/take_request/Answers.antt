@@ -1,7 +1,6 @@
 use native.Mathlib.Omega.{arith}
 use Rattle.image.proofs.ReadOff.{queued-read}
 use Rattle.image.proofs.RestLaid.{pool-closed, taken-laid}
-use borrow.Author.Rules.{rules}
 use Rattle.image.proofs.changes.take_request.Goals as goal
 
 pub returns-then-n-eq0 : goal.returns-then-n-eq0

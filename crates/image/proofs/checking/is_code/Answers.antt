@@ -2,7 +2,6 @@
 use mathlib.Core.Path.{refl}
 use native.Mathlib.Omega.{arith}
 use borrow.Author.Tests.{eq-eqb, ne_eqb}
-use borrow.Author.Rules.{rules}
 use Rattle.executive.specs.States.{state_of}
 use Rattle.image.specs.Image.{state_in}
 use Rattle.image.specs.Coding.{are_of}

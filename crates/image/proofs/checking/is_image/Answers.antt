@@ -1,11 +1,8 @@
 -- `checking::is_image` meets its contract. The invariant: the entries up to i hold the numbers of a state.
-use Prim.Native.Nat.{ℕ, ◌-◌, ◌≤◌, ◌<◌}
 use mathlib.Core.Path.{refl, sym, ◌∙◌}
 use native.Mathlib.Omega.{arith}
 use borrow.Author.Count.{below_more}
-use borrow.Author.Tests.{not-true, not-false}
-use Rattle.image.proofs.Canonical.{Canonical, canonical_image, code_canonical, not-image, not-long}
-use borrow.Author.Rules.{rules}
+use Rattle.image.proofs.Canonical.{canonical_image, code_canonical, not-image, not-long}
 use Rattle.image.proofs.checking.is_image.Goals as goal
 
 pub returns-then-bytes-ne-IMAGE : goal.returns-then-bytes-ne-IMAGE

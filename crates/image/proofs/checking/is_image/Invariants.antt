@@ -1,11 +1,6 @@
 -- `checking::is_image` meets its contract. The invariant: the entries up to i hold the numbers of a state.
 use Prim.Native.Nat.{ℕ, ◌-◌, ◌≤◌, ◌<◌}
-use mathlib.Core.Path.{refl, sym, ◌∙◌}
-use native.Mathlib.Omega.{arith}
-use borrow.Author.Count.{below_more}
-use borrow.Author.Tests.{not-true, not-false}
-use Rattle.image.proofs.Canonical.{Canonical, canonical_image, code_canonical, not-image, not-long}
-use borrow.Author.Rules.{rules}
+use Rattle.image.proofs.Canonical.{Canonical}
 use Rattle.image.proofs.checking.is_image.Given as goal
 
 abbrev pub invariant-loop-i : goal.invariant-loop-i

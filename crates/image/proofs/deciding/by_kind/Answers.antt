@@ -1,7 +1,6 @@
 -- Each kind is decided by its own function, with the sets that it asks for.
 use mathlib.Core.Path.{refl}
 use Rattle.executive.specs.Sheet.{decided}
-use borrow.Author.Rules.{rules}
 use Rattle.image.proofs.deciding.by_kind.Goals as goal
 
 pub returns-in-Terminate : goal.returns-in-Terminate

@@ -1,7 +1,6 @@
 -- A record that is empty, no call or cannot be read is refused as its definition has it; else its call decides.
 use mathlib.Core.Path.{sym, ◌∙◌}
 use Rattle.executive.proofs.Assured.{in_empty, in_no-call, in_read, in_refused}
-use borrow.Author.Rules.{rules}
 use Rattle.image.proofs.deciding.decide.Goals as goal
 
 pub returns-then-call-eq0 : goal.returns-then-call-eq0

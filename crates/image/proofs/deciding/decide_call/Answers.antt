@@ -1,7 +1,6 @@
 -- Where nobody is active the call is refused with 5, as its definition has it; else its kind decides.
 use mathlib.Core.Path.{refl}
 use Rattle.executive.specs.Sheet.{decision_of}
-use borrow.Author.Rules.{rules}
 use Rattle.image.proofs.deciding.decide_call.Goals as goal
 
 pub returns-then-nobody_active : goal.returns-then-nobody_active

@@ -2,14 +2,8 @@
 -- which those who are still to enter make the whole.
 use native.Mathlib.Omega.{arith}
 use mathlib.Core.Path.{◌≡◌, sym, ◌∙◌}
-use Prim.Native.Nat.{◌≤◌, ◌-◌, ◌*◌}
-use lib.ListN.{length, length-map, take, drop}
-use Rattle.executive.specs.declared.Table.{Table}
-use Rattle.executive.specs.Queue.{Desc}
-use Rattle.executive.specs.Table.{FindsRoom, InFlight, view, begin, enter_all_in_flight, lit_in_flight}
-use Rattle.executive.specs.Decisions.{joins_for}
-use Rattle.image.specs.Laid.{Laid}
-use Rattle.image.proofs.DoneLaid.{Entering, stage_start, stage_turn, stage_end}
+use lib.ListN.{length}
+use Rattle.image.proofs.DoneLaid.{stage_start, stage_turn, stage_end}
 use Rattle.image.proofs.doing.enter_all.Goals as goal
 
 pub returns-then-list-gt16 : goal.returns-then-list-gt16

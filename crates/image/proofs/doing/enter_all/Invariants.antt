@@ -1,15 +1,14 @@
 -- `doing::enter_all` meets its contract. The invariant: the bytes are the image of a table on the way, whose line descends, and of
 -- which those who are still to enter make the whole.
-use native.Mathlib.Omega.{arith}
-use mathlib.Core.Path.{◌≡◌, sym, ◌∙◌}
+use mathlib.Core.Path.{◌≡◌}
 use Prim.Native.Nat.{◌≤◌, ◌-◌, ◌*◌}
-use lib.ListN.{length, length-map, take, drop}
+use lib.ListN.{length, take, drop}
 use Rattle.executive.specs.declared.Table.{Table}
 use Rattle.executive.specs.Queue.{Desc}
 use Rattle.executive.specs.Table.{FindsRoom, InFlight, view, begin, enter_all_in_flight, lit_in_flight}
 use Rattle.executive.specs.Decisions.{joins_for}
 use Rattle.image.specs.Laid.{Laid}
-use Rattle.image.proofs.DoneLaid.{Entering, stage_start, stage_turn, stage_end}
+use Rattle.image.proofs.DoneLaid.{Entering}
 use Rattle.image.proofs.doing.enter_all.Given as goal
 
 abbrev pub invariant-loop-i : goal.invariant-loop-i

@@ -11,7 +11,6 @@ use Rattle.image.specs.Marks.{Running}
 use Rattle.image.proofs.Parts.{onto}
 use Rattle.image.proofs.ReadOff.{clock-read}
 use Rattle.image.proofs.DoneLaid.{midway, midway-flying, midway-finds, midway-sorted, whole_is, rest-same}
-use borrow.Author.Rules.{rules}
 use Rattle.image.proofs.doing.execute.Goals as goal
 
 pub returns : goal.returns

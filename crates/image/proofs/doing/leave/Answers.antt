@@ -1,6 +1,5 @@
 use Rattle.image.proofs.DoneLaid.{stays-laid}
 use Rattle.executive.specs.Table.{depart}
-use borrow.Author.Rules.{rules}
 use Rattle.image.proofs.doing.leave.Goals as goal
 
 pub returns-in-Stays : goal.returns-in-Stays

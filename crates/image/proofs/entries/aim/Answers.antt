@@ -1,5 +1,4 @@
 use Rattle.image.proofs.EntryLaid.{kept-aim, new-aim, same-laid, changed-laid}
-use borrow.Author.Rules.{rules}
 use Rattle.image.proofs.entries.aim.Goals as goal
 
 pub returns-then-b-i-ne3 : goal.returns-then-b-i-ne3

@@ -2,7 +2,6 @@
 use native.Mathlib.Omega.{arith}
 use Rattle.image.proofs.EntryLaid.{put_laid-at, put_laid-none}
 use Rattle.executive.specs.Entries.{begun}
-use borrow.Author.Rules.{rules}
 use Rattle.image.proofs.entries.beginning.Goals as goal
 
 pub returns-then-i-gt15 : goal.returns-then-i-gt15

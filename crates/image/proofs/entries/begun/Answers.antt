@@ -5,7 +5,6 @@ use Rattle.executive.specs.Entries.{with_state}
 use lib.ListN.{get_or}
 use Rattle.executive.specs.Places.{no_task}
 use Rattle.image.specs.Laid.{with_run}
-use borrow.Author.Rules.{rules}
 use Rattle.image.proofs.entries.begun.Goals as goal
 
 pub returns : goal.returns

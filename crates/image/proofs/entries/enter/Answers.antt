@@ -4,7 +4,6 @@ use Rattle.executive.specs.Entries.{with_state, aimed}
 use lib.ListN.{get_or}
 use Rattle.executive.specs.Places.{no_task}
 use Rattle.image.specs.Laid.{with_start}
-use borrow.Author.Rules.{rules}
 use Rattle.image.proofs.entries.enter.Goals as goal
 
 pub returns-in-Woken : goal.returns-in-Woken

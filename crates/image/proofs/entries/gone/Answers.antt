@@ -1,7 +1,6 @@
 use native.Mathlib.Omega.{arith}
 use Rattle.image.proofs.EntryLaid.{put_laid-at, put_laid-none}
 use Rattle.executive.specs.Decisions.{gone_as}
-use borrow.Author.Rules.{rules}
 use Rattle.image.proofs.entries.gone.Goals as goal
 
 pub returns-then-i-gt15 : goal.returns-then-i-gt15

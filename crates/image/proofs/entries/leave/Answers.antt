@@ -4,7 +4,6 @@ use Rattle.executive.specs.Entries.{with_state}
 use lib.ListN.{get_or}
 use Rattle.executive.specs.Places.{no_task, no_request, nobody, never}
 use Rattle.image.specs.Laid.{with_run, with_waiter}
-use borrow.Author.Rules.{rules}
 use Rattle.image.proofs.entries.leave.Goals as goal
 
 pub returns-in-Stays : goal.returns-in-Stays

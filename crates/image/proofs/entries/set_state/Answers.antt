@@ -1,6 +1,5 @@
 use mathlib.Core.Path.{refl}
 use Rattle.image.proofs.EntryLaid.{state-laid}
-use borrow.Author.Rules.{rules}
 use Rattle.image.proofs.entries.set_state.Goals as goal
 
 pub returns : goal.returns

@@ -1,5 +1,4 @@
 use Rattle.image.proofs.EntryLaid.{waiter-laid}
-use borrow.Author.Rules.{rules}
 use Rattle.image.proofs.entries.set_waiter.Goals as goal
 
 pub returns : goal.returns

@@ -2,7 +2,6 @@ use mathlib.Core.Path.{ap, ◌∙◌}
 use native.Mathlib.Omega.{arith}
 use Rattle.executive.specs.declared.Task.{Task}
 use Rattle.image.proofs.ReadOff.{argument-of, entry-none}
-use borrow.Author.Rules.{rules}
 use Rattle.image.proofs.fields.argument.Goals as goal
 
 pub returns-then-i-gt15 : goal.returns-then-i-gt15

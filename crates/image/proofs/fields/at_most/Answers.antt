@@ -1,5 +1,4 @@
 use native.Mathlib.Omega.{arith}
-use borrow.Author.Rules.{rules}
 use Rattle.image.proofs.fields.at_most.Goals as goal
 
 pub returns-then-most-n : goal.returns-then-most-n

@@ -3,7 +3,6 @@ use native.Mathlib.Omega.{arith}
 use Prim.Native.Nat.{ℕ}
 use Rattle.executive.specs.declared.Task.{Task}
 use Rattle.image.proofs.ReadOff.{waiter-of, entry-none}
-use borrow.Author.Rules.{rules}
 use Rattle.image.proofs.fields.end_waiter.Goals as goal
 
 pub returns-then-i-gt15 : goal.returns-then-i-gt15

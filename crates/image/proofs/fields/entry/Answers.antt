@@ -1,7 +1,6 @@
 use native.Mathlib.Omega.{arith}
 use mathlib.Core.Path.{◌∙◌}
 use Rattle.image.proofs.ReadOff.{entry_of, entry-none}
-use borrow.Author.Rules.{rules}
 use Rattle.image.proofs.fields.entry.Goals as goal
 
 pub returns-then-i-gt15 : goal.returns-then-i-gt15

@@ -5,7 +5,6 @@ use native.Mathlib.Omega.{arith}
 use lib.ListN.{get_or}
 use Rattle.executive.proofs.Assured.{place_none, place-past, place-task}
 use Rattle.image.proofs.ReadOff.{level-of, level-none}
-use borrow.Author.Rules.{rules}
 use Rattle.image.proofs.fields.level.Goals as goal
 
 pub returns-then-n-eq0 : goal.returns-then-n-eq0

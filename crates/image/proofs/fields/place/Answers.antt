@@ -3,7 +3,6 @@ use Prim.Native.Nat.{ℕ, ◌-◌}
 use mathlib.Core.Path.{ap, ◌∙◌}
 use native.Mathlib.Omega.{arith}
 use Rattle.executive.proofs.Assured.{place_none, place-past, place-task}
-use borrow.Author.Rules.{rules}
 use Rattle.image.proofs.fields.place.Goals as goal
 
 pub returns-then-n-eq0 : goal.returns-then-n-eq0

@@ -1,5 +1,4 @@
 use native.Mathlib.Omega.{arith}
-use borrow.Author.Rules.{rules}
 use Rattle.image.proofs.fields.set_alarm_of.Goals as goal
 
 pub returns-then-f-gt31 : goal.returns-then-f-gt31

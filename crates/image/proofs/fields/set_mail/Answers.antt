@@ -1,6 +1,5 @@
 use native.Mathlib.Omega.{arith}
 use Rattle.image.proofs.RestLaid.{mail_put_laid, mail-none-laid}
-use borrow.Author.Rules.{rules}
 use Rattle.image.proofs.fields.set_mail.Goals as goal
 
 pub returns-then-i-gt15 : goal.returns-then-i-gt15

@@ -1,5 +1,4 @@
 use Rattle.image.proofs.Parts.{queued-laid}
-use borrow.Author.Rules.{rules}
 use Rattle.image.proofs.fields.set_queued.Goals as goal
 
 pub returns : goal.returns

@@ -3,7 +3,6 @@ use native.Mathlib.Omega.{arith}
 use Prim.Native.Nat.{ℕ}
 use Rattle.executive.specs.declared.Task.{Task}
 use Rattle.image.proofs.ReadOff.{start_of, entry-none}
-use borrow.Author.Rules.{rules}
 use Rattle.image.proofs.fields.start.Goals as goal
 
 pub returns-then-i-gt15 : goal.returns-then-i-gt15

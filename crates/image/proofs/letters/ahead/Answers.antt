@@ -1,10 +1,5 @@
 use native.Mathlib.Omega.{arith}
-use mathlib.Core.Path.{◌≡◌}
-use Prim.Native.Nat.{◌+◌, ◌-◌, ◌≤◌}
-use lib.ListN.{take, drop}
-use Rattle.executive.specs.declared.Table.{Table}
-use Rattle.image.specs.Laid.{Laid}
-use Rattle.executive.specs.Messages.{no_message, stay_ahead, urgency}
+use Rattle.executive.specs.Messages.{no_message, urgency}
 use Rattle.executive.proofs.Assured.{stay-stop, stay-pass, stay-end}
 use Rattle.image.proofs.Finds.{urgency-read}
 use Rattle.image.proofs.letters.ahead.Goals as goal

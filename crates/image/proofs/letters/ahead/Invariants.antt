@@ -1,12 +1,9 @@
-use native.Mathlib.Omega.{arith}
 use mathlib.Core.Path.{◌≡◌}
 use Prim.Native.Nat.{◌+◌, ◌-◌, ◌≤◌}
 use lib.ListN.{take, drop}
 use Rattle.executive.specs.declared.Table.{Table}
 use Rattle.image.specs.Laid.{Laid}
-use Rattle.executive.specs.Messages.{no_message, stay_ahead, urgency}
-use Rattle.executive.proofs.Assured.{stay-stop, stay-pass, stay-end}
-use Rattle.image.proofs.Finds.{urgency-read}
+use Rattle.executive.specs.Messages.{stay_ahead, urgency}
 use Rattle.image.proofs.letters.ahead.Given as goal
 
 abbrev pub invariant-loop-i : goal.invariant-loop-i

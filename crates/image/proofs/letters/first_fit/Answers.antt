@@ -1,10 +1,5 @@
 use native.Mathlib.Omega.{arith}
-use mathlib.Core.Path.{◌≡◌, refl, sym, ◌∙◌}
-use Prim.Native.Nat.{◌-◌, ◌≤◌}
-use lib.ListN.{take, drop}
-use Rattle.executive.specs.declared.Table.{Table}
-use Rattle.image.specs.Laid.{Laid}
-use Rattle.executive.specs.Lists.{next_of}
+use mathlib.Core.Path.{refl, sym, ◌∙◌}
 use Rattle.executive.specs.Messages.{no_message, fits}
 use Rattle.image.proofs.Finds.{fit-hit, fit-pass, fit-end}
 use Rattle.image.proofs.letters.first_fit.Goals as goal

@@ -1,12 +1,10 @@
-use native.Mathlib.Omega.{arith}
-use mathlib.Core.Path.{◌≡◌, refl, sym, ◌∙◌}
+use mathlib.Core.Path.{◌≡◌}
 use Prim.Native.Nat.{◌-◌, ◌≤◌}
 use lib.ListN.{take, drop}
 use Rattle.executive.specs.declared.Table.{Table}
 use Rattle.image.specs.Laid.{Laid}
 use Rattle.executive.specs.Lists.{next_of}
-use Rattle.executive.specs.Messages.{no_message, fits}
-use Rattle.image.proofs.Finds.{fit-hit, fit-pass, fit-end}
+use Rattle.executive.specs.Messages.{fits}
 use Rattle.image.proofs.letters.first_fit.Given as goal
 
 abbrev pub invariant-loop-i : goal.invariant-loop-i

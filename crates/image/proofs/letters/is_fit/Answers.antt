@@ -2,7 +2,6 @@ use mathlib.Core.Path.{refl}
 use Rattle.executive.specs.Messages.{no_message}
 use lib.ListN.{get_or}
 use Rattle.image.proofs.Finds.{addressee-read, sender-read, fits-other, fits-any, fits-from}
-use borrow.Author.Rules.{rules}
 use Rattle.image.proofs.letters.is_fit.Goals as goal
 
 pub returns-then-k-b : goal.returns-then-k-b

@@ -4,7 +4,6 @@ use lib.ListN.{length, take, get_or-eq_default}
 use lib.Seq.{length-take-le, get_or-take}
 use Rattle.executive.specs.Messages.{no_message}
 use Rattle.image.proofs.LoadLaid.{message_read}
-use borrow.Author.Rules.{rules}
 use Rattle.image.proofs.letters.message_at.Goals as goal
 
 pub returns-then-i-n : goal.returns-then-i-n

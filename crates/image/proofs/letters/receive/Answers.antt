@@ -2,7 +2,6 @@ use mathlib.Core.Path.{◌∙◌}
 use Rattle.image.proofs.ReadOff.{sent-read}
 use Rattle.image.proofs.Finds.{count-read}
 use Rattle.image.proofs.Sheets.{receive-bad, receive-done}
-use borrow.Author.Rules.{rules}
 use Rattle.image.proofs.letters.receive.Goals as goal
 
 pub returns-then-b-s : goal.returns-then-b-s

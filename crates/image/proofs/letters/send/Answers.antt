@@ -6,7 +6,6 @@ use Rattle.image.proofs.Finds.{count-read}
 use Rattle.executive.specs.Messages.{stay_ahead, urgency}
 use lib.ListN.{take}
 use Rattle.image.proofs.Sheets.{such-task, send-bad, send-taken, send-crowded, send-waits}
-use borrow.Author.Rules.{rules}
 use Rattle.image.proofs.letters.send.Goals as goal
 
 pub returns-then-no_such_task : goal.returns-then-no_such_task

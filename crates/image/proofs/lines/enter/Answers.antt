@@ -3,7 +3,6 @@ use mathlib.Core.Path.{◌∙◌}
 use Rattle.executive.specs.Subprograms.{sub_at}
 use Rattle.image.proofs.Finds.{holder-read, waiting-read, sub-line-at}
 use Rattle.image.proofs.Sheets.{enter-bad, enter-inside, enter-free, enter-held}
-use borrow.Author.Rules.{rules}
 use Rattle.image.proofs.lines.enter.Goals as goal
 
 pub returns-then-m-gt7 : goal.returns-then-m-gt7

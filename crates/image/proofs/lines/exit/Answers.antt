@@ -2,7 +2,6 @@ use native.Mathlib.Omega.{arith}
 use mathlib.Core.Path.{◌∙◌}
 use Rattle.image.proofs.Finds.{holder-read}
 use Rattle.image.proofs.Sheets.{exit_bad, exit_outside, exit_done}
-use borrow.Author.Rules.{rules}
 use Rattle.image.proofs.lines.exit.Goals as goal
 
 pub returns-then-m-gt7 : goal.returns-then-m-gt7

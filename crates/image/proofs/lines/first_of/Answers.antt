@@ -1,5 +1,4 @@
 use Rattle.image.proofs.Finds.{first-nobody, first-waits}
-use borrow.Author.Rules.{rules}
 use Rattle.image.proofs.lines.first_of.Goals as goal
 
 pub returns-then-b-base-eq0 : goal.returns-then-b-base-eq0

@@ -1,13 +1,9 @@
 -- `loading::alarms_in` meets its contract. The invariant: what stands up to i is what the bytes hold.
-use Prim.Native.Nat.{◌+◌, ◌-◌, ◌*◌, ◌≤◌}
-use mathlib.Core.Path.{◌≡◌, refl, ap}
-use native.Mathlib.Omega.{arith}
-use lib.ListN.{length, take, length-set}
-use borrow.Author.Rules.{rules}
-use Rattle.executive.specs.declared.Millis.{Millis}
+use Prim.Native.Nat.{◌-◌, ◌≤◌}
+use mathlib.Core.Path.{◌≡◌}
+use lib.ListN.{length, take}
 use Rattle.image.specs.Blocks.{blocks}
 use Rattle.image.specs.Image.{alarm_from, alarms_at}
-use Rattle.image.proofs.Spans.{block-turn, block-end}
 use Rattle.image.proofs.loading.alarms_in.Given as goal
 
 abbrev pub invariant-loop-i : goal.invariant-loop-i

@@ -1,7 +1,6 @@
 -- `loading::load` meets its contract: enough bytes load as they are, and others with 0 behind them, which reads the same.
 use mathlib.Core.Path.{◌∙◌}
 use Rattle.image.proofs.Padded.{load_same}
-use borrow.Author.Rules.{rules}
 use Rattle.image.proofs.loading.load.Goals as goal
 
 pub returns : goal.returns

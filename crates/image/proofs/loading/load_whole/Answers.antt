@@ -2,7 +2,6 @@
 -- them.
 use mathlib.Core.Path.{refl}
 use Rattle.image.specs.Image.{load_of}
-use borrow.Author.Rules.{rules}
 use Rattle.image.proofs.loading.load_whole.Goals as goal
 
 pub returns : goal.returns

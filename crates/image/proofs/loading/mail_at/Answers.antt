@@ -1,6 +1,5 @@
 -- `loading::mail_at` meets its contract: each number is read where the widths put it.
 use mathlib.Core.Path.{refl}
-use borrow.Author.Rules.{rules}
 use Rattle.image.proofs.loading.mail_at.Goals as goal
 
 pub returns : goal.returns

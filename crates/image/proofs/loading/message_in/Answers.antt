@@ -1,6 +1,5 @@
 -- `loading::message_in` meets its contract: each number is read where the widths put it.
 use mathlib.Core.Path.{refl}
-use borrow.Author.Rules.{rules}
 use Rattle.image.proofs.loading.message_in.Goals as goal
 
 pub returns : goal.returns

@@ -1,11 +1,9 @@
 -- `loading::padded` meets its contract. The invariant: the bytes up to i are there, and 0 stands behind them.
-use Prim.Native.Nat.{◌-◌, ◌≤◌, ◌<◌}
-use mathlib.Core.Path.{◌≡◌, refl}
+use mathlib.Core.Path.{refl}
 use native.Mathlib.Omega.{arith}
-use lib.ListN.{length, length-set}
+use lib.ListN.{length-set}
 use Rattle.image.specs.Image.{image_length}
-use Rattle.image.proofs.Padded.{Pads, zeros-read, pads_turn, pads_end}
-use borrow.Author.Rules.{rules}
+use Rattle.image.proofs.Padded.{zeros-read, pads_turn, pads_end}
 use Rattle.image.proofs.loading.padded.Goals as goal
 
 pub loop-i-init : goal.loop-i-init

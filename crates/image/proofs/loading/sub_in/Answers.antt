@@ -1,6 +1,5 @@
 -- `loading::sub_in` meets its contract: each number is read where the widths put it, the line behind them.
 use mathlib.Core.Path.{refl}
-use borrow.Author.Rules.{rules}
 use Rattle.image.proofs.loading.sub_in.Goals as goal
 
 pub returns : goal.returns

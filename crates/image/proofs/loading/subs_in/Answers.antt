@@ -1,10 +1,8 @@
 -- `loading::subs_in` meets its contract. The invariant: what stands up to i is what the bytes hold.
-use Prim.Native.Nat.{◌+◌, ◌-◌, ◌*◌, ◌≤◌}
-use mathlib.Core.Path.{◌≡◌, refl}
+use Prim.Native.Nat.{◌+◌, ◌*◌}
+use mathlib.Core.Path.{refl}
 use native.Mathlib.Omega.{arith}
-use lib.ListN.{length, take, length-set}
-use borrow.Author.Rules.{rules}
-use Rattle.image.specs.Blocks.{blocks}
+use lib.ListN.{length-set}
 use Rattle.image.specs.Image.{sub_from, subs_at, sub_length}
 use Rattle.image.proofs.Spans.{block-turn, block-end}
 use Rattle.image.proofs.loading.subs_in.Goals as goal

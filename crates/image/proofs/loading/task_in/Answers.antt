@@ -1,6 +1,5 @@
 -- `loading::task_in` meets its contract: each number is read where the widths put it.
 use mathlib.Core.Path.{refl}
-use borrow.Author.Rules.{rules}
 use Rattle.image.proofs.loading.task_in.Goals as goal
 
 pub returns : goal.returns

@@ -1,10 +1,7 @@
 -- `making::clear` meets its contract. The invariant: the bytes up to i are zero.
-use Prim.Native.Nat.{◌-◌, ◌≤◌}
-use mathlib.Core.Path.{◌≡◌, refl, sym, ◌∙◌}
-use mathlib.Core.List.{◌++◌}
+use mathlib.Core.Path.{refl, sym, ◌∙◌}
 use native.Mathlib.Omega.{arith}
-use lib.ListN.{length, drop, replicate, length-set}
-use Rattle.image.specs.Image.{image_length}
+use lib.ListN.{length-set}
 use Rattle.image.proofs.FreshLaid.{zero_turn, zero-end}
 use Rattle.image.proofs.making.clear.Goals as goal
 

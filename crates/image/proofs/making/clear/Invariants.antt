@@ -1,11 +1,9 @@
 -- `making::clear` meets its contract. The invariant: the bytes up to i are zero.
 use Prim.Native.Nat.{◌-◌, ◌≤◌}
-use mathlib.Core.Path.{◌≡◌, refl, sym, ◌∙◌}
+use mathlib.Core.Path.{◌≡◌}
 use mathlib.Core.List.{◌++◌}
-use native.Mathlib.Omega.{arith}
-use lib.ListN.{length, drop, replicate, length-set}
+use lib.ListN.{length, drop, replicate}
 use Rattle.image.specs.Image.{image_length}
-use Rattle.image.proofs.FreshLaid.{zero_turn, zero-end}
 use Rattle.image.proofs.making.clear.Given as goal
 
 abbrev pub invariant-loop-i : goal.invariant-loop-i

@@ -1,6 +1,5 @@
 -- `making::make` meets its contract.
 use Rattle.image.proofs.FreshLaid.{fresh-laid}
-use borrow.Author.Rules.{rules}
 use Rattle.image.proofs.making.make.Goals as goal
 
 pub returns : goal.returns

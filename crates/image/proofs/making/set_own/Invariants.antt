@@ -1,8 +1,7 @@
 -- `making::set_own` meets its contract. The invariant: the tasks up to i have their own priorities.
 use Prim.Native.Nat.{◌-◌, ◌≤◌}
-use mathlib.Core.Path.{◌≡◌, sym, ◌∙◌}
+use mathlib.Core.Path.{◌≡◌}
 use mathlib.Core.List.{[]}
-use native.Mathlib.Omega.{arith}
 use lib.ListN.{length}
 use Rattle.executive.specs.declared.Table.{Table}
 use Rattle.executive.specs.Lists.{pad}
@@ -10,8 +9,6 @@ use Rattle.executive.specs.Places.{no_task}
 use Rattle.executive.specs.Configuration.{sleepers}
 use Rattle.image.specs.Image.{image_length}
 use Rattle.image.specs.Laid.{Laid, with_tasks}
-use Rattle.image.proofs.FreshLaid.{own_first, own_turn}
-use borrow.Author.Rules.{rules}
 use Rattle.image.proofs.making.set_own.Given as goal
 
 abbrev pub invariant-loop-i : goal.invariant-loop-i

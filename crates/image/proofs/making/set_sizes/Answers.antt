@@ -1,6 +1,5 @@
 -- `making::set_sizes` meets its contract.
 use Rattle.image.proofs.FreshLaid.{sizes-laid}
-use borrow.Author.Rules.{rules}
 use Rattle.image.proofs.making.set_sizes.Goals as goal
 
 pub returns : goal.returns

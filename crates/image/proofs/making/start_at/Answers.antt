@@ -2,7 +2,6 @@
 use mathlib.Core.Path.{refl}
 use native.Mathlib.Omega.{arith}
 use Rattle.image.proofs.FreshLaid.{start_none, start-one}
-use borrow.Author.Rules.{rules}
 use Rattle.image.proofs.making.start_at.Goals as goal
 
 pub returns-then-byte_at-ne1 : goal.returns-then-byte_at-ne1

@@ -1,15 +1,8 @@
 -- `making::start_marked` meets its contract. The invariant: the bytes are the image of a table on the way, in which nobody past k
 -- is ready.
-use Prim.Native.Nat.{◌-◌, ◌≤◌}
-use mathlib.Core.Path.{◌≡◌, ◌∙◌}
+use mathlib.Core.Path.{◌∙◌}
 use native.Mathlib.Omega.{arith}
-use lib.ListN.{length}
-use Rattle.executive.specs.declared.Table.{Table}
-use Rattle.executive.specs.Table.{InFlight, begin}
-use Rattle.image.specs.Image.{image_length}
-use Rattle.image.specs.Laid.{Laid}
-use Rattle.image.proofs.FreshLaid.{Starting, starting-first, starting-next, starting-end}
-use borrow.Author.Rules.{rules}
+use Rattle.image.proofs.FreshLaid.{starting-first, starting-next, starting-end}
 use Rattle.image.proofs.making.start_marked.Goals as goal
 
 pub loop-k-init : goal.loop-k-init

@@ -3,7 +3,6 @@ use Prim.Native.Nat.{◌/◌, ◌^◌}
 use native.Mathlib.Omega.{arith}
 use lib.Count.{trailing_le}
 use Rattle.image.proofs.SetBits.{next_past, next-none, next-first}
-use borrow.Author.Rules.{rules}
 use Rattle.image.proofs.members.next_in.Goals as goal
 
 pub returns-then-from-gt31 : goal.returns-then-from-gt31

@@ -3,7 +3,6 @@ use mathlib.Core.Path.{◌∙◌}
 use native.Mathlib.Omega.{arith}
 use Rattle.image.specs.Mending.{is_plain}
 use Rattle.image.proofs.Canonical.{read_code}
-use borrow.Author.Rules.{rules}
 use Rattle.image.proofs.mending.is_plain.Goals as goal
 
 pub returns : goal.returns

@@ -1,7 +1,6 @@
 -- `mending::list_rule` meets its contract: plain bytes give no rule of their own, others the stray bytes'.
 use mathlib.Core.Path.{sym, ◌∙◌}
 use Rattle.image.proofs.Noted.{rule-plain, rule-stray}
-use borrow.Author.Rules.{rules}
 use Rattle.image.proofs.mending.list_rule.Goals as goal
 
 pub returns-then-is_plain : goal.returns-then-is_plain

@@ -1,14 +1,12 @@
 -- `mending::mend_whole` meets its contract: refused, and all is kept; else the list and the image of the mended table.
-use mathlib.Core.Path.{◌≡◌, ap, ◌∙◌}
+use mathlib.Core.Path.{ap, ◌∙◌}
 use native.Mathlib.Omega.{arith}
 use Rattle.mender.specs.Mending.{mend_of}
 use Rattle.image.specs.declared.mending.Notes.{Notes}
 use Rattle.image.specs.Blocks.{written}
-use Rattle.image.specs.Image.{load_of}
 use Rattle.image.specs.Mending.{notes_bytes}
 use Rattle.image.proofs.Owned.{mended-owned}
 use Rattle.image.proofs.Listed.{mend_refused, mend_done}
-use borrow.Author.Rules.{rules}
 use Rattle.image.proofs.mending.mend_whole.Goals as goal
 
 pub returns-then-number-ne0 : goal.returns-then-number-ne0

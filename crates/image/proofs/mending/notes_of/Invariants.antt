@@ -1,12 +1,9 @@
 -- `mending::notes_of` meets its contract. The invariant: the notes so far, and those of the places from i on, are the list.
 use Prim.Native.Nat.{◌-◌, ◌≤◌}
-use mathlib.Core.Path.{◌≡◌, refl, ◌∙◌}
+use mathlib.Core.Path.{◌≡◌}
 use mathlib.Core.List.{◌++◌}
-use native.Mathlib.Omega.{arith}
-use Rattle.executive.specs.Lists.{pad}
 use Rattle.image.specs.Mending.{list_rule, notes_from, placed}
-use Rattle.image.proofs.Noted.{standing, notes_turn, notes_end}
-use borrow.Author.Rules.{rules}
+use Rattle.image.proofs.Noted.{standing}
 use Rattle.image.proofs.mending.notes_of.Given as goal
 
 abbrev pub invariant-loop-i : goal.invariant-loop-i

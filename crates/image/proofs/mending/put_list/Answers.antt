@@ -5,7 +5,6 @@ use native.Mathlib.Omega.{arith}
 use Rattle.image.specs.Blocks.{row}
 use Rattle.image.specs.Mending.{note_bytes}
 use Rattle.image.proofs.Spans.{and_then, length-row}
-use borrow.Author.Rules.{rules}
 use Rattle.image.proofs.mending.put_list.Goals as goal
 
 pub returns : goal.returns

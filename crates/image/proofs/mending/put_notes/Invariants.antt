@@ -1,13 +1,9 @@
 -- `mending::put_notes` meets its contract. The invariant: the notes up to i are written, and nothing else.
-use Prim.Native.Nat.{◌+◌, ◌-◌, ◌*◌, ◌≤◌}
-use mathlib.Core.Path.{◌≡◌, refl, ◌∙◌}
-use native.Mathlib.Omega.{arith}
+use Prim.Native.Nat.{◌-◌, ◌≤◌}
+use mathlib.Core.Path.{◌≡◌}
 use lib.ListN.{length, take}
-use Rattle.mender.specs.Listing.{no_note}
 use Rattle.image.specs.Blocks.{row, written}
 use Rattle.image.specs.Mending.{note_bytes}
-use Rattle.image.proofs.Spans.{row-start, row-turn, row-end}
-use borrow.Author.Rules.{rules}
 use Rattle.image.proofs.mending.put_notes.Given as goal
 
 abbrev pub invariant-loop-i : goal.invariant-loop-i

@@ -1,11 +1,7 @@
 -- `mending::rule_for` meets its contract. The invariant: the notes up to i are of other tasks.
-use Prim.Native.Nat.{◌-◌, ◌≤◌}
-use mathlib.Core.Path.{◌≡◌, refl}
+use mathlib.Core.Path.{refl}
 use native.Mathlib.Omega.{arith}
-use lib.ListN.{length, drop}
-use Rattle.image.specs.Mending.{rule_for}
 use Rattle.image.proofs.Noted.{rule-hit, rule-pass, rule_end}
-use borrow.Author.Rules.{rules}
 use Rattle.image.proofs.mending.rule_for.Goals as goal
 
 pub loop-i-init : goal.loop-i-init

@@ -1,11 +1,8 @@
 -- `mending::rule_for` meets its contract. The invariant: the notes up to i are of other tasks.
 use Prim.Native.Nat.{◌-◌, ◌≤◌}
-use mathlib.Core.Path.{◌≡◌, refl}
-use native.Mathlib.Omega.{arith}
+use mathlib.Core.Path.{◌≡◌}
 use lib.ListN.{length, drop}
 use Rattle.image.specs.Mending.{rule_for}
-use Rattle.image.proofs.Noted.{rule-hit, rule-pass, rule_end}
-use borrow.Author.Rules.{rules}
 use Rattle.image.proofs.mending.rule_for.Given as goal
 
 abbrev pub invariant-loop-i : goal.invariant-loop-i

@@ -1,6 +1,5 @@
 -- `mending::with_note` meets its contract: the note stands behind the others, where the rule is one.
 use mathlib.Core.Path.{refl}
-use borrow.Author.Rules.{rules}
 use borrow.Author.Tests.{eq-eqb, ne_eqb}
 use Rattle.image.proofs.mending.with_note.Goals as goal
 

@@ -2,7 +2,6 @@
 use mathlib.Core.Path.{ap, ◌∙◌}
 use native.Mathlib.Omega.{arith}
 use lib.ListN.{length-set}
-use borrow.Author.Rules.{rules}
 use Rattle.image.specs.Blocks.{written}
 use Rattle.image.proofs.Digits.{word_read}
 use Rattle.image.proofs.Spans.{stored-four}

@@ -1,10 +1,7 @@
 -- `moving::few_up` meets its contract. The invariant of both loops: the first i bytes are moved, and nothing else.
-use Prim.Native.Nat.{ℕ, ◌≤◌, ◌-◌}
 use mathlib.Core.Path.{◌≡◌, refl, ◌∙◌}
-use mathlib.Core.List.{List}
 use native.Mathlib.Omega.{arith}
-use lib.ListN.{length, take, drop, length-set}
-use Rattle.image.specs.Blocks.{written}
+use lib.ListN.{length-set}
 use Rattle.image.proofs.Shifts.{one_copied, up_start, up_turn}
 use Rattle.image.proofs.moving.few_up.Goals as goal
 
@@ -19,8 +16,7 @@ copy_four-requires c =
 pub loop-i-preserved : goal.loop-i-preserved
 loop-i-preserved c =
     let r = c.copy_four in
-    let v = c.loop-i in
-    (
+    let v = c.loop-i in (
       omega (arith, c.loop-i-test.true, v.invariant.0),
       r.auto.b ∙ v.invariant.1,
       up_turn c.args.b.now c.args.to c.args.from c.args.n v.b r.new.b v.i 4 c.requires.0 c.requires.1 (omega (arith, c.loop-i-test.true, v.invariant.0)) v.invariant.2 r.ensures,
@@ -29,8 +25,7 @@ loop-i-preserved c =
 pub loop-i-2-preserved : goal.loop-i-2-preserved
 loop-i-2-preserved c =
     let v = c.loop-i-2 in
-    let k = c.loop-i.invariant.1 in
-    (
+    let k = c.loop-i.invariant.1 in (
       omega (arith, c.loop-i-2-test.true),
       length-set v.b _ _ ∙ v.invariant.1,
       λ s l e. up_turn s c.args.to c.args.from c.args.n v.b _ v.i 1 c.requires.0 (omega (arith, l, k, c.requires.1)) (omega (arith, c.loop-i-2-test.true)) (v.invariant.2 s l e)

@@ -1,11 +1,9 @@
 -- `moving::few_up` meets its contract. The invariant of both loops: the first i bytes are moved, and nothing else.
 use Prim.Native.Nat.{ℕ, ◌≤◌, ◌-◌}
-use mathlib.Core.Path.{◌≡◌, refl, ◌∙◌}
+use mathlib.Core.Path.{◌≡◌}
 use mathlib.Core.List.{List}
-use native.Mathlib.Omega.{arith}
-use lib.ListN.{length, take, drop, length-set}
+use lib.ListN.{length, take, drop}
 use Rattle.image.specs.Blocks.{written}
-use Rattle.image.proofs.Shifts.{one_copied, up_start, up_turn}
 use Rattle.image.proofs.moving.few_up.Given as goal
 
 abbrev pub invariant-loop-i : goal.invariant-loop-i

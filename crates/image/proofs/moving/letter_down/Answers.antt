@@ -2,7 +2,6 @@
 use native.Mathlib.Omega.{arith}
 use lib.ListN.{length-set}
 use Rattle.image.proofs.Shifts.{block-down}
-use borrow.Author.Rules.{rules}
 use Rattle.image.proofs.moving.letter_down.Goals as goal
 
 pub returns : goal.returns

@@ -1,9 +1,7 @@
 -- `moving::letters_down` meets its contract. The invariant: the messages from place i on are moved, and nothing else.
-use Prim.Native.Nat.{◌≤◌}
-use mathlib.Core.Path.{◌≡◌, refl, ◌∙◌}
+use mathlib.Core.Path.{refl, ◌∙◌}
 use native.Mathlib.Omega.{arith}
-use lib.ListN.{length}
-use Rattle.image.proofs.Shifts.{Lowered, blocks_start, blocks-turn, blocks_end}
+use Rattle.image.proofs.Shifts.{blocks_start, blocks-turn, blocks_end}
 use Rattle.image.proofs.moving.letters_down.Goals as goal
 
 pub loop-i-init : goal.loop-i-init

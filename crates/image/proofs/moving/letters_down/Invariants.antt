@@ -1,9 +1,8 @@
 -- `moving::letters_down` meets its contract. The invariant: the messages from place i on are moved, and nothing else.
 use Prim.Native.Nat.{◌≤◌}
-use mathlib.Core.Path.{◌≡◌, refl, ◌∙◌}
-use native.Mathlib.Omega.{arith}
+use mathlib.Core.Path.{◌≡◌}
 use lib.ListN.{length}
-use Rattle.image.proofs.Shifts.{Lowered, blocks_start, blocks-turn, blocks_end}
+use Rattle.image.proofs.Shifts.{Lowered}
 use Rattle.image.proofs.moving.letters_down.Given as goal
 
 abbrev pub invariant-loop-i : goal.invariant-loop-i

@@ -1,9 +1,8 @@
 -- `moving::move_down` meets its contract. The invariant: the bytes from i on are moved, and nothing else.
-use Prim.Native.Nat.{◌≤◌, ◌+◌}
+use Prim.Native.Nat.{◌+◌}
 use mathlib.Core.Path.{◌≡◌, refl, ◌∙◌}
 use native.Mathlib.Omega.{arith}
-use lib.ListN.{length, take, drop, length-set}
-use Rattle.image.specs.Blocks.{written}
+use lib.ListN.{length-set}
 use Rattle.image.proofs.Shifts.{one_copied, down-start, down_turn}
 use Rattle.image.proofs.moving.move_down.Goals as goal
 
@@ -25,8 +24,7 @@ bounds-b-to c = omega (arith, c.loop-i.invariant.1, c.loop-i.invariant.0, c.requ
 pub loop-i-preserved : goal.loop-i-preserved
 loop-i-preserved c =
     let v = c.loop-i in
-    let t = c.loop-i-test.true in
-    (
+    let t = c.loop-i-test.true in (
       omega arith,
       length-set v.b _ _ ∙ v.invariant.1,
       down_turn _ c.args.to c.args.from c.args.n v.b _ v.i _ 1 c.requires.0 c.requires.1 v.invariant.0 (omega (arith, t)) v.invariant.2

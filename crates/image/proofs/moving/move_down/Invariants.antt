@@ -1,10 +1,8 @@
 -- `moving::move_down` meets its contract. The invariant: the bytes from i on are moved, and nothing else.
 use Prim.Native.Nat.{◌≤◌, ◌+◌}
-use mathlib.Core.Path.{◌≡◌, refl, ◌∙◌}
-use native.Mathlib.Omega.{arith}
-use lib.ListN.{length, take, drop, length-set}
+use mathlib.Core.Path.{◌≡◌}
+use lib.ListN.{length, take, drop}
 use Rattle.image.specs.Blocks.{written}
-use Rattle.image.proofs.Shifts.{one_copied, down-start, down_turn}
 use Rattle.image.proofs.moving.move_down.Given as goal
 
 abbrev pub invariant-loop-i : goal.invariant-loop-i

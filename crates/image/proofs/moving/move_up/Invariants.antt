@@ -1,10 +1,8 @@
 -- `moving::move_up` meets its contract. The invariant: the first i bytes are moved, and nothing else.
-use Prim.Native.Nat.{ℕ, ◌≤◌, ◌+◌, ◌-◌}
-use mathlib.Core.Path.{◌≡◌, refl, ap, ◌∙◌}
-use native.Mathlib.Omega.{arith}
+use Prim.Native.Nat.{◌≤◌, ◌-◌}
+use mathlib.Core.Path.{◌≡◌}
 use lib.ListN.{length, take, drop}
 use Rattle.image.specs.Blocks.{written}
-use Rattle.image.proofs.Shifts.{up_start, up_turn}
 use Rattle.image.proofs.moving.move_up.Given as goal
 
 abbrev pub invariant-loop-i : goal.invariant-loop-i

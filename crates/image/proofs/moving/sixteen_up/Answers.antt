@@ -1,7 +1,6 @@
 use mathlib.Core.Path.{◌∙◌}
 use native.Mathlib.Omega.{arith}
 use Rattle.image.proofs.Shifts.{up_turn}
-use borrow.Author.Rules.{rules}
 use Rattle.image.proofs.moving.sixteen_up.Goals as goal
 
 pub copy_four-requires : goal.copy_four-requires

@@ -1,6 +1,5 @@
 -- `numbers::long_in` meets its contract: eight bytes, by their halves.
 use Rattle.image.proofs.Digits.{halves}
-use borrow.Author.Rules.{rules}
 use Rattle.image.proofs.numbers.long_in.Goals as goal
 
 pub returns : goal.returns

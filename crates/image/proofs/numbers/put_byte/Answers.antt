@@ -1,7 +1,6 @@
 -- `numbers::put_byte` meets its contract: one store.
 use mathlib.Core.List.{[], ◌∷◌}
 use Rattle.image.proofs.Spans.{stored}
-use borrow.Author.Rules.{rules}
 use Rattle.image.proofs.numbers.put_byte.Goals as goal
 
 pub returns : goal.returns

@@ -6,7 +6,6 @@ use Rattle.records.specs.Numbers.{bytes_in}
 use Rattle.image.specs.Blocks.{written}
 use Rattle.image.proofs.Digits.{in_halves}
 use Rattle.image.proofs.Spans.{and_then}
-use borrow.Author.Rules.{rules}
 use Rattle.image.proofs.numbers.put_long.Goals as goal
 
 pub returns : goal.returns

@@ -5,7 +5,6 @@ use lib.ListN.{length-set}
 use Rattle.image.specs.Blocks.{written}
 use Rattle.image.proofs.Digits.{two}
 use Rattle.image.proofs.Spans.{stored-two}
-use borrow.Author.Rules.{rules}
 use Rattle.image.proofs.numbers.put_pair.Goals as goal
 
 pub returns : goal.returns

@@ -5,7 +5,6 @@ use lib.ListN.{length-set}
 use Rattle.image.specs.Blocks.{written}
 use Rattle.image.proofs.Digits.{four}
 use Rattle.image.proofs.Spans.{stored-four}
-use borrow.Author.Rules.{rules}
 use Rattle.image.proofs.numbers.put_word.Goals as goal
 
 pub returns : goal.returns

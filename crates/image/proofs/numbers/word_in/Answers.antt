@@ -2,7 +2,6 @@
 use mathlib.Core.Path.{ap, ◌∙◌}
 use Rattle.records.specs.Numbers.{number_of}
 use Rattle.image.proofs.Digits.{word_read}
-use borrow.Author.Rules.{rules}
 use Rattle.image.proofs.numbers.word_in.Goals as goal
 
 pub returns : goal.returns

@@ -1,6 +1,5 @@
 -- `promises::write_then_read` meets its contract: the image of a table loads to it.
 use mathlib.Core.Path.{◌∙◌}
-use borrow.Author.Rules.{rules}
 use Rattle.image.proofs.promises.write_then_read.Goals as goal
 
 pub returns : goal.returns

@@ -1,6 +1,5 @@
 -- `reasons::put_reasons` meets its contract: its three writes make one, and the array's type says how many steps there are.
 use Rattle.image.proofs.Pieces.{wrote_reasons}
-use borrow.Author.Rules.{rules}
 use Rattle.image.proofs.reasons.put_reasons.Goals as goal
 
 pub returns : goal.returns

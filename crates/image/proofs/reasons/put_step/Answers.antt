@@ -1,6 +1,5 @@
 -- `reasons::put_step` meets its contract: the three writes make one.
 use Rattle.image.proofs.Pieces.{wrote-step}
-use borrow.Author.Rules.{rules}
 use Rattle.image.proofs.reasons.put_step.Goals as goal
 
 pub returns : goal.returns

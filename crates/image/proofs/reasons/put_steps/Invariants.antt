@@ -1,13 +1,9 @@
 -- `reasons::put_steps` meets its contract. The invariant: the steps up to i are written, and nothing else.
-use Prim.Native.Nat.{◌+◌, ◌-◌, ◌*◌, ◌≤◌}
-use mathlib.Core.Path.{◌≡◌, refl, ◌∙◌}
-use native.Mathlib.Omega.{arith}
+use Prim.Native.Nat.{◌-◌, ◌≤◌}
+use mathlib.Core.Path.{◌≡◌}
 use lib.ListN.{length, take}
-use Rattle.why.specs.Paths.{no_step}
 use Rattle.image.specs.Blocks.{row, written}
 use Rattle.image.specs.Reasons.{step_bytes, steps_at}
-use Rattle.image.proofs.Spans.{row-start, row-turn, row-end}
-use borrow.Author.Rules.{rules}
 use Rattle.image.proofs.reasons.put_steps.Given as goal
 
 abbrev pub invariant-loop-i : goal.invariant-loop-i

@@ -1,11 +1,9 @@
 -- `reasons::reasons_of` meets its contract: its two answers are the definition's.
 use mathlib.Core.Path.{sym, ap, ◌∙◌}
-use borrow.Author.Tests.{not-true, not-false}
 use native.Mathlib.Omega.{arith}
 use Rattle.why.specs.Paths.{explained}
 use Rattle.image.specs.Reasons.{reasons_to}
 use Rattle.image.proofs.Trips.{image-parts}
-use borrow.Author.Rules.{rules}
 use Rattle.image.proofs.reasons.reasons_of.Goals as goal
 
 pub returns-then-not-is_image : goal.returns-then-not-is_image

@@ -1,5 +1,4 @@
 -- `reasons::waited_on` meets its contract: each cause that names nobody picks its clause.
-use borrow.Author.Rules.{rules}
 use Rattle.image.proofs.reasons.waited_on.Goals as goal
 
 pub returns-in-Dormant : goal.returns-in-Dormant

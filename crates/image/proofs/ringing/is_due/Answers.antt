@@ -1,6 +1,5 @@
 -- Of an alarm that is running the time alone is read: it is due where that has come.
 use Rattle.image.proofs.RingLaid.{due-by}
-use borrow.Author.Rules.{rules}
 use Rattle.image.proofs.ringing.is_due.Goals as goal
 
 pub returns : goal.returns

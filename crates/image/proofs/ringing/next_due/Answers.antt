@@ -1,16 +1,7 @@
 -- The next due alarm of those that are running. The loop's invariant: i is 32 or a member of the set, and the search from i on
 -- finds what that from `from` on finds. The measure is what is left of the 32.
-use mathlib.Core.Path.{◌≡◌, sym, ◌∙◌}
-use mathlib.Core.Bool.{true}
+use mathlib.Core.Path.{sym, ◌∙◌}
 use native.Mathlib.Omega.{arith}
-use Prim.Native.Nat.{◌≤◌, ◌<◌, ◌-◌}
-use lib.ListN.{drop}
-use Rattle.executive.specs.declared.Table.{Table}
-use Rattle.executive.specs.Lists.{next_of}
-use Rattle.executive.specs.Clock.{is_due}
-use Rattle.executive.specs.Flags.{is_set}
-use Rattle.image.specs.Laid.{Laid}
-use Rattle.image.specs.Marks.{Running}
 use Rattle.image.proofs.RingLaid.{runs, due-hit, due-end, due-first, due-next}
 use Rattle.image.proofs.ringing.next_due.Goals as goal
 

@@ -1,10 +1,8 @@
 -- The flags once the due alarms have rung. The loop's invariant: i is 32 or the place of a due alarm, and what those from i on
 -- make of the flags so far is what all make of the flags. The measure is what is left of the 32.
-use mathlib.Core.Path.{◌≡◌, sym, ◌∙◌}
-use native.Mathlib.Omega.{arith}
-use Prim.Native.Nat.{◌+◌, ◌-◌, ◌^◌, ◌≤◌, ◌<◌}
+use mathlib.Core.Path.{◌≡◌}
+use Prim.Native.Nat.{◌-◌, ◌≤◌, ◌<◌}
 use mathlib.Core.Bool.{true}
-use lib.Bits.{bit_or}
 use lib.ListN.{get_or}
 use Rattle.executive.specs.declared.Table.{Table}
 use Rattle.image.specs.Laid.{Laid}
@@ -13,7 +11,6 @@ use Rattle.executive.specs.Lists.{next_of, each}
 use Rattle.executive.specs.Places.{never}
 use Rattle.executive.specs.Clock.{is_due}
 use Rattle.executive.specs.Decisions.{rung_in}
-use Rattle.executive.proofs.Assured.{each-end, in_on, in_turn}
 use Rattle.image.proofs.ringing.rings.Given as goal
 
 abbrev pub invariant-loop-i : goal.invariant-loop-i

@@ -1,7 +1,6 @@
 use mathlib.Core.Path.{◌∙◌}
 use Rattle.image.proofs.Finds.{count-read}
 use Rattle.image.proofs.Sheets.{cancelled}
-use borrow.Author.Rules.{rules}
 use Rattle.image.proofs.runs.cancel_pause.Goals as goal
 
 pub returns : goal.returns

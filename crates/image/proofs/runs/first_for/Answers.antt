@@ -1,10 +1,5 @@
 use native.Mathlib.Omega.{arith}
-use mathlib.Core.Path.{◌≡◌, sym, ◌∙◌}
-use Prim.Native.Nat.{◌+◌, ◌-◌, ◌≤◌}
-use lib.ListN.{take, drop}
-use Rattle.executive.specs.declared.Table.{Table}
-use Rattle.image.specs.Laid.{Laid}
-use Rattle.executive.specs.Pool.{place_of}
+use mathlib.Core.Path.{sym, ◌∙◌}
 use Rattle.image.proofs.Finds.{target-read, first-hit, first-miss, first-none}
 use Rattle.image.proofs.runs.first_for.Goals as goal
 

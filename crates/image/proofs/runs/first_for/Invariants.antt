@@ -1,11 +1,9 @@
-use native.Mathlib.Omega.{arith}
-use mathlib.Core.Path.{◌≡◌, sym, ◌∙◌}
+use mathlib.Core.Path.{◌≡◌}
 use Prim.Native.Nat.{◌+◌, ◌-◌, ◌≤◌}
 use lib.ListN.{take, drop}
 use Rattle.executive.specs.declared.Table.{Table}
 use Rattle.image.specs.Laid.{Laid}
 use Rattle.executive.specs.Pool.{place_of}
-use Rattle.image.proofs.Finds.{target-read, first-hit, first-miss, first-none}
 use Rattle.image.proofs.runs.first_for.Given as goal
 
 abbrev pub invariant-loop-i : goal.invariant-loop-i

@@ -1,13 +1,5 @@
 use native.Mathlib.Omega.{arith}
-use mathlib.Core.Path.{◌≡◌, refl}
-use Prim.Native.Nat.{◌-◌, ◌≤◌}
-use mathlib.Core.Bool.{not}
-use lib.ListN.{drop}
-use Rattle.executive.specs.declared.Table.{Table}
-use Rattle.image.specs.Laid.{Laid}
-use Rattle.executive.specs.declared.Sub.{Sub}
-use Rattle.executive.specs.Lists.{all_of}
-use Rattle.executive.specs.Subprograms.{holds?}
+use mathlib.Core.Path.{refl}
 use Rattle.image.proofs.Finds.{holder-read, held-here, held_on, held_none}
 use Rattle.image.proofs.runs.holds_any.Goals as goal
 

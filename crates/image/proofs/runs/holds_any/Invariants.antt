@@ -1,5 +1,4 @@
-use native.Mathlib.Omega.{arith}
-use mathlib.Core.Path.{◌≡◌, refl}
+use mathlib.Core.Path.{◌≡◌}
 use Prim.Native.Nat.{◌-◌, ◌≤◌}
 use mathlib.Core.Bool.{not}
 use lib.ListN.{drop}
@@ -8,7 +7,6 @@ use Rattle.image.specs.Laid.{Laid}
 use Rattle.executive.specs.declared.Sub.{Sub}
 use Rattle.executive.specs.Lists.{all_of}
 use Rattle.executive.specs.Subprograms.{holds?}
-use Rattle.image.proofs.Finds.{holder-read, held-here, held_on, held_none}
 use Rattle.image.proofs.runs.holds_any.Given as goal
 
 abbrev pub invariant-loop-i : goal.invariant-loop-i

@@ -1,7 +1,6 @@
 use mathlib.Core.Path.{◌∙◌}
 use Rattle.image.proofs.ReadOff.{clock-read}
 use Rattle.image.proofs.Sheets.{restarted}
-use borrow.Author.Rules.{rules}
 use Rattle.image.proofs.runs.restart.Goals as goal
 
 pub returns : goal.returns

@@ -1,7 +1,6 @@
 use mathlib.Core.Path.{◌∙◌}
 use Rattle.image.proofs.Finds.{count-read}
 use Rattle.image.proofs.Sheets.{started}
-use borrow.Author.Rules.{rules}
 use Rattle.image.proofs.runs.start_if_dormant.Goals as goal
 
 pub returns : goal.returns

@@ -2,7 +2,6 @@ use mathlib.Core.Path.{◌∙◌}
 use Rattle.image.proofs.ReadOff.{queued-read}
 use Rattle.image.proofs.Finds.{count-read}
 use Rattle.image.proofs.Sheets.{queued}
-use borrow.Author.Rules.{rules}
 use Rattle.image.proofs.runs.start_or_queue.Goals as goal
 
 pub returns : goal.returns

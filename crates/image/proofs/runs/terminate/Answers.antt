@@ -1,10 +1,8 @@
 use mathlib.Core.Path.{◌∙◌}
 use native.Mathlib.Omega.{arith}
-use Prim.Native.Nat.{◌-◌}
 use Rattle.image.proofs.ReadOff.{queued-read}
 use Rattle.image.proofs.LoadLaid.{request_read}
 use Rattle.image.proofs.Sheets.{end-held, end_anew, end_none}
-use borrow.Author.Rules.{rules}
 use Rattle.image.proofs.runs.terminate.Goals as goal
 
 pub returns-then-holds_any : goal.returns-then-holds_any

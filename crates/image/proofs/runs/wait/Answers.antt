@@ -1,7 +1,6 @@
 use mathlib.Core.Path.{◌∙◌}
 use Rattle.image.proofs.ReadOff.{flags-read}
 use Rattle.image.proofs.Sheets.{waited}
-use borrow.Author.Rules.{rules}
 use Rattle.image.proofs.runs.wait.Goals as goal
 
 pub returns : goal.returns

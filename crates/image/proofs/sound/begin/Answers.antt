@@ -7,7 +7,6 @@ use Rattle.image.proofs.Alike.{never}
 use Rattle.image.proofs.Canonical.{not-long}
 use Rattle.image.proofs.Loaded.{ready-there, count-there}
 use Rattle.image.proofs.FirstPart.{few, no-image, rule-broken, entries-broken, blanks-broken, kinds-known, begun-right}
-use borrow.Author.Rules.{rules}
 use Rattle.image.proofs.sound.begin.Goals as goal
 
 pub returns-then-b-ne-IMAGE : goal.returns-then-b-ne-IMAGE

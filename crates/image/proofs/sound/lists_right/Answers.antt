@@ -2,12 +2,10 @@
 use Prim.Native.Nat.{ℕ}
 use mathlib.Core.Path.{sym, ap, ap₂, ◌∙◌}
 use native.Mathlib.Omega.{arith}
-use borrow.Author.Tests.{not-true, not-false}
 use Rattle.executive.specs.Check.{asked_right, held_right, sent_right, mail_right}
 use Rattle.executive.proofs.Assured.{and_false_left, and_false_right, and_true_left}
 use Rattle.image.specs.Image.{load_of}
 use Rattle.image.proofs.Loaded.{count-there, queued-there, sent-there}
-use borrow.Author.Rules.{rules}
 use Rattle.image.proofs.sound.lists_right.Goals as goal
 
 pub pool_right-requires : goal.pool_right-requires

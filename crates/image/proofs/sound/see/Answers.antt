@@ -3,7 +3,6 @@ use mathlib.Core.Path.{sym, ◌∙◌}
 use borrow.Author.Tests.{not-true, not-false}
 use Rattle.image.proofs.Trips.{image-parts}
 use Rattle.image.proofs.FirstPart.{sees_wrong, sees_not, sees_all}
-use borrow.Author.Rules.{rules}
 use Rattle.image.proofs.sound.see.Goals as goal
 
 pub returns-then-not-seen : goal.returns-then-not-seen

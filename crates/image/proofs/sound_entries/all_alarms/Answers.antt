@@ -1,20 +1,14 @@
 -- `sound_entries::all_alarms` meets its contract. The invariant: the alarms from i on decide, and the set is that of the running
 -- ones before them.
-use Prim.Native.Nat.{◌*◌, ◌^◌, ◌%◌, ◌≤◌, ◌<◌, ◌-◌}
+use Prim.Native.Nat.{◌*◌, ◌^◌, ◌%◌, ◌<◌}
 use mathlib.Core.Path.{◌≡◌, refl, sym, ◌∙◌}
-use mathlib.Core.Logic.{⊎_elim}
 use native.Mathlib.Omega.{arith}
 use native.Mathlib.Nat.{one-mul, mod-eq_of_lt}
-use borrow.Author.Rules.{rules}
-use borrow.Author.Tests.{not-true, not-false}
 use lib.Pow.{pow-lt}
-use lib.ListN.{drop}
-use Rattle.executive.specs.Lists.{all_of}
 use Rattle.executive.specs.Places.{never}
 use Rattle.executive.specs.Check.{alarm_right}
 use Rattle.executive.proofs.Assured.{false_not_true}
 use Rattle.image.specs.Image.{load_of}
-use Rattle.image.specs.Marks.{Marked}
 use Rattle.image.proofs.Loaded.{alarms-size, read-end}
 use Rattle.image.proofs.Marked.{marks-first}
 use Rattle.image.proofs.EntriesRead.{runs, alarm-rests, alarm-runs, alarm-wrong, all-running}
@@ -61,12 +55,12 @@ loop-i-preserved c =
     let h : v.i < 32 = c.loop-i-test.true in
     let bit : 1 * 2 ^ v.i % 4294967296 ≡ 2 ^ v.i = simp (one-mul, mod-eq_of_lt (pow-lt {j = 32} h)) in
     elim c.if-eight-ne0.branch [
-    | then-eight-ne0+else-not-is_stored w ↦
-        let z = alarm-runs s c.args.time.0 v.i h c.eight.result c.eight.ensures v.running v.invariant.2 w.if-eight-ne0.true w.long_in-at.result w.long_in-at.ensures (sym w.is_stored.ensures ∙ w.if-not-is_stored.false) (1 * 2 ^ v.i % 4294967296) bit in
-        (omega arith, z.0 ∙ v.invariant.1, rw w.running-is z.1)
-    | else-eight-ne0 w ↦
-        let z = alarm-rests s c.args.time.0 v.i h c.eight.result c.eight.ensures v.running v.invariant.2 w.if-eight-ne0.false in
-        (omega arith, z.0 ∙ v.invariant.1, rw w.running-is z.1)
+      | then-eight-ne0+else-not-is_stored w ↦
+          let z = alarm-runs s c.args.time.0 v.i h c.eight.result c.eight.ensures v.running v.invariant.2 w.if-eight-ne0.true w.long_in-at.result w.long_in-at.ensures (sym w.is_stored.ensures ∙ w.if-not-is_stored.false) (1 * 2 ^ v.i % 4294967296) bit in
+          (omega arith, z.0 ∙ v.invariant.1, rw w.running-is z.1)
+      | else-eight-ne0 w ↦
+          let z = alarm-rests s c.args.time.0 v.i h c.eight.result c.eight.ensures v.running v.invariant.2 w.if-eight-ne0.false in
+          (omega arith, z.0 ∙ v.invariant.1, rw w.running-is z.1)
     ]
 
 pub returns : goal.returns

@@ -1,8 +1,6 @@
 -- `sound_entries::blank_past` meets its contract.
 use mathlib.Core.Path.{sym, ◌∙◌}
-use borrow.Author.Tests.{not-true, not-false}
 use Rattle.executive.proofs.Assured.{and_false_left, and_true_left}
-use borrow.Author.Rules.{rules}
 use Rattle.image.proofs.sound_entries.blank_past.Goals as goal
 
 pub returns-then-not-are_zero : goal.returns-then-not-are_zero

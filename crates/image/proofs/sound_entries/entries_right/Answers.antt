@@ -1,10 +1,6 @@
 -- `sound_entries::entries_right` meets its contract. The invariant: each entry before the i-th is as it should be.
-use Prim.Native.Nat.{◌≤◌, ◌-◌}
 use mathlib.Core.Path.{◌≡◌, sym, ap, ◌∙◌}
-use mathlib.Core.Bool.{true}
 use native.Mathlib.Omega.{arith}
-use borrow.Author.Rules.{rules}
-use borrow.Author.Tests.{not-true, not-false}
 use Rattle.image.specs.Sound.{sound_at, below}
 use Rattle.image.proofs.Beheld.{below_none, below_more, below-not}
 use Rattle.image.proofs.sound_entries.entries_right.Goals as goal

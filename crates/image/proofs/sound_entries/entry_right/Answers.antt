@@ -1,8 +1,6 @@
 -- `sound_entries::entry_right` meets its contract: the fields first, then the state.
 use mathlib.Core.Path.{sym, ◌∙◌}
-use borrow.Author.Tests.{not-true, not-false}
 use Rattle.image.proofs.EntriesRead.{sound-not, sound_so}
-use borrow.Author.Rules.{rules}
 use Rattle.image.proofs.sound_entries.entry_right.Goals as goal
 
 pub returns-then-not-fields_right : goal.returns-then-not-fields_right

@@ -1,5 +1,4 @@
 -- `sound_entries::fields_right` meets its contract.
-use mathlib.Core.Logic.{⊎_elim}
 use native.Mathlib.Omega.{arith}
 use Rattle.image.proofs.EntriesRead.{levels-high, waiter-high, waiter-own, waiter-other}
 use Rattle.image.proofs.sound_entries.fields_right.Goals as goal
@@ -19,6 +18,6 @@ returns c =
     let a = c.args in
     let m = waiter-other a.k a.count a.time.0 a.own a.level a.waiter a.start c.if-own-level-gt15.false in
     elim c.if-waiter-ne0.branch [
-    | then-waiter-ne0+else-count-waiter+else-k-waiter w ↦ m w.if-count-waiter.false w.if-k-waiter.false
-    | else-waiter-ne0 w ↦ m (omega arith) (λ z. omega (arith, z))
+      | then-waiter-ne0+else-count-waiter+else-k-waiter w ↦ m w.if-count-waiter.false w.if-k-waiter.false
+      | else-waiter-ne0 w ↦ m (omega arith) (λ z. omega (arith, z))
     ]

@@ -1,7 +1,6 @@
 -- `sound_entries::is_dormant` meets its contract.
 use Prim.Native.Nat.{◌*◌}
 use Rattle.image.proofs.EntriesRead.{two_dozen}
-use borrow.Author.Rules.{rules}
 use Rattle.image.proofs.sound_entries.is_dormant.Goals as goal
 
 pub returns : goal.returns

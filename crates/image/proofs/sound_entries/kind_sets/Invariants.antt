@@ -1,14 +1,7 @@
 -- `sound_entries::kind_sets` meets its contract. The invariant: the sets are those of the first k tasks.
-use Prim.Native.Nat.{◌*◌, ◌^◌, ◌%◌, ◌≤◌, ◌<◌, ◌-◌}
-use mathlib.Core.Path.{◌≡◌}
-use native.Mathlib.Omega.{arith}
-use native.Mathlib.Nat.{one-mul, mod-eq_of_lt}
-use borrow.Author.Rules.{rules}
-use lib.Pow.{pow-lt}
-use Rattle.executive.specs.States.{is_of}
+use Prim.Native.Nat.{◌≤◌, ◌-◌}
 use Rattle.image.specs.Sound.{tasks_in}
 use Rattle.image.specs.Marks.{Kinds}
-use Rattle.image.proofs.Marked.{sets_none, kinds-one}
 use Rattle.image.proofs.sound_entries.kind_sets.Given as goal
 
 abbrev pub invariant-loop-k : goal.invariant-loop-k

@@ -1,6 +1,5 @@
 -- `sound_entries::no_wait` meets its contract.
 use Rattle.image.proofs.EntriesRead.{with_byte}
-use borrow.Author.Rules.{rules}
 use Rattle.image.proofs.sound_entries.no_wait.Goals as goal
 
 pub returns : goal.returns

@@ -13,7 +13,6 @@ use Rattle.image.specs.Image.{state_in}
 use Rattle.image.specs.Coding.{are_of}
 use Rattle.image.proofs.Loaded.{past-kinds}
 use Rattle.image.proofs.EntriesRead.{with_true, twice-not, code_none, code_time, code_mask, code_number, at-dormant, at-kind, kind_so, kind-not, at-no-kind}
-use borrow.Author.Rules.{rules}
 use Rattle.image.proofs.sound_entries.state_right.Goals as goal
 
 pub returns-in-0 : goal.returns-in-0

@@ -1,7 +1,6 @@
 -- `sound_entries::time_right` meets its contract.
 use mathlib.Core.Path.{ap, ◌∙◌}
 use Prim.Native.Nat.{ℕ}
-use borrow.Author.Rules.{rules}
 use Rattle.executive.specs.Check.{is_stored}
 use Rattle.image.proofs.sound_entries.time_right.Goals as goal
 

@@ -1,6 +1,5 @@
 -- `sound_pool::is_idle` meets its contract: the byte of its kind tells whether a task is dormant.
 use native.Mathlib.Omega.{arith}
-use borrow.Author.Rules.{rules}
 use Rattle.image.proofs.KindsRead.{idle-there, idle-none}
 use Rattle.image.proofs.sound_pool.is_idle.Goals as goal
 

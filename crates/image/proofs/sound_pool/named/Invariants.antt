@@ -1,11 +1,8 @@
 -- `sound_pool::named` meets its contract. The invariant: those whose numbers stand from i on, with those so far, are all.
 use Prim.Native.Nat.{◌-◌, ◌≤◌}
-use mathlib.Core.Path.{◌≡◌, refl, sym, ◌∙◌}
-use native.Mathlib.Omega.{arith}
-use borrow.Author.Rules.{rules}
+use mathlib.Core.Path.{◌≡◌}
 use lib.ListN.{drop}
 use Rattle.image.specs.Sound.{namings, names_in}
-use Rattle.image.proofs.Named.{names-turn, names-end}
 use Rattle.image.proofs.sound_pool.named.Given as goal
 
 abbrev pub invariant-loop-i : goal.invariant-loop-i

@@ -1,15 +1,8 @@
 -- `sound_pool::requests_right` meets its contract. The invariant: the requests from i on decide, and naming whom they name in
 -- the sets so far makes the whole sets.
-use Prim.Native.Nat.{◌+◌, ◌-◌, ◌*◌, ◌≤◌}
-use mathlib.Core.Path.{◌≡◌, refl, sym, ◌∙◌}
-use mathlib.Core.Logic.{⊎_elim}
+use Prim.Native.Nat.{◌+◌, ◌*◌}
+use mathlib.Core.Path.{refl, sym, ◌∙◌}
 use native.Mathlib.Omega.{arith}
-use borrow.Author.Rules.{rules}
-use borrow.Author.Tests.{not-true, not-false}
-use lib.ListN.{take, drop}
-use Rattle.executive.specs.Lists.{all_of}
-use Rattle.executive.specs.Check.{request_right}
-use Rattle.image.specs.Sound.{tasks_in, pool_in, namings, names_in}
 use Rattle.image.proofs.Alike.{never}
 use Rattle.image.proofs.PoolRead.{one-wrong, one_right, one-named, none_named, all_right, all_named}
 use Rattle.image.proofs.PoolRead.{target-over, target-idle, level-over, request_unfit, request_fit, request_lone, start-nobody, end-nobody}
@@ -120,18 +113,18 @@ loop-i-preserved c =
     let v = c.loop-i in
     let h = c.loop-i-test.true in
     elim c.if-quad-gt65535.branch [
-    | then-quad-gt65535+else-not-request_fits w ↦ (
-      omega (arith, h),
-      one_right a.b.now a.queued a.count g.1 v.i h v.invariant.1 (request_fit a.b.now a.count (704 + v.i * 6) a.idle g.3 c.if-count-target.false c.if-idle-target-eq1.false w.request_in-q.result w.request_in-q.ensures (sym w.request_fits.ensures ∙ w.if-not-request_fits.false)),
-      one-named a.b.now a.queued a.count g.1 v.i h 4 v.starts _ v.invariant.2 _ (w.starts-is ∙ w.with-starts.ensures),
-      one-named a.b.now a.queued a.count g.1 v.i h 5 v.all_ends _ v.invariant.3 _ (w.all_ends-is ∙ w.with-all_ends.ensures),
-    )
-    | else-quad-gt65535 w ↦ (
-      omega (arith, h),
-      one_right a.b.now a.queued a.count g.1 v.i h v.invariant.1 (request_lone a.b.now a.count (704 + v.i * 6) a.idle g.3 c.if-count-target.false c.if-idle-target-eq1.false c.if-b-at-gt15.false c.quad.result c.quad.ensures.result_value_2 w.if-quad-gt65535.false),
-      rw w.starts-is (none_named a.b.now a.queued a.count g.1 v.i h 4 v.starts _ v.invariant.2 (start-nobody a.b.now a.count (704 + v.i * 6) a.idle g.3 c.if-count-target.false c.if-idle-target-eq1.false c.if-b-at-gt15.false c.quad.result c.quad.ensures.result_value_2 w.if-quad-gt65535.false)),
-      rw w.all_ends-is (none_named a.b.now a.queued a.count g.1 v.i h 5 v.all_ends _ v.invariant.3 (end-nobody a.b.now a.count (704 + v.i * 6) a.idle g.3 c.if-count-target.false c.if-idle-target-eq1.false c.if-b-at-gt15.false c.quad.result c.quad.ensures.result_value_2 w.if-quad-gt65535.false)),
-    )
+      | then-quad-gt65535+else-not-request_fits w ↦ (
+        omega (arith, h),
+        one_right a.b.now a.queued a.count g.1 v.i h v.invariant.1 (request_fit a.b.now a.count (704 + v.i * 6) a.idle g.3 c.if-count-target.false c.if-idle-target-eq1.false w.request_in-q.result w.request_in-q.ensures (sym w.request_fits.ensures ∙ w.if-not-request_fits.false)),
+        one-named a.b.now a.queued a.count g.1 v.i h 4 v.starts _ v.invariant.2 _ (w.starts-is ∙ w.with-starts.ensures),
+        one-named a.b.now a.queued a.count g.1 v.i h 5 v.all_ends _ v.invariant.3 _ (w.all_ends-is ∙ w.with-all_ends.ensures),
+      )
+      | else-quad-gt65535 w ↦ (
+        omega (arith, h),
+        one_right a.b.now a.queued a.count g.1 v.i h v.invariant.1 (request_lone a.b.now a.count (704 + v.i * 6) a.idle g.3 c.if-count-target.false c.if-idle-target-eq1.false c.if-b-at-gt15.false c.quad.result c.quad.ensures.result_value_2 w.if-quad-gt65535.false),
+        rw w.starts-is (none_named a.b.now a.queued a.count g.1 v.i h 4 v.starts _ v.invariant.2 (start-nobody a.b.now a.count (704 + v.i * 6) a.idle g.3 c.if-count-target.false c.if-idle-target-eq1.false c.if-b-at-gt15.false c.quad.result c.quad.ensures.result_value_2 w.if-quad-gt65535.false)),
+        rw w.all_ends-is (none_named a.b.now a.queued a.count g.1 v.i h 5 v.all_ends _ v.invariant.3 (end-nobody a.b.now a.count (704 + v.i * 6) a.idle g.3 c.if-count-target.false c.if-idle-target-eq1.false c.if-b-at-gt15.false c.quad.result c.quad.ensures.result_value_2 w.if-quad-gt65535.false)),
+      )
     ]
 
 pub returns : goal.returns

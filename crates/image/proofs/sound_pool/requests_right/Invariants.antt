@@ -1,18 +1,11 @@
 -- `sound_pool::requests_right` meets its contract. The invariant: the requests from i on decide, and naming whom they name in
 -- the sets so far makes the whole sets.
-use Prim.Native.Nat.{◌+◌, ◌-◌, ◌*◌, ◌≤◌}
-use mathlib.Core.Path.{◌≡◌, refl, sym, ◌∙◌}
-use mathlib.Core.Logic.{⊎_elim}
-use native.Mathlib.Omega.{arith}
-use borrow.Author.Rules.{rules}
-use borrow.Author.Tests.{not-true, not-false}
+use Prim.Native.Nat.{◌-◌, ◌≤◌}
+use mathlib.Core.Path.{◌≡◌}
 use lib.ListN.{take, drop}
 use Rattle.executive.specs.Lists.{all_of}
 use Rattle.executive.specs.Check.{request_right}
 use Rattle.image.specs.Sound.{tasks_in, pool_in, namings, names_in}
-use Rattle.image.proofs.Alike.{never}
-use Rattle.image.proofs.PoolRead.{one-wrong, one_right, one-named, none_named, all_right, all_named}
-use Rattle.image.proofs.PoolRead.{target-over, target-idle, level-over, request_unfit, request_fit, request_lone, start-nobody, end-nobody}
 use Rattle.image.proofs.sound_pool.requests_right.Given as goal
 
 abbrev pub invariant-loop-i : goal.invariant-loop-i

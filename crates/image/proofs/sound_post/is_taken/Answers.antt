@@ -1,6 +1,5 @@
 -- `sound_post::is_taken` meets its contract: the bytes of its kind and of its number tell.
 use native.Mathlib.Omega.{arith}
-use borrow.Author.Rules.{rules}
 use Rattle.image.proofs.KindsRead.{taken_none, taken_not, taken-any, taken-one}
 use Rattle.image.proofs.sound_post.is_taken.Goals as goal
 

@@ -1,10 +1,8 @@
 -- `sound_post::letters_right` meets its contract. The invariant: what is left, under the priority last met, decides.
-use Prim.Native.Nat.{◌-◌, ◌<◌, ◌≤◌}
+use Prim.Native.Nat.{◌<◌}
 use mathlib.Core.Path.{◌≡◌, refl, sym, ◌∙◌}
 use mathlib.Core.Bool.{false}
-use mathlib.Core.Logic.{⊎_elim}
 use native.Mathlib.Omega.{arith}
-use borrow.Author.Rules.{rules}
 use Rattle.executive.specs.Places.{task_at}
 use Rattle.executive.specs.States.{takes}
 use Rattle.executive.proofs.Assured.{false_not_true}
@@ -91,10 +89,10 @@ addressed c =
     let s = a.b.now in
     let i = c.loop-i.i in
     elim c.if-free-to-eq0.branch [
-    | then-free-to-eq0+else-to-eq0+else-is_taken w ↦ (omega arith, sym w.is_taken.ensures ∙ w.if-is_taken.false)
-    | else-free-to-eq0 w ↦
-        let f = c.requires.3 (letter_to s i) c.if-count-to.false (bit-set a.free (letter_to s i) w.if-free-to-eq0.false) in
-        (f.0, takes_none (tasks_in s) (letter_by s i) (letter_to s i) f.1)
+      | then-free-to-eq0+else-to-eq0+else-is_taken w ↦ (omega arith, sym w.is_taken.ensures ∙ w.if-is_taken.false)
+      | else-free-to-eq0 w ↦
+          let f = c.requires.3 (letter_to s i) c.if-count-to.false (bit-set a.free (letter_to s i) w.if-free-to-eq0.false) in
+          (f.0, takes_none (tasks_in s) (letter_by s i) (letter_to s i) f.1)
     ]
 
 pub loop-i-preserved : goal.loop-i-preserved

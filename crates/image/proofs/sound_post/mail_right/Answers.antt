@@ -1,11 +1,6 @@
 -- `sound_post::mail_right` meets its contract. The invariant: the mail of the first i tasks is right.
-use Prim.Native.Nat.{◌-◌, ◌≤◌}
 use mathlib.Core.Path.{◌≡◌, sym, ◌∙◌}
-use mathlib.Core.Bool.{true}
 use native.Mathlib.Omega.{arith}
-use borrow.Author.Tests.{not-true, not-false}
-use borrow.Author.Rules.{rules}
-use Rattle.executive.specs.Lists.{up_to}
 use Rattle.executive.specs.Check.{mail_right_at}
 use Rattle.executive.proofs.Assured.{all_none, all_more, all-not}
 use Rattle.image.specs.Sound.{tasks_in, mail_in}

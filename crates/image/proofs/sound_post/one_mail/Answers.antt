@@ -4,7 +4,6 @@ use mathlib.Core.Path.{sym, ◌∙◌}
 use borrow.Author.Tests.{eq-eqb, ne_eqb}
 use Rattle.image.proofs.Noughts.{or_byte}
 use Rattle.image.proofs.PostRead.{mail-none, mail-out, mail-some}
-use borrow.Author.Rules.{rules}
 use Rattle.image.proofs.sound_post.one_mail.Goals as goal
 
 pub returns-then-eight-wide-eq0 : goal.returns-then-eight-wide-eq0

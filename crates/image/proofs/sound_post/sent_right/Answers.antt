@@ -1,12 +1,11 @@
 -- `sound_post::sent_right` meets its contract: its tests, one after the other.
 use mathlib.Core.Path.{sym, ◌∙◌}
 use native.Mathlib.Omega.{arith}
-use borrow.Author.Tests.{not-true, not-false, le-leb, lt-leb}
+use borrow.Author.Tests.{le-leb, lt-leb}
 use Rattle.executive.proofs.Assured.{and_false_left, and_true_left}
 use Rattle.image.specs.Sound.{tasks_in}
 use Rattle.image.proofs.Noughts.{messages-nought}
 use Rattle.image.proofs.PostRead.{not-waiting}
-use borrow.Author.Rules.{rules}
 use Rattle.image.proofs.sound_post.sent_right.Goals as goal
 
 pub returns-then-sent-gt32 : goal.returns-then-sent-gt32

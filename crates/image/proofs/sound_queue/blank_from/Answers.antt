@@ -1,7 +1,6 @@
 -- `sound_queue::blank_from` meets its contract: nobody stands where the bytes are zero.
 use mathlib.Core.Path.{sym, ◌∙◌}
 use native.Mathlib.Omega.{arith}
-use borrow.Author.Rules.{rules}
 use Rattle.image.proofs.Noughts.{line-nought}
 use Rattle.image.proofs.sound_queue.blank_from.Goals as goal
 

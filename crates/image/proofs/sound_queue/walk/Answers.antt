@@ -1,10 +1,8 @@
 -- `sound_queue::walk` meets its contract. The invariant is `Walking`.
 use native.Mathlib.Omega.{arith}
-use borrow.Author.Rules.{rules}
 use Rattle.image.specs.Image.{load_of}
-use Prim.Native.Nat.{◌-◌}
 use Rattle.image.specs.Image.{line_from}
-use Rattle.image.proofs.Marked.{Walking, walk_start, line-end, line-off, line-over, line-twice, line-turn}
+use Rattle.image.proofs.Marked.{walk_start, line-end, line-off, line-over, line-twice, line-turn}
 use Rattle.image.proofs.sound_queue.walk.Goals as goal
 
 pub loop-i-init : goal.loop-i-init

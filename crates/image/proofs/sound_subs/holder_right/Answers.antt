@@ -1,6 +1,5 @@
 -- `sound_subs::holder_right` meets its contract: it has a holder or none.
 use mathlib.Core.Path.{refl}
-use borrow.Author.Rules.{rules}
 use borrow.Author.Tests.{eq-eqb, ne_eqb}
 use Rattle.image.proofs.sound_subs.holder_right.Goals as goal
 

@@ -1,7 +1,6 @@
 -- `sound_subs::sub_right` meets its contract: its tests, one after the other.
 use mathlib.Core.Path.{sym, ◌∙◌}
 use native.Mathlib.Omega.{arith}
-use borrow.Author.Tests.{not-true, not-false}
 use Rattle.image.proofs.LinesRead.{held_out, line-over, held-wrong, held-right}
 use Rattle.image.proofs.sound_subs.sub_right.Goals as goal
 

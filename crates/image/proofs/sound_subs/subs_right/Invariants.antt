@@ -2,12 +2,9 @@
 -- the rule.
 use Prim.Native.Nat.{◌-◌, ◌≤◌, min}
 use mathlib.Core.Path.{◌≡◌}
-use native.Mathlib.Omega.{arith}
-use borrow.Author.Rules.{rules}
 use Rattle.executive.specs.Check.{held_right}
 use Rattle.executive.proofs.Assured.{held_from}
 use Rattle.image.specs.Sound.{tasks_in, subs_in}
-use Rattle.image.proofs.LinesRead.{held_start, held_next, held-off, held-last}
 use Rattle.image.proofs.sound_subs.subs_right.Given as goal
 
 abbrev pub invariant-loop-m : goal.invariant-loop-m

@@ -1,13 +1,10 @@
 -- `sound_subs::used_subs` meets its contract. The invariant: it is the set of those before m that are not free.
-use Prim.Native.Nat.{◌-◌, ◌*◌, ◌%◌, ◌^◌, ◌≤◌, ◌<◌}
+use Prim.Native.Nat.{◌*◌, ◌%◌, ◌^◌, ◌<◌}
 use mathlib.Core.Path.{◌≡◌, sym}
-use mathlib.Core.Logic.{⊎_elim}
 use native.Mathlib.Omega.{arith}
 use native.Mathlib.Nat.{one-mul, mod-eq_of_lt}
-use borrow.Author.Rules.{rules}
 use lib.Pow.{pow-lt}
-use Rattle.image.specs.Marks.{Marked}
-use Rattle.image.proofs.LinesRead.{in_use, used-more, used-not}
+use Rattle.image.proofs.LinesRead.{used-more, used-not}
 use Rattle.image.proofs.Marked.{marks-first, one_same}
 use Rattle.image.proofs.sound_subs.used_subs.Goals as goal
 use Rattle.image.proofs.sound_subs.used_subs.Goals.{then-sixteen-quad-ne0, else-sixteen-quad-ne0}
@@ -54,9 +51,9 @@ loop-m-preserved c =
     let bit : 1 * 2 ^ v.m % 4294967296 ≡ 2 ^ v.m = simp (one-mul, mod-eq_of_lt (pow-lt {j = 32} h)) in (
       omega (arith, c.loop-m-test.true),
       elim c.if-sixteen-quad-ne0.branch [
-          | then-sixteen-quad-ne0 w ↦ rw w.used-is (used-more s a.sets v.m v.used v.invariant.1 c.sixteen.result c.quad.result c.sixteen.ensures c.quad.ensures.result_value (1 * 2 ^ v.m % 4294967296) bit w.if-sixteen-quad-ne0.true)
-          | else-sixteen-quad-ne0 w ↦ rw w.used-is (used-not s a.sets v.m v.used v.invariant.1 c.sixteen.result c.quad.result c.sixteen.ensures c.quad.ensures.result_value w.if-sixteen-quad-ne0.false)
-          ],
+        | then-sixteen-quad-ne0 w ↦ rw w.used-is (used-more s a.sets v.m v.used v.invariant.1 c.sixteen.result c.quad.result c.sixteen.ensures c.quad.ensures.result_value (1 * 2 ^ v.m % 4294967296) bit w.if-sixteen-quad-ne0.true)
+        | else-sixteen-quad-ne0 w ↦ rw w.used-is (used-not s a.sets v.m v.used v.invariant.1 c.sixteen.result c.quad.result c.sixteen.ensures c.quad.ensures.result_value w.if-sixteen-quad-ne0.false)
+      ],
     )
 
 pub returns : goal.returns

@@ -1,14 +1,7 @@
 -- `sound_subs::used_subs` meets its contract. The invariant: it is the set of those before m that are not free.
-use Prim.Native.Nat.{◌-◌, ◌*◌, ◌%◌, ◌^◌, ◌≤◌, ◌<◌}
-use mathlib.Core.Path.{◌≡◌, sym}
-use mathlib.Core.Logic.{⊎_elim}
-use native.Mathlib.Omega.{arith}
-use native.Mathlib.Nat.{one-mul, mod-eq_of_lt}
-use borrow.Author.Rules.{rules}
-use lib.Pow.{pow-lt}
+use Prim.Native.Nat.{◌-◌, ◌≤◌}
 use Rattle.image.specs.Marks.{Marked}
-use Rattle.image.proofs.LinesRead.{in_use, used-more, used-not}
-use Rattle.image.proofs.Marked.{marks-first, one_same}
+use Rattle.image.proofs.LinesRead.{in_use}
 use Rattle.image.proofs.sound_subs.used_subs.Given as goal
 
 abbrev pub invariant-loop-m : goal.invariant-loop-m

@@ -1,13 +1,9 @@
 -- `sound_subs::waiting_sets` meets its contract. The invariant: k is one who waits or past them all, and these are the sets of those before k.
-use Prim.Native.Nat.{◌-◌, ◌*◌, ◌%◌, ◌^◌, ◌≤◌, ◌<◌, min}
+use Prim.Native.Nat.{◌*◌, ◌%◌, ◌^◌, ◌<◌, min}
 use mathlib.Core.Path.{◌≡◌}
-use mathlib.Core.Bool.{true}
-use mathlib.Core.Logic.{⊎_elim}
 use native.Mathlib.Omega.{arith}
 use native.Mathlib.Nat.{one-mul, mod-eq_of_lt}
-use borrow.Author.Rules.{rules}
 use lib.Pow.{pow-lt}
-use Rattle.executive.specs.Flags.{is_set}
 use Rattle.image.specs.Sound.{tasks_in}
 use Rattle.image.specs.Marks.{Waiting}
 use Rattle.image.proofs.LinesRead.{waiting-first, waiting-next, waiting-kind, waiting-past, waiting-one}
@@ -58,8 +54,8 @@ loop-k-preserved c =
       c.next_in-k-in-loop-k.ensures.member,
       waiting-next s a.count a.waiters g.1 g.3 v.k c.next_in-k-in-loop-k.result c.if-m-lt8.sets l c.next_in-k-in-loop-k.ensures
           (elim c.if-m-lt8.branch [
-          | then-m-lt8 w ↦ rw w.sets-is (waiting-one s v.k h q v.sets w₀ (1 * 2 ^ v.k % 65536) bit w.if-m-lt8.true)
-          | else-m-lt8 w ↦ rw w.sets-is (waiting-past s v.k h q v.sets w₀ w.if-m-lt8.false)
+            | then-m-lt8 w ↦ rw w.sets-is (waiting-one s v.k h q v.sets w₀ (1 * 2 ^ v.k % 65536) bit w.if-m-lt8.true)
+            | else-m-lt8 w ↦ rw w.sets-is (waiting-past s v.k h q v.sets w₀ w.if-m-lt8.false)
           ]),
     )
 

@@ -1,16 +1,10 @@
 -- `sound_subs::waiting_sets` meets its contract. The invariant: k is one who waits or past them all, and these are the sets of those before k.
-use Prim.Native.Nat.{◌-◌, ◌*◌, ◌%◌, ◌^◌, ◌≤◌, ◌<◌, min}
+use Prim.Native.Nat.{◌-◌, ◌≤◌, ◌<◌, min}
 use mathlib.Core.Path.{◌≡◌}
 use mathlib.Core.Bool.{true}
-use mathlib.Core.Logic.{⊎_elim}
-use native.Mathlib.Omega.{arith}
-use native.Mathlib.Nat.{one-mul, mod-eq_of_lt}
-use borrow.Author.Rules.{rules}
-use lib.Pow.{pow-lt}
 use Rattle.executive.specs.Flags.{is_set}
 use Rattle.image.specs.Sound.{tasks_in}
 use Rattle.image.specs.Marks.{Waiting}
-use Rattle.image.proofs.LinesRead.{waiting-first, waiting-next, waiting-kind, waiting-past, waiting-one}
 use Rattle.image.proofs.sound_subs.waiting_sets.Given as goal
 
 abbrev pub invariant-loop-k : goal.invariant-loop-k

@@ -5,7 +5,6 @@ use Rattle.executive.proofs.Assured.{and_true}
 use Rattle.image.specs.Image.{is_image}
 use Rattle.image.proofs.Answered.{act_said}
 use Rattle.image.proofs.Learnt.{learned, act_refused}
-use borrow.Author.Rules.{rules}
 use Rattle.image.proofs.stepping.act.Goals as goal
 
 pub returns-then-not-seen : goal.returns-then-not-seen

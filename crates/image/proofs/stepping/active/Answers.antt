@@ -1,5 +1,4 @@
 use Rattle.image.proofs.Stepwise.{idle-is, active-is}
-use borrow.Author.Rules.{rules}
 use Rattle.image.proofs.stepping.active.Goals as goal
 
 pub returns-then-b-eq0 : goal.returns-then-b-eq0

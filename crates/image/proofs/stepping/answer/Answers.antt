@@ -1,5 +1,4 @@
 use Rattle.image.proofs.Stepwise.{answer-is}
-use borrow.Author.Rules.{rules}
 use Rattle.image.proofs.stepping.answer.Goals as goal
 
 pub returns : goal.returns

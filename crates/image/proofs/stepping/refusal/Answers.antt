@@ -1,6 +1,5 @@
 use mathlib.Core.Path.{◌∙◌}
 use Rattle.image.proofs.Stepwise.{refused-one, refused-other}
-use borrow.Author.Rules.{rules}
 use Rattle.image.proofs.stepping.refusal.Goals as goal
 
 pub returns-then-number-eq1 : goal.returns-then-number-eq1

@@ -4,7 +4,6 @@ use mathlib.Core.Path.{refl, sym, ◌∙◌}
 use Rattle.image.specs.Image.{load_of}
 use Rattle.image.proofs.Trips.{image-parts}
 use Rattle.image.proofs.Stepwise.{loaded, formed, decided-is, doable-is, said-refused, said-done}
-use borrow.Author.Rules.{rules}
 use Rattle.image.proofs.stepping.step.Goals as goal
 
 pub active-c-requires : goal.active-c-requires

@@ -1,6 +1,5 @@
 -- `storing::image_of` meets its contract: a table that code holds fits, and so its image loads to it.
 use mathlib.Core.Path.{refl}
-use borrow.Author.Rules.{rules}
 use Rattle.image.proofs.Owned.{table-owned}
 use Rattle.image.proofs.Answered.{holds}
 use Rattle.image.proofs.storing.image_of.Goals as goal

@@ -1,13 +1,9 @@
 -- `storing::put_all_mail` meets its contract. The invariant: the blocks up to i are written, and nothing else.
-use Prim.Native.Nat.{◌+◌, ◌-◌, ◌*◌, ◌≤◌}
-use mathlib.Core.Path.{◌≡◌, refl, ◌∙◌}
-use native.Mathlib.Omega.{arith}
+use Prim.Native.Nat.{◌-◌, ◌≤◌}
+use mathlib.Core.Path.{◌≡◌}
 use lib.ListN.{length, take}
-use borrow.Author.Rules.{rules}
-use Rattle.executive.specs.Messages.{no_mail}
 use Rattle.image.specs.Blocks.{row, written}
-use Rattle.image.specs.Image.{mail_bytes, mails_at, mail_length}
-use Rattle.image.proofs.Spans.{row-start, row-turn, row-end}
+use Rattle.image.specs.Image.{mail_bytes, mails_at}
 use Rattle.image.proofs.storing.put_all_mail.Given as goal
 
 abbrev pub invariant-loop-i : goal.invariant-loop-i

@@ -2,7 +2,6 @@
 use mathlib.Core.Path.{ap, ◌∙◌}
 use mathlib.Core.List.{[], ◌∷◌}
 use Rattle.image.specs.Blocks.{written}
-use borrow.Author.Rules.{rules}
 use Rattle.image.proofs.storing.put_awaited.Goals as goal
 
 pub returns : goal.returns

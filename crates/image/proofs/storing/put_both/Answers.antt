@@ -2,7 +2,6 @@
 use native.Mathlib.Omega.{arith}
 use lib.ListN.{length-set}
 use Rattle.image.proofs.Spans.{stored-two}
-use borrow.Author.Rules.{rules}
 use Rattle.image.proofs.storing.put_both.Goals as goal
 
 pub returns : goal.returns

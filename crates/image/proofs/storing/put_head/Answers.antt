@@ -4,7 +4,6 @@ use native.Mathlib.Omega.{arith}
 use Rattle.records.specs.Numbers.{bytes_in}
 use Rattle.image.specs.Image.{head_at}
 use Rattle.image.proofs.Spans.{and_then}
-use borrow.Author.Rules.{rules}
 use Rattle.image.proofs.storing.put_head.Goals as goal
 
 pub returns : goal.returns

@@ -2,7 +2,6 @@
 use native.Mathlib.Omega.{arith}
 use Rattle.records.specs.Numbers.{bytes_in}
 use Rattle.image.proofs.Spans.{and_then}
-use borrow.Author.Rules.{rules}
 use Rattle.image.proofs.storing.put_mail.Goals as goal
 
 pub returns : goal.returns

@@ -1,11 +1,8 @@
 -- `storing::put_messages` meets its contract. The invariant: the blocks up to i are written, and nothing else.
-use Prim.Native.Nat.{◌+◌, ◌-◌, ◌*◌, ◌≤◌}
-use mathlib.Core.Path.{◌≡◌, refl, ◌∙◌}
+use Prim.Native.Nat.{◌+◌, ◌*◌}
+use mathlib.Core.Path.{refl, ◌∙◌}
 use native.Mathlib.Omega.{arith}
-use lib.ListN.{length, take}
-use borrow.Author.Rules.{rules}
 use Rattle.executive.specs.Messages.{no_message}
-use Rattle.image.specs.Blocks.{row, written}
 use Rattle.image.specs.Image.{message_bytes, messages_at, message_length}
 use Rattle.image.proofs.Spans.{row-start, row-turn, row-end}
 use Rattle.image.proofs.storing.put_messages.Goals as goal

@@ -1,11 +1,8 @@
 -- `storing::put_pool` meets its contract. The invariant: the blocks up to i are written, and nothing else.
-use Prim.Native.Nat.{◌+◌, ◌-◌, ◌*◌, ◌≤◌}
-use mathlib.Core.Path.{◌≡◌, refl, ◌∙◌}
+use Prim.Native.Nat.{◌+◌, ◌*◌}
+use mathlib.Core.Path.{refl, ◌∙◌}
 use native.Mathlib.Omega.{arith}
-use lib.ListN.{length, take}
-use borrow.Author.Rules.{rules}
 use Rattle.executive.specs.Places.{no_request}
-use Rattle.image.specs.Blocks.{row, written}
 use Rattle.image.specs.Image.{request_bytes, pool_at}
 use Rattle.image.proofs.Spans.{row-start, row-turn, row-end}
 use Rattle.image.proofs.storing.put_pool.Goals as goal

@@ -1,6 +1,5 @@
 -- `storing::put_post` meets its contract: the three writes make one.
 use Rattle.image.proofs.Trips.{post_made}
-use borrow.Author.Rules.{rules}
 use Rattle.image.proofs.storing.put_post.Goals as goal
 
 pub returns : goal.returns

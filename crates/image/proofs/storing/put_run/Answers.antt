@@ -3,7 +3,6 @@ use mathlib.Core.List.{◌++◌}
 use native.Mathlib.Omega.{arith}
 use Rattle.records.specs.Numbers.{bytes_in}
 use Rattle.image.proofs.Spans.{and_then}
-use borrow.Author.Rules.{rules}
 use Rattle.image.proofs.storing.put_run.Goals as goal
 
 pub returns : goal.returns

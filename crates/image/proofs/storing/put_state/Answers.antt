@@ -1,6 +1,5 @@
 -- `storing::put_state` meets its contract: the three writes make one.
 use Rattle.image.proofs.Pieces.{wrote-front}
-use borrow.Author.Rules.{rules}
 use Rattle.image.proofs.storing.put_state.Goals as goal
 
 pub returns : goal.returns

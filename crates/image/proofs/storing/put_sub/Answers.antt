@@ -7,7 +7,6 @@ use Prim.Native.Nat.{◌*◌}
 use Rattle.image.specs.Blocks.{row}
 use Rattle.image.specs.Image.{place_bytes}
 use Rattle.image.proofs.Spans.{and_then, length-row}
-use borrow.Author.Rules.{rules}
 use Rattle.image.proofs.storing.put_sub.Goals as goal
 
 pub returns : goal.returns

@@ -1,14 +1,12 @@
 -- `storing::put_subs` meets its contract. The invariant: the blocks up to i are written, and nothing else.
-use Prim.Native.Nat.{◌+◌, ◌-◌, ◌*◌, ◌≤◌}
+use Prim.Native.Nat.{◌+◌, ◌*◌}
 use mathlib.Core.Path.{◌≡◌, refl, ◌∙◌}
 use native.Mathlib.Omega.{arith}
-use lib.ListN.{length, get_or, take}
+use lib.ListN.{length, get_or}
 use native.Mathlib.Numerals.{add-one}
-use borrow.Author.Rules.{rules}
 use mathlib.Core.List.{[]}
 use Rattle.executive.specs.declared.Sub.{Sub}
 use Rattle.executive.specs.Places.{nobody}
-use Rattle.image.specs.Blocks.{row, Each, written}
 use Rattle.image.specs.Image.{sub_bytes, subs_at, sub_length}
 use Rattle.image.proofs.Spans.{each_more, Wide, row-begun, row-turned, row_done}
 use Rattle.image.proofs.Trips.{sub-length}

@@ -1,17 +1,10 @@
 -- `storing::put_subs` meets its contract. The invariant: the blocks up to i are written, and nothing else.
-use Prim.Native.Nat.{◌+◌, ◌-◌, ◌*◌, ◌≤◌}
-use mathlib.Core.Path.{◌≡◌, refl, ◌∙◌}
-use native.Mathlib.Omega.{arith}
-use lib.ListN.{length, get_or, take}
-use native.Mathlib.Numerals.{add-one}
-use borrow.Author.Rules.{rules}
-use mathlib.Core.List.{[]}
-use Rattle.executive.specs.declared.Sub.{Sub}
-use Rattle.executive.specs.Places.{nobody}
+use Prim.Native.Nat.{◌-◌, ◌≤◌}
+use mathlib.Core.Path.{◌≡◌}
+use lib.ListN.{length, take}
 use Rattle.image.specs.Blocks.{row, Each, written}
 use Rattle.image.specs.Image.{sub_bytes, subs_at, sub_length}
-use Rattle.image.proofs.Spans.{each_more, Wide, row-begun, row-turned, row_done}
-use Rattle.image.proofs.Trips.{sub-length}
+use Rattle.image.proofs.Spans.{Wide}
 use Rattle.image.proofs.storing.put_subs.Given as goal
 
 abbrev pub invariant-loop-i : goal.invariant-loop-i

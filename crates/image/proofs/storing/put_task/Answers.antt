@@ -2,7 +2,6 @@
 use native.Mathlib.Omega.{arith}
 use Rattle.image.specs.Coding.{front_bytes, run_bytes}
 use Rattle.image.proofs.Spans.{and_then}
-use borrow.Author.Rules.{rules}
 use Rattle.image.proofs.storing.put_task.Goals as goal
 
 pub returns : goal.returns

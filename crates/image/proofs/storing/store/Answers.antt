@@ -3,7 +3,6 @@ use native.Mathlib.Omega.{arith}
 use lib.ListN.{length}
 use borrow.Author.Tests.{eq-eqb, ne_eqb}
 use Rattle.image.specs.Image.{image_length, store_number, store_bytes}
-use borrow.Author.Rules.{rules}
 use Rattle.image.proofs.storing.store.Goals as goal
 
 pub returns-then-out-ne-IMAGE : goal.returns-then-out-ne-IMAGE

@@ -9,7 +9,6 @@ use Rattle.executive.proofs.Assured.{interval-most}
 use Prim.Native.Nat.{ℕ, ◌+◌}
 use Rattle.image.proofs.ReadOff.{alarm-read, clock-read, flags-read}
 use Rattle.image.proofs.Timings.{alarm-unit, alarm-high, alarm-running, alarm-set, alarm-stored}
-use borrow.Author.Rules.{rules}
 use Rattle.image.proofs.timing.alarm.Goals as goal
 
 pub returns-then-unit-gt-LAST_UNIT : goal.returns-then-unit-gt-LAST_UNIT

@@ -6,7 +6,6 @@ use Rattle.executive.specs.declared.decisions.Deed.{Deed}
 use Rattle.executive.specs.Decisions.{doing}
 use Rattle.image.proofs.ReadOff.{flags-read}
 use Rattle.image.proofs.Timings.{flag-high, flag-odd, flag-reset, flag-set, flag-test}
-use borrow.Author.Rules.{rules}
 use Rattle.image.proofs.timing.flag.Goals as goal
 
 pub returns-then-f-gt31 : goal.returns-then-f-gt31

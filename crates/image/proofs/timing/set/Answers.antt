@@ -2,7 +2,6 @@
 use mathlib.Core.Path.{ap, ◌∙◌}
 use lib.Bits.{bit_or}
 use Rattle.image.proofs.Timings.{set_is, set-woken}
-use borrow.Author.Rules.{rules}
 use Rattle.image.proofs.timing.set.Goals as goal
 
 pub bit_of-requires : goal.bit_of-requires

@@ -9,7 +9,6 @@ use Rattle.executive.specs.WellFormed.{Unmet}
 use Rattle.executive.specs.Decisions.{AllUnmet, doing}
 use Rattle.image.proofs.ReadOff.{clock-read, flags-read, granule-read}
 use Rattle.image.proofs.Timings.{tick-late, tick-done, tick_is, tick-woken}
-use borrow.Author.Rules.{rules}
 use Rattle.image.proofs.timing.tick.Goals as goal
 
 pub long_in-now-requires : goal.long_in-now-requires

@@ -1,12 +1,8 @@
 -- `zeros::are_zero` meets its contract. The invariant of each of the three loops: what is put together is zero where the bytes passed are.
-use Prim.Native.Nat.{ℕ, ◌-◌, ◌≤◌}
-use mathlib.Core.Path.{◌≡◌, refl, sym, ap, ◌∙◌}
-use native.Mathlib.Omega.{arith}
-use borrow.Author.Rules.{rules}
-use borrow.Author.Tests.{eq-eqb}
+use Prim.Native.Nat.{◌-◌, ◌≤◌}
+use mathlib.Core.Path.{◌≡◌}
 use lib.Dec.{eqb}
 use Rattle.image.specs.Sound.{noughts}
-use Rattle.image.proofs.Noughts.{noughts-none, byte-nought, or-past}
 use Rattle.image.proofs.zeros.are_zero.Given as goal
 
 abbrev pub invariant-loop-at : goal.invariant-loop-at

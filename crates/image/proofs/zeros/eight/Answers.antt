@@ -1,6 +1,5 @@
 -- `zeros::eight` meets its contract: four bytes, and four right behind them.
 use Rattle.image.proofs.Noughts.{or-noughts}
-use borrow.Author.Rules.{rules}
 use Rattle.image.proofs.zeros.eight.Goals as goal
 
 pub returns : goal.returns

@@ -2,7 +2,6 @@
 use Prim.Native.Nat.{◌+◌}
 use native.Mathlib.Omega.{arith}
 use Rattle.image.proofs.Noughts.{quad_put}
-use borrow.Author.Rules.{rules}
 use Rattle.image.proofs.zeros.quad.Goals as goal
 
 pub returns : goal.returns

@@ -1,6 +1,5 @@
 -- `zeros::sixteen` meets its contract: eight bytes, and eight right behind them.
 use Rattle.image.proofs.Noughts.{or-noughts}
-use borrow.Author.Rules.{rules}
 use Rattle.image.proofs.zeros.sixteen.Goals as goal
 
 pub returns : goal.returns

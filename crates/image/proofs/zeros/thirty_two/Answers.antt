@@ -1,6 +1,5 @@
 -- `zeros::thirty_two` meets its contract: sixteen bytes, and sixteen right behind them.
 use Rattle.image.proofs.Noughts.{or-noughts}
-use borrow.Author.Rules.{rules}
 use Rattle.image.proofs.zeros.thirty_two.Goals as goal
 
 pub returns : goal.returns

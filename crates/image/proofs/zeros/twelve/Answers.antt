@@ -1,6 +1,5 @@
 -- `zeros::twelve` meets its contract: eight bytes, and four right behind them.
 use Rattle.image.proofs.Noughts.{or-noughts}
-use borrow.Author.Rules.{rules}
 use Rattle.image.proofs.zeros.twelve.Goals as goal
 
 pub returns : goal.returns
