@@ -38,13 +38,13 @@ room : (i : After-is_scan) → answer_length ≤ length (answer i)
 room i = i.if-answer-lt25.false
 
 -- the outcome is that of a step from what the image loads to
-stepped : (x : After-step-outcome) → let i = (goal.at.After-step-outcome x).Else-answer-lt25 in x.step-outcome.result ≡ scan_of (scan_load (image i)) (call i)
+stepped : (x : After-step-outcome) → let i = (goal.at.After-step-outcome x).After-is_scan in x.step-outcome.result ≡ scan_of (scan_load (image i)) (call i)
 stepped x =
-    let i = (goal.at.After-step-outcome x).Else-answer-lt25 in
+    let i = (goal.at.After-step-outcome x).After-is_scan in
     x.step-outcome.ensures ∙ ap (λ e. scan_of e (call i)) x.load-table.ensures
 
 -- the bytes are an image, as it was found
-found : (x : After-step-outcome) → is_scan (image (goal.at.After-step-outcome x).Else-answer-lt25) ≡ true
+found : (x : After-step-outcome) → is_scan (image (goal.at.After-step-outcome x).After-is_scan) ≡ true
 found x =
     sym x.is_scan.ensures ∙ x.if-not-is_scan.false
 
@@ -58,13 +58,13 @@ returns-then-not-is_scan c =
 
 pub load-table-requires : goal.load-table-requires
 load-table-requires c =
-    let i = (goal.at.load-table-requires c).Else-answer-lt25 in
+    let i = (goal.at.load-table-requires c).After-is_scan in
     (image-parts (image i) (sym i.is_scan.ensures ∙ c.if-not-is_scan.false)).0
 
 pub returns-then-number-ne0 : goal.returns-then-number-ne0
 returns-then-number-ne0 c =
     let x = (goal.at.returns-then-number-ne0 c).After-step-outcome in
-    let i = (goal.at.After-step-outcome x).Else-answer-lt25 in
+    let i = (goal.at.After-step-outcome x).After-is_scan in
     let d =
     step-refused (image i) (call i) (answer i) (room i) x.step-outcome.result (stepped x) (found x) c.if-number-ne0.true
     (given (answer i) _ x.step-outcome.result.answer (room i) c.give-2.ensures) in
@@ -73,12 +73,12 @@ returns-then-number-ne0 c =
 pub put_scan-requires : goal.put_scan-requires
 put_scan-requires c =
     let x = (goal.at.put_scan-requires c).After-step-outcome in
-    (image-parts (image (goal.at.After-step-outcome x).Else-answer-lt25) (found x)).0
+    (image-parts (image (goal.at.After-step-outcome x).After-is_scan) (found x)).0
 
 pub returns : goal.returns
 returns c =
     let x = (goal.at.returns c).After-step-outcome in
-    let i = (goal.at.After-step-outcome x).Else-answer-lt25 in
+    let i = (goal.at.After-step-outcome x).After-is_scan in
     let d =
     step-done (image i) (call i) (answer i) (room i) x.step-outcome.result (stepped x) (found x) (omega (arith, c.if-number-ne0.false))
     (given (answer i) _ x.step-outcome.result.answer (room i) c.give-2.ensures) c.put_scan.ensures.1 in

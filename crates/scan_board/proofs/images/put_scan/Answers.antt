@@ -18,7 +18,7 @@ pub returns : goal.returns
 returns c =
     let b = c.bare_of-front in
     let e = c.args.table in
-    let fb : FitsTable (bare e) = rw b.ensures at (table-owned b.result _ b.type-inv) in
+    let fb : FitsTable (bare e) = rw b.ensures at (table-owned b.result _ b.type_inv) in
     let n = numbers-owned e _ c.well_formed.1.0 in
     let l = promises.sized (image_of (bare e)) (promises.stored (bare e) fb) in
     let p = c.put_numbers in (

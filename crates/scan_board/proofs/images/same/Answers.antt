@@ -3,13 +3,13 @@
 use Prim.Native.Nat.{◌-◌, ◌≤◌}
 use mathlib.Core.Path.{◌≡◌, refl, sym, ap, ◌∙◌}
 use mathlib.Core.Bool.{Bool, true, false, cond}
-use mathlib.Core.Logic.{⊎_elim}
 use native.Mathlib.Omega.{arith}
 use lib.ListN.{length, drop}
 use borrow.Author.Rules.{rules}
 use Rattle.image.specs.Blocks.{same}
 use Rattle.scan_board.proofs.Same.{same_turn, same-differ, same_end}
 use Rattle.scan_board.proofs.images.same.Goals as goal
+use Rattle.scan_board.proofs.images.same.Goals.{then-a-i, else-a-i}
 
 neither : (r : Bool) → cond r false false ≡ false
 neither true = refl
@@ -28,10 +28,10 @@ loop-i-preserved c =
     let v = c.loop-i in (
       omega arith,
       v.invariant.1,
-      ⊎_elim
-          (λ t. rw t.1 (sym (neither v.right) ∙ ap (λ (r : Bool). cond v.right r false) (sym (same-differ a.a.now a.b.now v.i (omega arith) (omega arith) t.0.taken)) ∙ v.invariant.2))
-          (λ u. rw u.1 (ap (λ (r : Bool). cond v.right r false) (sym (same_turn a.a.now a.b.now v.i (omega arith) (omega arith) u.0.left)) ∙ v.invariant.2))
-          c.if-a-i.branch,
+      elim c.if-a-i.branch [
+        then-a-i w ↦ rw w.right-is (sym (neither v.right) ∙ ap (λ (r : Bool). cond v.right r false) (sym (same-differ a.a.now a.b.now v.i (omega arith) (omega arith) w.if-a-i.true)) ∙ v.invariant.2)
+        | else-a-i w ↦ rw w.right-is (ap (λ (r : Bool). cond v.right r false) (sym (same_turn a.a.now a.b.now v.i (omega arith) (omega arith) w.if-a-i.false)) ∙ v.invariant.2)
+      ],
     )
 
 pub returns : goal.returns
