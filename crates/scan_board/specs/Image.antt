@@ -1,6 +1,6 @@
 -- The image of the second engine's table: the board's own of the table with the same entries and rest and nobody in its
 -- queue, then the sixteen arrival numbers and the last one given, four bytes each. docs/TABLE.md has it in words.
-use Rattle.std.specs.Prelude.{ℕ, ◌+◌, ◌*◌, ◌≡◌, Bool, false, cond, List, [], ◌∷◌, ◌++◌, eqb, length, get_or, take, drop}
+use Rattle.std.specs.Prelude.{ℕ, ◌+◌, ◌*◌, Bool, false, cond, List, [], ◌∷◌, ◌++◌, eqb, length, get_or, take, drop}
 use Rattle.records.specs.Numbers.{lay, cut, Fits}
 use Rattle.executive.specs.declared.Task.{Task}
 use Rattle.executive.specs.declared.Table.{Table}

@@ -1,9 +1,7 @@
 -- `quermanic_scan_check` meets its contract: bytes that are no image get 1, an image gets its table's number.
 use mathlib.Core.Path.{sym, ◌∙◌}
-use borrow.Author.Tests.{not-true, not-false}
 use Rattle.scan_board.proofs.Trips.{image-parts}
 use Rattle.scan_board.proofs.Answered.{check_none, check_image}
-use borrow.Author.Rules.{rules}
 use Rattle.scan_board.proofs.quermanic_scan_check.Goals as goal
 
 pub returns-then-not-is_scan : goal.returns-then-not-is_scan

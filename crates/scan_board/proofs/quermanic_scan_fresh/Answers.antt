@@ -4,7 +4,6 @@ use native.Mathlib.Omega.{arith}
 use Rattle.scan.specs.declared.Made.{Made}
 use Rattle.scan.specs.Making.{made_of}
 use Rattle.scan_board.proofs.Answered.{holds, fresh-length, fresh-refused, fresh-made}
-use borrow.Author.Rules.{rules}
 use Rattle.scan_board.proofs.quermanic_scan_fresh.Goals as goal
 
 pub returns-then-image-ne-IMAGE : goal.returns-then-image-ne-IMAGE

@@ -5,7 +5,6 @@ use mathlib.Core.Bool.{true}
 use mathlib.Core.List.{List}
 use native.Mathlib.Omega.{arith}
 use lib.ListN.{length}
-use borrow.Author.Tests.{not-true, not-false}
 use Rattle.scan.specs.declared.Scan.{Scan}
 use Rattle.scan.specs.Step.{scan_of}
 use Rattle.image.specs.Blocks.{written}
@@ -13,7 +12,6 @@ use Rattle.image.specs.EntryPoints.{answer_length, answer_bytes}
 use Rattle.scan_board.specs.Image.{scan_load, is_scan}
 use Rattle.scan_board.proofs.Trips.{image-parts}
 use Rattle.scan_board.proofs.Answered.{holds, given, step-short, step-none, step-refused, step-done}
-use borrow.Author.Rules.{rules}
 use Rattle.scan_board.proofs.quermanic_scan_step.Goals as goal
 use Rattle.scan_board.proofs.quermanic_scan_step.Goals.{After-is_scan, After-step-outcome}
 

@@ -1,7 +1,6 @@
 -- `lines::end_line` meets its contract: there is room for it.
 use native.Mathlib.Omega.{arith}
 use Rattle.text.proofs.Assured.{put_last}
-use borrow.Author.Rules.{rules}
 use Rattle.bench.proofs.lines.end_line.Goals as goal
 
 pub returns : goal.returns

@@ -3,7 +3,6 @@ use native.Mathlib.Omega.{arith}
 use Rattle.text.proofs.Assured.{put_then, put_last}
 use Rattle.bench.proofs.Short.{line-short}
 use Rattle.bench.specs.Lines.{line_of}
-use borrow.Author.Rules.{rules}
 use Rattle.bench.proofs.lines.step_line.Goals as goal
 
 pub returns : goal.returns

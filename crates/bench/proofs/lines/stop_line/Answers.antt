@@ -2,7 +2,6 @@
 use native.Mathlib.Omega.{arith}
 use Rattle.text.proofs.Assured.{put_then, put_last}
 use Rattle.bench.proofs.Short.{stop-short}
-use borrow.Author.Rules.{rules}
 use Rattle.bench.proofs.lines.stop_line.Goals as goal
 
 pub returns : goal.returns

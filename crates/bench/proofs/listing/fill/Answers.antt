@@ -1,7 +1,6 @@
 use native.Mathlib.Omega.{arith}
 use Rattle.text.proofs.Assured.{inside}
 use Rattle.bench.proofs.Turns.{fill-small, fill-nothing, fill_stop, fill_header, fill-steps}
-use borrow.Author.Rules.{rules}
 use Rattle.bench.proofs.listing.fill.Goals as goal
 
 pub returns-then-out-lt64 : goal.returns-then-out-lt64

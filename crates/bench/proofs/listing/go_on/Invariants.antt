@@ -1,14 +1,10 @@
 -- `listing::go_on` meets its contract. On the way the image is that of the table where the listing stands.
-use borrow.Author.Rules.{rules}
-use mathlib.Core.Path.{◌≡◌, refl, sym, ap, ◌∙◌}
+use mathlib.Core.Path.{◌≡◌}
 use mathlib.Core.Bool.{true}
-use native.Mathlib.Omega.{arith}
-use Prim.Native.Nat.{ℕ, zero, suc, ◌<◌, ◌-◌}
-use native.Mathlib.Nat.{add-sub_cancel_left}
-use lib.ListN.{length, get_or, take, drop}
+use Prim.Native.Nat.{◌-◌}
+use lib.ListN.{length}
 use Rattle.image.specs.Image.{load_of, is_image}
-use Rattle.image.proofs.Assured.{promises}
-use Rattle.bench.proofs.Turns.{standing, Going, going_none, going_act, going_last, going_full, whole_in, line-some}
+use Rattle.bench.proofs.Turns.{standing, Going}
 use Rattle.bench.proofs.listing.go_on.Given as goal
 
 abbrev pub invariant-loop-out : goal.invariant-loop-out

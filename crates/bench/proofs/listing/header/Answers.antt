@@ -1,4 +1,3 @@
-use borrow.Author.Rules.{rules}
 use Rattle.bench.proofs.listing.header.Goals as goal
 
 pub returns : goal.returns

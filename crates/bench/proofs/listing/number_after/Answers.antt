@@ -1,5 +1,4 @@
 use borrow.Author.Tests.{le-ltb, lt-ltb}
-use borrow.Author.Rules.{rules}
 use Rattle.bench.proofs.listing.number_after.Goals as goal
 
 pub returns-then-n-lt4294967295 : goal.returns-then-n-lt4294967295

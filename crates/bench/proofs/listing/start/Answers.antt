@@ -4,7 +4,6 @@ use Prim.Native.Nat.{◌≤◌}
 use lib.ListN.{length}
 use Rattle.executive.proofs.Assured.{fresh_law}
 use Rattle.bench.specs.Pieces.{start_of}
-use borrow.Author.Rules.{rules}
 use Rattle.bench.proofs.listing.start.Goals as goal
 
 pub slice_bounds-fresh-end : goal.slice_bounds-fresh-end

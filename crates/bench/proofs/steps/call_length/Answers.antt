@@ -1,4 +1,3 @@
-use borrow.Author.Rules.{rules}
 use Rattle.bench.proofs.steps.call_length.Goals as goal
 
 pub returns-then-is_call : goal.returns-then-is_call

@@ -2,7 +2,6 @@ use mathlib.Core.Path.{sym, ap, ◌∙◌}
 use Rattle.text.proofs.Assured.{named}
 use Rattle.bench.proofs.Told.{last_end, last_unknown, last-cut}
 use Rattle.bench.specs.Listing.{call_length}
-use borrow.Author.Rules.{rules}
 use Rattle.bench.proofs.steps.last_line.Goals as goal
 
 pub returns-then-input-at : goal.returns-then-input-at

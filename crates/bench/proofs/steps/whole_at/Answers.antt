@@ -1,7 +1,6 @@
 use mathlib.Core.Path.{sym, ap, ◌∙◌}
 use Rattle.bench.proofs.Told.{whole-none, whole-cut, whole_is}
 use Rattle.bench.specs.Listing.{call_length}
-use borrow.Author.Rules.{rules}
 use Rattle.bench.proofs.steps.whole_at.Goals as goal
 
 pub returns-then-input-at : goal.returns-then-input-at

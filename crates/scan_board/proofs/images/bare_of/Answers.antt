@@ -1,6 +1,5 @@
 -- `images::bare_of` meets its contract.
 use mathlib.Core.Path.{ap}
-use borrow.Author.Rules.{rules}
 use Rattle.executive.specs.Lists.{pad}
 use Rattle.executive.specs.Configuration.{with_tasks}
 use Rattle.scan_board.proofs.images.bare_of.Goals as goal

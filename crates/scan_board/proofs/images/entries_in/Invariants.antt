@@ -1,13 +1,8 @@
 -- `images::entries_in` meets its contract. The invariant: what stands up to i is what the tasks and the bytes hold.
 use Prim.Native.Nat.{◌-◌, ◌≤◌}
-use mathlib.Core.Path.{◌≡◌, refl, ap}
-use native.Mathlib.Omega.{arith}
-use lib.ListN.{length, get_or, take, length-set}
-use borrow.Author.Rules.{rules}
-use Rattle.executive.specs.Places.{no_task}
-use Rattle.scan.specs.Entries.{entry}
+use mathlib.Core.Path.{◌≡◌}
+use lib.ListN.{length, take}
 use Rattle.image.specs.Blocks.{blocks}
-use Rattle.image.proofs.Assured.{block-turn, block-end}
 use Rattle.scan_board.specs.Image.{entry_from}
 use Rattle.scan_board.proofs.images.entries_in.Given as goal
 

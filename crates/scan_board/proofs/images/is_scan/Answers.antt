@@ -1,5 +1,4 @@
 -- `images::is_scan` meets its contract: another length is no image, and else the bytes are compared.
-use borrow.Author.Rules.{rules}
 use Rattle.scan_board.proofs.Trips.{not-long, compared}
 use Rattle.scan_board.proofs.images.is_scan.Goals as goal
 

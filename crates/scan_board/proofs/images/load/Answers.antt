@@ -4,7 +4,6 @@ use mathlib.Core.Path.{sym}
 use native.Mathlib.Omega.{arith}
 use lib.ListN.{length, take, drop, length-drop}
 use lib.Seq.{length-take-le, take_all}
-use borrow.Author.Rules.{rules}
 use Rattle.image.specs.Image.{image_length}
 use Rattle.scan_board.proofs.Pieces.{loaded}
 use Rattle.scan_board.proofs.images.load.Goals as goal

@@ -1,14 +1,9 @@
 -- `images::put_numbers` meets its contract. The invariant: the numbers up to i are written, and nothing else.
-use Prim.Native.Nat.{◌*◌, ◌-◌, ◌≤◌}
-use mathlib.Core.Path.{◌≡◌, refl, ◌∙◌}
-use native.Mathlib.Omega.{arith}
+use Prim.Native.Nat.{◌-◌, ◌≤◌}
+use mathlib.Core.Path.{◌≡◌}
 use lib.ListN.{length, take}
-use borrow.Author.Rules.{rules}
-use Rattle.scan.specs.Entries.{no_entry}
 use Rattle.image.specs.Blocks.{row, written}
-use Rattle.image.proofs.Assured.{row-start, row-turn, row-end}
 use Rattle.scan_board.specs.Image.{arrival_bytes}
-use Rattle.scan_board.proofs.Pieces.{wrote-numbers}
 use Rattle.scan_board.proofs.images.put_numbers.Given as goal
 
 abbrev pub invariant-loop-i : goal.invariant-loop-i

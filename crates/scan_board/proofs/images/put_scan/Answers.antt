@@ -2,7 +2,6 @@
 use mathlib.Core.Path.{sym, ap, ◌∙◌}
 use native.Mathlib.Omega.{arith}
 use lib.Seq.{length-take-le}
-use borrow.Author.Rules.{rules}
 use Rattle.scan.specs.Step.{bare}
 use Rattle.image.specs.Image.{image_length, image_of, FitsTable}
 use Rattle.image.proofs.Assured.{promises, table-owned}

@@ -1,12 +1,8 @@
 -- `images::same` meets its contract. The invariant: all is the same exactly where nothing differed so far
 -- and what is left is the same.
-use Prim.Native.Nat.{◌-◌, ◌≤◌}
 use mathlib.Core.Path.{◌≡◌, refl, sym, ap, ◌∙◌}
 use mathlib.Core.Bool.{Bool, true, false, cond}
 use native.Mathlib.Omega.{arith}
-use lib.ListN.{length, drop}
-use borrow.Author.Rules.{rules}
-use Rattle.image.specs.Blocks.{same}
 use Rattle.scan_board.proofs.Same.{same_turn, same-differ, same_end}
 use Rattle.scan_board.proofs.images.same.Goals as goal
 use Rattle.scan_board.proofs.images.same.Goals.{then-a-i, else-a-i}
@@ -29,7 +25,7 @@ loop-i-preserved c =
       omega arith,
       v.invariant.1,
       elim c.if-a-i.branch [
-        then-a-i w ↦ rw w.right-is (sym (neither v.right) ∙ ap (λ (r : Bool). cond v.right r false) (sym (same-differ a.a.now a.b.now v.i (omega arith) (omega arith) w.if-a-i.true)) ∙ v.invariant.2)
+        | then-a-i w ↦ rw w.right-is (sym (neither v.right) ∙ ap (λ (r : Bool). cond v.right r false) (sym (same-differ a.a.now a.b.now v.i (omega arith) (omega arith) w.if-a-i.true)) ∙ v.invariant.2)
         | else-a-i w ↦ rw w.right-is (ap (λ (r : Bool). cond v.right r false) (sym (same_turn a.a.now a.b.now v.i (omega arith) (omega arith) w.if-a-i.false)) ∙ v.invariant.2)
       ],
     )

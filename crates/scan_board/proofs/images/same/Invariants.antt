@@ -1,14 +1,10 @@
 -- `images::same` meets its contract. The invariant: all is the same exactly where nothing differed so far
 -- and what is left is the same.
 use Prim.Native.Nat.{◌-◌, ◌≤◌}
-use mathlib.Core.Path.{◌≡◌, refl, sym, ap, ◌∙◌}
-use mathlib.Core.Bool.{Bool, true, false, cond}
-use mathlib.Core.Logic.{⊎_elim}
-use native.Mathlib.Omega.{arith}
+use mathlib.Core.Path.{◌≡◌}
+use mathlib.Core.Bool.{false, cond}
 use lib.ListN.{length, drop}
-use borrow.Author.Rules.{rules}
 use Rattle.image.specs.Blocks.{same}
-use Rattle.scan_board.proofs.Same.{same_turn, same-differ, same_end}
 use Rattle.scan_board.proofs.images.same.Given as goal
 
 abbrev pub invariant-loop-i : goal.invariant-loop-i
