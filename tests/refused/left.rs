@@ -172,6 +172,9 @@ fn write_left(file: &File, going: &[&Function]) {
     fs::write(&file.path, text).unwrap_or_else(|e| fail(&format!("{} cannot be written: {e}", file.path.display())));
 }
 
+// The files of a function's proof: what its loops keep, and the answers to its goals; or a proof by hand.
+const PROOF: [&str; 3] = ["Invariants.antt", "Answers.antt", "Proof.antt"];
+
 // Takes the proof of a function away. That of a method stands in its type's room, which is in that of the module where
 // the type is declared; functions that call each other have one proof, in a folder with all their names, as +even+odd.
 fn without_proof(folder: &Path, f: &Function) {
@@ -182,7 +185,7 @@ fn without_proof(folder: &Path, f: &Function) {
     };
     for room in rooms {
         let room = folder.join("proofs").join(room.trim_start_matches('/'));
-        for proof in files_below(&room).iter().filter(|path| path.ends_with("Proof.antt")) {
+        for proof in files_below(&room).iter().filter(|path| PROOF.iter().any(|name| path.ends_with(name))) {
             let of = proof.parent().filter(|p| p.parent() == Some(&room)).and_then(Path::file_name);
             let of = of.map(|name| name.to_string_lossy().into_owned()).unwrap_or_default();
             if of == f.name || of.starts_with('+') && of.split('+').any(|name| name == f.name) {
