@@ -33,15 +33,14 @@ fn declared(tree: &Tree, krate: &str, path: &[String]) -> Vec<Place> {
 
 // What a whole path of antt names: an item of specs/, a declared type, or a module (nothing). None: it is not there.
 fn follow(tree: &Tree, path: &[String]) -> Option<Vec<Place>> {
-    let library = path[0].strip_prefix("Rattle·").map(|l| l.split('·').next().unwrap_or(l));
-    let krate = match library {
-        None => return Some(Vec::new()), // the kit's
-        Some(krate) => krate,
+    let krate = match path.get(1) {
+        Some(krate) if path[0] == "Rattle" && tree.crates.contains(krate) => krate.as_str(),
+        _ => return Some(Vec::new()), // the kit's
     };
-    if path.get(1).map(String::as_str) != Some("specs") {
+    if path.get(2).map(String::as_str) != Some("specs") {
         return None;
     }
-    let below = &path[2..];
+    let below = &path[3..];
     if below.first().map(String::as_str) == Some("declared") {
         return Some(declared(tree, krate, &below[1..])).filter(|found| !found.is_empty());
     }
@@ -84,7 +83,7 @@ pub fn brings(one: &Use, word: &str) -> Vec<usize> {
 fn meant(tree: &Tree, at: usize, name: &[String]) -> Result<Vec<Place>, String> {
     let file = &tree.files[at];
     let missing = |path: &[String]| format!("{} names '{}', and no file of specs/ has it.", file.path, path.join("."));
-    if name[0].starts_with("Rattle·") {
+    if name[0] == "Rattle" {
         return follow(tree, name).ok_or_else(|| missing(name));
     }
     let mut found = items_of(tree, at, &name[0], false);

@@ -68,13 +68,21 @@ fn braced(text: &str, from: usize) -> usize {
     text.len()
 }
 
+// The brace of a clause whose word ends at a place, if it is one: `ensures {`, `ensures name {` or `ensures* name {`.
+fn clause(source: &str, end: usize) -> Option<usize> {
+    let star = if source[end..].starts_with('*') { end + 1 } else { end };
+    let name = run(source, star, char::is_whitespace);
+    let brace = run(source, run(source, name, is_word), char::is_whitespace);
+    Some(brace).filter(|b| source[*b..].starts_with('{'))
+}
+
 // The piece that begins with a word's character: a word, a clause with its term, or a `ghost use` up to its semicolon.
 fn worded(path: &str, source: &str, start: usize) -> Result<Piece, String> {
     let end = run(source, start, is_word);
     let next = run(source, end, char::is_whitespace);
     let word = &source[start..end];
-    if ["requires", "ensures", "ghost"].contains(&word) && source[next..].starts_with('{') {
-        return Ok(Piece { kind: Kind::Clause, start, end: braced(source, next) });
+    if let (true, Some(brace)) = (["requires", "ensures"].contains(&word), clause(source, end)) {
+        return Ok(Piece { kind: Kind::Clause, start, end: braced(source, brace) });
     }
     match (word, source[next..].starts_with("use")) {
         ("ghost", true) => Ok(Piece { kind: Kind::Ghost, start, end: run(source, start, |c| c != ';') }),
@@ -158,7 +166,8 @@ impl Code<'_> {
             lines.insert(0, format!("impl {}", owner));
         }
         let clauses = self.pieces[a..b].iter().filter(|p| p.kind == Kind::Clause);
-        let words = clauses.flat_map(|p| text::names(&self.text[p.start..p.end])).collect();
+        let term = |p: &Piece| self.text[p.start..p.end].split_once('{').map_or("", |(_, term)| term);
+        let words = clauses.flat_map(|p| text::names(term(p))).collect();
         let mut paths: Vec<Vec<String>> = inside.iter().map(|owner| vec![owner.to_string()]).collect();
         for n in a..b {
             let joined = n >= a + 2 && self.word(n - 1) == ":" && self.word(n - 2) == ":";
@@ -233,6 +242,10 @@ fn ghost(code: &Code, n: usize) -> Result<Use, String> {
 fn declarations(code: &Code, file: &mut File, from: usize, end: usize, owner: Option<&str>) -> Result<(), String> {
     let mut first = from;
     while first < end {
+        if (code.word(first), code.word(first + 1)) == ("#", "!") {
+            first = code.closed(first + 2);
+            continue;
+        }
         let (public, n) = marks(code, first);
         first = match (code.word(n), code.pieces.get(n).map(|p| p.kind)) {
             (_, Some(Kind::Ghost)) => {

@@ -70,12 +70,12 @@ pub fn names(text: &str) -> Vec<Vec<String>> {
     found
 }
 
-// Whether a name is written by this word: the name itself, or a part of an operator's (`_and_` by `and` or `_and`).
+// Whether a name is written by this word: the name itself, or a part of an operator's (`◌and◌` by `and` or `◌and`).
 pub fn writes(word: &str, name: &str) -> bool {
     let plain = |w: &str| w.trim_matches(|c| c == '«' || c == '»').to_string();
-    let part = word.trim_matches('_');
-    let parts = !name.starts_with('«') && name.contains('_') && !part.is_empty();
-    plain(word) == plain(name) || (parts && name.split('_').any(|p| p == part))
+    let part = word.trim_matches('◌');
+    let parts = !name.starts_with('«') && name.contains('◌') && !part.is_empty();
+    plain(word) == plain(name) || (parts && name.split('◌').any(|p| p == part))
 }
 
 // The lines of a text that are not blank, moved left by the indentation of the first.

@@ -105,7 +105,7 @@ pub fn read(root: &Path) -> Result<Tree, String> {
     let listed = text_of(&root.join("crates.txt"))?;
     let lines = listed.lines().map(|l| l.split('#').next().unwrap_or(""));
     let named = lines.filter_map(|l| l.split_once(':'));
-    let crates: Vec<String> = named.map(|(name, _)| name.trim().to_string()).collect();
+    let crates: Vec<String> = named.filter_map(|(head, _)| head.split_whitespace().next().map(str::to_string)).collect();
     let mut files = Vec::new();
     for name in &crates {
         let sources_of = files_in(root, &format!("crates/{}/src", name), ".rt")?;
