@@ -80,8 +80,8 @@ proving() {
 }
 
 # built NAME [RT]: has rt, or another command in its place, prove and build the program or the library for C NAME, and
-# leaves it as target/bin/NAME or target/staticlib/libNAME.a. A program is run by that, on its own input. The library of
-# blocks_c is libblocks.a. Whoever calls it has sourced tools/setup.sh.
+# leaves it as target/bin/NAME or target/staticlib/libNAME.a. A program is run by that, on its own input. The archive of
+# NAME_c is libNAME.a. Whoever calls it has sourced tools/setup.sh.
 built() (
     name=$1 rt=${2-rt} made=$root/crates/$1/out
     cd "$root/crates/$name" || exit 1
