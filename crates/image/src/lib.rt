@@ -1,4 +1,4 @@
-// The table as bytes: what a board does with it, each on lent bytes; the crate board has these functions for C.
+// The table as bytes: what a board does with it, each on lent bytes; the crate board hands them on, and board_c to C.
 #![tactic(auto)]
 
 ghost use Rattle.records.specs.declared.TaskNo.{TaskNo};

@@ -1,7 +1,7 @@
 -- The founder's demands, said of `step_of`, the definition that the code is proved to take: for any well-formed
 -- table and any records, refused ones included.
 -- That each call gives the answer and the table that the rules of docs/CALLS.md define is the code's own contract,
--- `r ≡ step_of t s`.
+-- `result ≡ step_of t s`.
 use Rattle.std.specs.Prelude.{◌≡◌, ◌↔◌, ◌≢◌, true, cond, List, [], ◌∷◌, map, ℕ, ◌+◌, ◌≤◌, ◌<◌, eqb, length}
 use Rattle.records.specs.Firsts.{Refusal, first_of, Decides}
 use Rattle.records.specs.declared.Call.{Call}
