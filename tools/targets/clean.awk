@@ -1,10 +1,12 @@
 # Whether an LLVM module rests on the width of a pointer, or on what a small processor lacks: awk -f clean.awk FILE.ll
 # Refused, each with its function:
-# - a pointer made a number or a number a pointer, a comparison of pointers, inline assembly, a call through a pointer
+# - a pointer made a number or a number a pointer, a comparison of pointers but with null, inline assembly, a call through a pointer
 # - an address that is not made by bytes (getelementptr i8)
 # - a slot that is accessed as a pointer and as something else, and a slot of a pointer that is narrower than 8 bytes
 # - a division but by a power of two, which a processor without division would need a helper for
-# - any other instruction than those that are known to be right; numbers over 64 bits, floats, vectors
+# - any other instruction than those that are known to be right; numbers over 64 bits, floats, vectors; any other
+#   aggregate than a pair of numbers, which lies in a slot as each number would, at a multiple of its own length: so it does
+#   on x86-64, and on each target whose layout has i64:64 (retarget.awk)
 # That a slot is accessed at two widths of numbers is let pass: all targets have the lowest byte first.
 
 function refuse(why) {
@@ -28,6 +30,17 @@ function access(type, address,    base, offset) {
     else number_at[base, offset] = type
 }
 
+# The two numbers of a pair, as access() has them.
+function access_pair(first, second, address,    length_of_second) {
+    sub(/,$/, "", address)
+    sub(/,$/, "", first)
+    length_of_second = substr(second, 2) / 8
+    access(first, address)
+    number_at[(address in base_of) ? base_of[address] : address, \
+        ((address in offset_of) ? offset_of[address] : 0) + \
+        (length_of_second > substr(first, 2) / 8 ? length_of_second : substr(first, 2) / 8)] = second
+}
+
 # That the eight bytes of each pointer's slot are accessed as a pointer alone.
 function end_of_function(    slot, part, near, other, width) {
     for (slot in pointer_at) {
@@ -49,7 +62,7 @@ function end_of_function(    slot, part, near, other, width) {
 
 BEGIN {
     count = split("alloca load store getelementptr call br ret icmp zext sext trunc add sub mul udiv urem and or " \
-                  "xor shl lshr switch unreachable select phi", list, " ")
+                  "xor shl lshr switch unreachable select phi extractvalue", list, " ")
     for (i = 1; i <= count; i++) known[list[i]] = 1
 }
 
@@ -82,7 +95,12 @@ operation ~ /^(i[0-9]+|\])/ { next } # a case of a switch
 line ~ /(^|[^a-zA-Z0-9_.%])(i128|float|double|half|fp128|x86_fp80|<[0-9]+ x)/ {
     refuse("a number that small processors lack: " line)
 }
-operation == "icmp" && word[3] == "ptr" { refuse("a comparison of pointers: " line) }
+line ~ /[{}]/ {
+    bare = line
+    gsub(/\{ i(8|16|32|64), i(8|16|32|64) \}/, "pair", bare)
+    if (bare ~ /[{}]/ || operation == "store") { refuse("an aggregate that is no pair of numbers in a register: " line); next }
+}
+operation == "icmp" && word[3] == "ptr" && line !~ /^icmp (eq|ne) ptr [^ ]+, null$/ { refuse("a comparison of pointers: " line) }
 line ~ / asm / { refuse("inline assembly: " line) }
 operation == "call" && line !~ /^call [^%]*@/ { refuse("a call through a pointer: " line) }
 operation ~ /^(udiv|urem)$/ && !is_power_of_two(word[count]) {
@@ -98,6 +116,7 @@ operation == "getelementptr" {
         offset_of[result] = word[count] + ((base in offset_of) ? offset_of[base] : 0)
     }
 }
+operation == "load" && word[2] == "{" { access_pair(word[3], word[4], word[7]); next }
 operation == "load" { sub(/,$/, "", word[2]); access(word[2], word[4]) }
 operation == "store" { access(word[2], word[5]) }
 

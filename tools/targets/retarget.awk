@@ -1,5 +1,5 @@
 # An LLVM module for x86-64 as one for another: awk -v triple=T -v layout=L -v exports=N -f retarget.awk FILE.ll
-# The edits: triple and layout are replaced; two attributes that are of x86-64 go; and each of the N exported functions
+# The edits: triple and layout are replaced; three attributes that are of x86-64 go; and each of the N exported functions
 # that return a byte extends it to a whole register (zeroext), which callers on Arm-32 and RISC-V count on and the kit
 # does not say. Each edit must match as often as expected, and nothing of x86-64 may be left: else the status is 1.
 # For the trials something may be planted (-v plant=..): dirty, that the functions leave a bit above the byte that they
@@ -12,9 +12,11 @@ function refuse(why) {
     exit 1
 }
 
+BEGIN { if (layout !~ /-i64:64-/) refuse("its layout does not say that a number of 64 bits lies at a multiple of eight") }
+
 /^target triple = / { $0 = "target triple = \"" triple "\""; triples++ }
 /^target datalayout = / { $0 = "target datalayout = \"" layout "\""; layouts++ }
-/^attributes / { attributes += sub(/ "probe-stack"="inline-asm" "target-cpu"="x86-64"/, "") }
+/^attributes / { attributes += sub(/ "probe-stack"="inline-asm" "stack-probe-size"="3072" "target-cpu"="x86-64-v2"/, "") }
 /^define / { exported = !/^define internal / }
 exported && /^define noundef i8 @/ {
     if (plant != "bare") sub(/noundef i8/, "noundef zeroext i8")
@@ -27,7 +29,7 @@ exported && plant != "" && /^  ret i8 / { # the empty assembly hides from the co
     print "  %byte = trunc i32 %same to i8"
     $0 = "  ret i8 %byte"
 }
-/x86|probe-stack/ { refuse("line " NR " still names x86-64: " $0) }
+/x86|probe-stack|stack-probe/ { refuse("line " NR " still names x86-64: " $0) }
 { print }
 
 END {
