@@ -46,7 +46,8 @@ compile_module() (
     level=$1 module=$2 made=$3
     shift 3
     "$(kit_tools)/bin/clang" --target=$triple $cpu "-$level" -ffreestanding -ffunction-sections -fdata-sections \
-        -mllvm -trap-unreachable -mllvm -no-trap-after-noreturn --no-default-config -no-canonical-prefixes \
+        -mllvm -trap-unreachable -mllvm -no-trap-after-noreturn -mllvm -disable-machine-licm \
+        -mllvm -disable-postra-machine-licm -mllvm -sink-common-insts=false --no-default-config -no-canonical-prefixes \
         -fno-crash-diagnostics -Werror "$@" -x ir "$module" -o "$made"
 )
 
@@ -76,13 +77,16 @@ make_library() (
     target "$1" && mkdir -p "$out" && rm -f "$out/libboard.a" "$out/figures" &&
         awk -f tools/targets/clean.awk target/module/board.ll || return 1
     if [ "$1" = x86-64 ]; then # as the kit has it: what it makes of the kept module is its archive
-        cp target/module/board.ll "$out/board.ll" && cp target/module/board.object "$out/board.o" || return 1
+        object=$("$tools/bin/llvm-ar" t target/staticlib/libboard.a) && cp target/module/board.ll "$out/board.ll" &&
+            cp target/module/board.object "$out/board.o" || return 1
+        [ "$object" = board.o ] || cp "$out/board.o" "$out/$object" || return 1 # as the kit names it in its archive
     else
+        object=board.o
         retarget board 6 "${4-}" >"$out/board.ll" &&
             compile_module "$level" "$out/board.ll" "$out/board.o" -c || return 1
     fi
     compile_module "$level" "$out/board.ll" "$out/board.s" -S -fstack-usage &&
-        (cd "$out" && "$tools/bin/llvm-ar" rcD libboard.a board.o) &&
+        (cd "$out" && "$tools/bin/llvm-ar" rcD libboard.a "$object") &&
         section_sizes "$out/board.o" >"$out/figures" && stack_bounds "$out" >>"$out/figures" &&
         awk '$1 == "stack" { print toupper($2) "_STACK = " $3 ";" }' "$out/figures" >"$out/quermanic-stack.ld"
 )
