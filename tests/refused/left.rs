@@ -175,8 +175,13 @@ fn write_left(file: &File, going: &[&Function]) {
 // The files of a function's proof: what its loops keep, and the answers to its goals; or a proof by hand.
 const PROOF: [&str; 3] = ["Invariants.antt", "Answers.antt", "Proof.antt"];
 
+// Whether the names of a cycle, joined by _, have this one among them.
+fn names_one(names: &str, name: &str) -> bool {
+    format!("_{names}_").contains(&format!("_{name}_"))
+}
+
 // Takes the proof of a function away. That of a method stands in its type's room, which is in that of the module where
-// the type is declared; functions that call each other have one proof, in a folder with all their names, as +even+odd.
+// the type is declared; functions that call each other have one proof, in a folder with all their names, as +even_odd.
 fn without_proof(folder: &Path, f: &Function) {
     let module = if f.module == "lib" { "" } else { &f.module };
     let rooms = match f.owner.as_deref() {
@@ -188,7 +193,7 @@ fn without_proof(folder: &Path, f: &Function) {
         for proof in files_below(&room).iter().filter(|path| PROOF.iter().any(|name| path.ends_with(name))) {
             let of = proof.parent().filter(|p| p.parent() == Some(&room)).and_then(Path::file_name);
             let of = of.map(|name| name.to_string_lossy().into_owned()).unwrap_or_default();
-            if of == f.name || of.starts_with('+') && of.split('+').any(|name| name == f.name) {
+            if of == f.name || of.strip_prefix('+').is_some_and(|names| names_one(names, &f.name)) {
                 fs::remove_file(proof).unwrap_or_else(|e| fail(&format!("{} stays: {e}", proof.display())));
             }
         }

@@ -43,7 +43,7 @@ fn separates(c: char) -> bool {
     c.is_whitespace() || "(){};,@\"⌜⌝⟦⟧".contains(c)
 }
 
-// The names in a term of antt, each as its parts: `call.Tick` has two; of `t .rest` only t is a name.
+// The names in a term of antt, each as its parts: `call.Tick` has two; of `t.rest` only t is a name.
 pub fn names(text: &str) -> Vec<Vec<String>> {
     let mut found = Vec::new();
     let mut parts: Vec<String> = Vec::new();

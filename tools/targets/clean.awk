@@ -1,12 +1,13 @@
 # Whether an LLVM module rests on the width of a pointer, or on what a small processor lacks: awk -f clean.awk FILE.ll
 # Refused, each with its function:
-# - a pointer made a number or a number a pointer, a comparison of pointers but with null, inline assembly, a call through a pointer
+# - a pointer made a number or a number a pointer, a comparison of pointers but with null, inline assembly, a call
+#   through a pointer
 # - an address that is not made by bytes (getelementptr i8)
 # - a slot that is accessed as a pointer and as something else, and a slot of a pointer that is narrower than 8 bytes
 # - a division but by a power of two, which a processor without division would need a helper for
 # - any other instruction than those that are known to be right; numbers over 64 bits, floats, vectors; any other
-#   aggregate than a pair of numbers, which lies in a slot as each number would, at a multiple of its own length: so it does
-#   on x86-64, and on each target whose layout has i64:64 (retarget.awk)
+#   aggregate than a pair of numbers, which lies in a slot as each number would, at a multiple of its own length: so it
+#   does on x86-64, and on each target whose layout has i64:64 (retarget.awk)
 # That a slot is accessed at two widths of numbers is let pass: all targets have the lowest byte first.
 
 function refuse(why) {
