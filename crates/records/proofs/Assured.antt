@@ -4,6 +4,7 @@ use Rattle.records.specs.Promises.{Promises}
 use Rattle.records.proofs.Numbers.{fitting-back, cut-lay, lay-cut, lay-length}
 use Rattle.records.proofs.Firsts.{first-decides, first-not}
 use Rattle.records.proofs.Ranges.{read_in_range}
+use Rattle.records.proofs.Numbered.{numbered, numbered_some}
 use Rattle.records.proofs.RoundTrips.{write_read, read_write}
 use Rattle.records.proofs.CallParts.{call-whole, call-parts}
 use Rattle.records.proofs.reading.Laws.{reads, refuses, three, four}
@@ -30,6 +31,8 @@ promises = record {
   write_determined = λ c o _ _ x y p q. (p.buffer ∙ sym q.buffer, p.answer ∙ sym q.answer);
   there-determined = λ c x y p q. p ∙ sym q;
   back-determined = λ s o _ _ x y p q. (p.buffer ∙ sym q.buffer, p.answer ∙ sym q.answer);
+  numbered = numbered;
+  numbered_some = numbered_some;
   first-decides = first-decides;
   first-not = first-not;
   cut-lay = cut-lay;

@@ -10,11 +10,12 @@ use Rattle.records.specs.declared.Kind.{Kind}
 use Rattle.records.specs.declared.Kind.TheVariants as kind
 use Rattle.records.specs.declared.Call.{Call}
 use Rattle.records.specs.declared.Call.TheVariants as call
-use Rattle.records.specs.declared.Got.TheVariants as got
 use Rattle.records.proofs.Numbers.{part-drop}
 use Rattle.records.proofs.RoundTrips.{refused, same}
+use Rattle.std.specs.Prelude.{Ok}
+use Rattle.records.specs.declared.Refusal.TheVariants as refusal
 
-pub call-whole : (c : Call) → got_of (kind_of_call c) (fields_of c) ≡ got.Call c
+pub call-whole : (c : Call) → got_of (kind_of_call c) (fields_of c) ≡ Ok c
 call-whole call.Terminate = refl
 call-whole (call.Restart p n) = refl
 call-whole (call.Pause u n) = refl
@@ -33,9 +34,9 @@ call-whole (call.Exit m) = refl
 call-whole (call.Send t x) = refl
 call-whole (call.Receive t) = refl
 
-pub call-parts : (k : Kind) (xs : List ℕ) (c : Call) → length xs ≡ length (body_of k) → got_of k xs ≡ got.Call c
+pub call-parts : (k : Kind) (xs : List ℕ) (c : Call) → length xs ≡ length (body_of k) → got_of k xs ≡ Ok c
     → (kind_of_call c ≡ k) × (fields_of c ≡ xs)
-call-parts kind.Unknown xs c n e = absurd (refused 4 c e)
+call-parts kind.Unknown xs c n e = absurd (refused refusal.UnknownKind c e)
 call-parts kind.Terminate xs c n e = (ap kind_of_call (same e), ap fields_of (same e) ∙ sym (part-drop xs 0 0 (omega arith)))
 call-parts kind.Restart xs c n e = (ap kind_of_call (same e), ap fields_of (same e) ∙ sym (part-drop xs 2 0 (omega arith)))
 call-parts kind.Pause xs c n e = (ap kind_of_call (same e), ap fields_of (same e) ∙ sym (part-drop xs 2 0 (omega arith)))

@@ -2,6 +2,7 @@
 pub mod Numbers
 pub mod Firsts
 pub mod Ranges
+pub mod Numbered
 pub mod RoundTrips
 pub mod CallParts
 pub mod Assured

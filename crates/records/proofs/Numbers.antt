@@ -3,7 +3,7 @@ use Prim.Native.Nat.{ℕ, zero, suc, ◌+◌, ◌*◌, ◌/◌, ◌%◌, ◌<◌
 use mathlib.Core.Path.{◌≡◌, refl, sym, ap, ◌∙◌}
 use mathlib.Core.List.{List, [], ◌∷◌, ◌++◌, append_assoc}
 use native.Mathlib.Omega.{arith}
-use native.Mathlib.Nat.{add-zero, add-suc, suc-add, add_comm, div-div-eq-div-mul, pow-succ'}
+use native.Mathlib.Nat.{add-zero, add-suc, suc-add, add_comm, pow-succ'}
 use lib.ListN.{length, get_or, drop, length-append, drop_of_length-le}
 use lib.Seq.{drop-cons, get_or-append_seam}
 use lib.Dec.{lit<}
@@ -26,35 +26,6 @@ number-back (suc w) x = number-last (one_and w (x / 256)) (x % 256) ∙ rw (numb
 pub fitting-back : (w x : ℕ) → x < 256 ^ w → number_of (bytes_in w x) ≡ x
 fitting-back zero x h = omega arith
 fitting-back (suc w) x h = number-back w x
-
-module _ (x : ℕ) where
-  -- one quotient by 256 more
-  further : (d y : ℕ) → x / d ≡ y → x / (d * 256) ≡ y / 256
-  further d y e = sym (div-div-eq-div-mul x d 256) ∙ ap (λ z. z / 256) e
-
-  third : x / 65536 ≡ x / 256 / 256
-  third = further 256 (x / 256) refl
-
-  fourth : x / 16777216 ≡ x / 256 / 256 / 256
-  fourth = further 65536 (x / 256 / 256) third
-
-  -- the bytes of a number of four bytes and of one of eight, by one quotient each
-  pub four : x / 16777216 ∷ x / 65536 % 256 ∷ x / 256 % 256 ∷ x % 256 ∷ [] ≡ one_and 3 x
-  four = rw (fourth, third)
-
-  pub eight : x / 72057594037927936 ∷ x / 281474976710656 % 256 ∷ x / 1099511627776 % 256 ∷ x / 4294967296 % 256
-      ∷ x / 16777216 % 256 ∷ x / 65536 % 256 ∷ x / 256 % 256 ∷ x % 256 ∷ [] ≡ one_and 7 x
-  eight =
-      let fifth = further 16777216 _ fourth in
-      let sixth = further 4294967296 _ fifth in
-      let seventh = further 1099511627776 _ sixth in
-      rw (further 281474976710656 _ seventh, seventh, sixth, fifth, fourth, third)
-
--- the number of eight bytes, from those of the first four and of the last four
-pub halves : (a b c d e f g h : ℕ)
-    → number_of (a ∷ b ∷ c ∷ d ∷ []) * 4294967296 + number_of (e ∷ f ∷ g ∷ h ∷ [])
-    ≡ number_of (a ∷ b ∷ c ∷ d ∷ e ∷ f ∷ g ∷ h ∷ [])
-halves a b c d e f g h = omega arith
 
 -- the bytes of a number and one byte more
 bytes-last : (w n b : ℕ) → b < 256 → one_and (suc w) (n * 256 + b) ≡ one_and w n ++ (b ∷ [])

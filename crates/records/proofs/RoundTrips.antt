@@ -19,22 +19,24 @@ use Rattle.records.specs.declared.Kind.{Kind}
 use Rattle.records.specs.declared.Kind.TheVariants as kind
 use Rattle.records.specs.declared.Call.{Call}
 use Rattle.records.specs.declared.Call.TheVariants as call
-use Rattle.records.specs.declared.Got.TheVariants as got
-use Rattle.records.specs.declared.Written.TheVariants as written
+use Rattle.records.specs.declared.Refusal.{Refusal}
+use Rattle.records.specs.declared.Refusal.TheVariants as refusal
+use Rattle.records.specs.Refusals.{Got}
 use Rattle.records.proofs.Numbers.{number-back, part-drop, lay-cut}
 use Rattle.records.proofs.reading.Laws.{decide, read-cases}
+use Rattle.std.specs.Prelude.{Ok, Err}
 
 -- writing a call and reading it gives the same call
-pub write_read : (c : Call) → read_of (bytes_of c) ≡ got.Call c
+pub write_read : (c : Call) → read_of (bytes_of c) ≡ Ok c
 unfolding read_of read_as kind_of
 write_read call.Terminate = refl
 write_read (call.Restart p n) = refl
 write_read (call.Pause u n) = refl
 write_read (call.CancelPause t) = refl
 write_read (call.StartIfDormant o t) = refl
-write_read (call.StartOrQueue o t a) = ap (λ n. got.Call (call.StartOrQueue o t n)) (number-back 1 a)
+write_read (call.StartOrQueue o t a) = ap (λ n. Ok (call.StartOrQueue o t n)) (number-back 1 a)
 write_read (call.Flag o f) = refl
-write_read (call.Wait m x) = ap (λ n. got.Call (call.Wait m n)) (number-back 3 x)
+write_read (call.Wait m x) = ap (λ n. Ok (call.Wait m n)) (number-back 3 x)
 write_read (call.Alarm u n f) = refl
 write_read call.Tick = refl
 write_read (call.Granule g) = refl
@@ -42,7 +44,7 @@ write_read (call.Task p m) = refl
 write_read call.End = refl
 write_read (call.Enter m) = refl
 write_read (call.Exit m) = refl
-write_read (call.Send t x) = ap (λ n. got.Call (call.Send t (record { 0 = n }))) (number-back 7 x.0)
+write_read (call.Send t x) = ap (λ n. Ok (call.Send t (record { 0 = n }))) (number-back 7 x.0)
 write_read (call.Receive t) = refl
 
 -- each row's first byte is the one that its kind is looked up with
@@ -69,15 +71,15 @@ module _ (k : Kind) (s : List ℕ) (b : byte_of k ≡ get_or s 0 0) (n : length 
       ∙ ap (λ x. x ∷ part (total (body_of k)) 1 s) b
       ∙ sym (part-drop s (suc (total (body_of k))) 0 (omega arith))
 
-pub refused : (n : ℕ) (c : Call) → got.Refused n ≡ got.Call c → ⊥
-refused n c e = let z : ◌≡◌ {A = ℕ} 0 1 = cc in omega arith
+pub refused : (r : Refusal) (c : Call) → ◌≡◌ {A = Got} (Err r) (Ok c) → ⊥
+refused r c e = let z : ◌≡◌ {A = ℕ} 0 1 = cc in omega arith
 
-pub same : {c d : Call} → got.Call c ≡ got.Call d → d ≡ c
+pub same : {c d : Call} → ◌≡◌ {A = Got} (Ok c) (Ok d) → d ≡ c
 same e = cc
 
 whole : (k : Kind) (s : List ℕ) (c : Call) → byte_of k ≡ get_or s 0 0 → length s ≡ length_of k → Bytes s
-    → got_of k (cut (body_of k) 1 s) ≡ got.Call c → bytes_of c ≡ s
-whole kind.Unknown s c b n h e = absurd (refused 4 c e)
+    → got_of k (cut (body_of k) 1 s) ≡ Ok c → bytes_of c ≡ s
+whole kind.Unknown s c b n h e = absurd (refused refusal.UnknownKind c e)
 whole kind.Terminate s c b n h e = ap bytes_of (same e) ∙ laid kind.Terminate s b n h
 whole kind.Restart s c b n h e = ap bytes_of (same e) ∙ laid kind.Restart s b n h
 whole kind.Pause s c b n h e = ap bytes_of (same e) ∙ laid kind.Pause s b n h
@@ -97,18 +99,18 @@ whole kind.Send s c b n h e = ap bytes_of (same e) ∙ laid kind.Send s b n h
 whole kind.Receive s c b n h e = ap bytes_of (same e) ∙ laid kind.Receive s b n h
 
 -- reading a record and writing it gives the same bytes
-pub read_write : (s : List ℕ) (c : Call) → Bytes s → read_of s ≡ got.Call c → bytes_of c ≡ s
+pub read_write : (s : List ℕ) (c : Call) → Bytes s → read_of s ≡ Ok c → bytes_of c ≡ s
 unfolding kind_of
 read_write s c h e =
     read-cases s
-    (λ n r. absurd (refused 3 c (sym r ∙ e)))
-    (λ n u r. absurd (refused 4 c (sym r ∙ e)))
-    (λ n m r. absurd (refused 3 c (sym r ∙ e)))
+    (λ n r. absurd (refused refusal.WrongLength c (sym r ∙ e)))
+    (λ n u r. absurd (refused refusal.UnknownKind c (sym r ∙ e)))
+    (λ n m r. absurd (refused refusal.WrongLength c (sym r ∙ e)))
     (λ n k l r z. ⊎_elim (λ u. absurd (k u)) (λ b. whole (first_kind s) s c b l h (sym r ∙ e)) (found (get_or s 0 0) table refl))
 
 -- reading and writing again: what the writer says of the call that was read is said of the bytes themselves
 module _ (s o : List ℕ) where
-  module _ (c : Call) (h : Bytes s) (e : read_of s ≡ got.Call c) where
+  module _ (c : Call) (h : Bytes s) (e : read_of s ≡ Ok c) where
     pub again-call : written_of c o ≡ again_of s o
     unfolding written_of again_of
     again-call = ap (λ b. put_of b o) (read_write s c h e) ∙ rw e
@@ -117,8 +119,8 @@ module _ (s o : List ℕ) where
     unfolding out_of again_out_of
     again-out = ap (λ b. put_out_of b o) (read_write s c h e) ∙ rw e
 
-  module _ (n : ℕ) (e : read_of s ≡ got.Refused n) where
-    pub again-refused : written.Refused n ≡ again_of s o
+  module _ (r : Refusal) (e : read_of s ≡ Err r) where
+    pub again-refused : Err r ≡ again_of s o
     unfolding again_of
     again-refused = rw e
 

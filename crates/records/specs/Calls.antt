@@ -1,13 +1,13 @@
 -- A call as its kind and the numbers of its body.
-use Rattle.std.specs.Prelude.{ℕ, ◌<◌, List, [], ◌∷◌, get_or}
+use Rattle.std.specs.Prelude.{ℕ, ◌<◌, List, [], ◌∷◌, get_or, Ok, Err}
 use Rattle.records.specs.Numbers.{Fits}
 use Rattle.records.specs.Kinds.{body_of}
 use Rattle.records.specs.declared.Kind.{Kind}
 use Rattle.records.specs.declared.Kind.TheVariants as kind
 use Rattle.records.specs.declared.Call.{Call}
 use Rattle.records.specs.declared.Call.TheVariants as call
-use Rattle.records.specs.declared.Got.{Got}
-use Rattle.records.specs.declared.Got.TheVariants as got
+use Rattle.records.specs.Refusals.{refusal_number, Got}
+use Rattle.records.specs.declared.Refusal.TheVariants as refusal
 
 -- the kind of a call
 abbrev pub kind_of_call : Call → Kind
@@ -51,24 +51,24 @@ fields_of (call.Receive t) = t.0 ∷ []
 
 -- the call of a kind with these numbers; Unknown has none
 abbrev pub got_of : Kind → List ℕ → Got
-got_of kind.Unknown xs = got.Refused 4
-got_of kind.Terminate xs = got.Call call.Terminate
-got_of kind.Restart xs = got.Call (call.Restart (get_or xs 0 0) (get_or xs 1 0))
-got_of kind.Pause xs = got.Call (call.Pause (get_or xs 0 0) (get_or xs 1 0))
-got_of kind.CancelPause xs = got.Call (call.CancelPause (record { 0 = get_or xs 0 0 }))
-got_of kind.StartIfDormant xs = got.Call (call.StartIfDormant (get_or xs 0 0) (record { 0 = get_or xs 1 0 }))
-got_of kind.StartOrQueue xs = got.Call (call.StartOrQueue (get_or xs 0 0) (record { 0 = get_or xs 1 0 }) (get_or xs 2 0))
-got_of kind.Flag xs = got.Call (call.Flag (get_or xs 0 0) (record { 0 = get_or xs 1 0 }))
-got_of kind.Wait xs = got.Call (call.Wait (get_or xs 0 0) (get_or xs 1 0))
-got_of kind.Alarm xs = got.Call (call.Alarm (get_or xs 0 0) (get_or xs 1 0) (record { 0 = get_or xs 2 0 }))
-got_of kind.Tick xs = got.Call call.Tick
-got_of kind.Granule xs = got.Call (call.Granule (get_or xs 0 0))
-got_of kind.Task xs = got.Call (call.Task (get_or xs 0 0) (get_or xs 1 0))
-got_of kind.End xs = got.Call call.End
-got_of kind.Enter xs = got.Call (call.Enter (record { 0 = get_or xs 0 0 }))
-got_of kind.Exit xs = got.Call (call.Exit (record { 0 = get_or xs 0 0 }))
-got_of kind.Send xs = got.Call (call.Send (record { 0 = get_or xs 0 0 }) (record { 0 = get_or xs 1 0 }))
-got_of kind.Receive xs = got.Call (call.Receive (record { 0 = get_or xs 0 0 }))
+got_of kind.Unknown xs = Err refusal.UnknownKind
+got_of kind.Terminate xs = Ok call.Terminate
+got_of kind.Restart xs = Ok (call.Restart (get_or xs 0 0) (get_or xs 1 0))
+got_of kind.Pause xs = Ok (call.Pause (get_or xs 0 0) (get_or xs 1 0))
+got_of kind.CancelPause xs = Ok (call.CancelPause (record { 0 = get_or xs 0 0 }))
+got_of kind.StartIfDormant xs = Ok (call.StartIfDormant (get_or xs 0 0) (record { 0 = get_or xs 1 0 }))
+got_of kind.StartOrQueue xs = Ok (call.StartOrQueue (get_or xs 0 0) (record { 0 = get_or xs 1 0 }) (get_or xs 2 0))
+got_of kind.Flag xs = Ok (call.Flag (get_or xs 0 0) (record { 0 = get_or xs 1 0 }))
+got_of kind.Wait xs = Ok (call.Wait (get_or xs 0 0) (get_or xs 1 0))
+got_of kind.Alarm xs = Ok (call.Alarm (get_or xs 0 0) (get_or xs 1 0) (record { 0 = get_or xs 2 0 }))
+got_of kind.Tick xs = Ok call.Tick
+got_of kind.Granule xs = Ok (call.Granule (get_or xs 0 0))
+got_of kind.Task xs = Ok (call.Task (get_or xs 0 0) (get_or xs 1 0))
+got_of kind.End xs = Ok call.End
+got_of kind.Enter xs = Ok (call.Enter (record { 0 = get_or xs 0 0 }))
+got_of kind.Exit xs = Ok (call.Exit (record { 0 = get_or xs 0 0 }))
+got_of kind.Send xs = Ok (call.Send (record { 0 = get_or xs 0 0 }) (record { 0 = get_or xs 1 0 }))
+got_of kind.Receive xs = Ok (call.Receive (record { 0 = get_or xs 0 0 }))
 
 -- each number of a call is below the bound of its width
 abbrev pub InRange : Call → Type 0
@@ -76,5 +76,5 @@ InRange c = Fits (body_of (kind_of_call c)) (fields_of c)
 
 -- the same of what a reader answers
 abbrev pub GotInRange : Got → Type 0
-GotInRange (got.Call c) = InRange c
-GotInRange (got.Refused n) = n < 256
+GotInRange (Ok c) = InRange c
+GotInRange (Err r) = refusal_number r < 256

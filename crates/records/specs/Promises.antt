@@ -1,6 +1,6 @@
 -- What is promised of the definitions: both round trips, when each number is given, one outcome for each contract,
 -- and which of some refusals gives its number.
-use Rattle.std.specs.Prelude.{ℕ, ◌<◌, ◌≤◌, ◌^◌, ◌≡◌, ◌↔◌, ◌≢◌, ◌⊎◌, Bool, List, ◌++◌, length}
+use Rattle.std.specs.Prelude.{ℕ, ◌<◌, ◌≤◌, ◌^◌, ◌≡◌, ◌↔◌, ◌≢◌, ◌⊎◌, Bool, List, ◌++◌, length, Ok, Err}
 use Rattle.records.specs.Numbers.{Bytes, number_of, bytes_in, part, total, lay, cut, Wide}
 use Rattle.records.specs.Kinds.{body_of, length_of, KindIs, LengthIs, CallIs}
 use Rattle.records.specs.Calls.{kind_of_call, fields_of, got_of, GotInRange}
@@ -11,9 +11,8 @@ use Rattle.records.specs.Firsts.{Refusal, first_of, Decides, Never}
 use Rattle.records.specs.declared.Kind.{Kind}
 use Rattle.records.specs.declared.Kind.TheVariants as kind
 use Rattle.records.specs.declared.Call.{Call}
-use Rattle.records.specs.declared.Got.{Got}
-use Rattle.records.specs.declared.Got.TheVariants as got
-use Rattle.records.specs.declared.Written.{Written}
+use Rattle.records.specs.declared.Refusal.{Refusal as Why}
+use Rattle.records.specs.Refusals.{refusal_number, refusal_for, Got, Written}
 
 -- the record is of a carried kind, and its length is not its kind's
 abbrev pub Misfit : List ℕ → Type 0
@@ -21,12 +20,12 @@ Misfit s = (first_kind s ≢ kind.Unknown) × (length s ≢ length_of (first_kin
 
 pub record Promises : Type 0 where
   -- writing a call and reading it gives the same call
-  pub write_read : (c : Call) → read_of (bytes_of c) ≡ got.Call c
+  pub write_read : (c : Call) → read_of (bytes_of c) ≡ Ok c
   -- reading a record and writing it gives the same bytes
-  pub read_write : (s : List ℕ) (c : Call) → Bytes s → read_of s ≡ got.Call c → bytes_of c ≡ s
+  pub read_write : (s : List ℕ) (c : Call) → Bytes s → read_of s ≡ Ok c → bytes_of c ≡ s
   -- reading refuses only with 3 and 4, and each exactly when
   pub reads : (s : List ℕ) → (read_number (read_of s) ≡ 0) ⊎ ((read_number (read_of s) ≡ 3) ⊎ (read_number (read_of s) ≡ 4))
-  pub refuses : (s : List ℕ) (n : ℕ) → read_of s ≡ got.Refused n → (n ≡ 3) ⊎ (n ≡ 4)
+  pub refuses : (s : List ℕ) (r : Why) → read_of s ≡ Err r → (refusal_number r ≡ 3) ⊎ (refusal_number r ≡ 4)
   pub three : (s : List ℕ) → (read_number (read_of s) ≡ 3) ↔ ((length s ≡ 0) ⊎ Misfit s)
   pub four : (s : List ℕ) → (read_number (read_of s) ≡ 4) ↔ ((length s ≢ 0) × (first_kind s ≡ kind.Unknown))
   -- writing refuses only with 20, and exactly when the buffer is shorter than the record
@@ -48,6 +47,9 @@ pub record Promises : Type 0 where
   pub there-determined : (c : Call) (x y : Got) → ComesBack c x → ComesBack c y → x ≡ y
   pub back-determined : (s o p q : List ℕ) (x y : Written) → WritesAgain s o p x → WritesAgain s o q y
       → (p ≡ q) × (x ≡ y)
+  -- each refusal has a number of its own, and none has 0
+  pub numbered : (r : Why) → refusal_for (refusal_number r) ≡ r
+  pub numbered_some : (r : Why) → refusal_number r ≢ 0
   -- where no refusal of a list has the number 0, the first's number decides; a number that none of them has is not
   -- given
   pub first-decides : (rs : List Refusal) → Never 0 rs → Decides rs (first_of rs)
@@ -58,6 +60,6 @@ pub record Promises : Type 0 where
   pub lay-cut : (s : List ℕ) → Bytes s → (ws : List ℕ) (i : ℕ) → lay ws (cut ws i s) ≡ part (total ws) i s
   pub lay-length : (ws xs : List ℕ) → length xs ≡ length ws → length (lay ws xs) ≡ total ws
   -- a call is of its kind and its numbers, and a kind with some numbers is a call of that kind with these numbers
-  pub call-whole : (c : Call) → got_of (kind_of_call c) (fields_of c) ≡ got.Call c
-  pub call-parts : (k : Kind) (xs : List ℕ) (c : Call) → length xs ≡ length (body_of k) → got_of k xs ≡ got.Call c
+  pub call-whole : (c : Call) → got_of (kind_of_call c) (fields_of c) ≡ Ok c
+  pub call-parts : (k : Kind) (xs : List ℕ) (c : Call) → length xs ≡ length (body_of k) → got_of k xs ≡ Ok c
       → (kind_of_call c ≡ k) × (fields_of c ≡ xs)

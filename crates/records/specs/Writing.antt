@@ -1,11 +1,11 @@
 -- Writing: the bytes of a call, the writer's answer, and what the buffer then holds.
-use Rattle.std.specs.Prelude.{ℕ, ◌≤◌, ◌≡◌, List, ◌∷◌, ◌++◌, cond, length, take, drop, leb}
+use Rattle.std.specs.Prelude.{ℕ, ◌≤◌, ◌≡◌, List, ◌∷◌, ◌++◌, cond, length, take, drop, leb, Ok, Err}
 use Rattle.records.specs.Numbers.{lay}
 use Rattle.records.specs.Kinds.{byte_of, body_of}
 use Rattle.records.specs.Calls.{kind_of_call, fields_of}
 use Rattle.records.specs.declared.Call.{Call}
-use Rattle.records.specs.declared.Written.{Written}
-use Rattle.records.specs.declared.Written.TheVariants as written
+use Rattle.records.specs.Refusals.{number_in, Written}
+use Rattle.records.specs.declared.Refusal.TheVariants as refusal
 
 -- the record of a call
 abbrev pub bytes_of : Call → List ℕ
@@ -13,7 +13,7 @@ bytes_of c = byte_of (kind_of_call c) ∷ lay (body_of (kind_of_call c)) (fields
 
 -- some bytes put at the start of a buffer: their number, or 20 where the buffer is shorter
 abbrev pub put_of : List ℕ → List ℕ → Written
-put_of s o = cond (leb (length s) (length o)) (written.Length (length s)) (written.Refused 20)
+put_of s o = cond (leb (length s) (length o)) (Ok (length s)) (Err refusal.BufferShort)
 
 -- what the buffer then holds: the bytes, and after them what was there; or all that was there
 abbrev pub put_out_of : List ℕ → List ℕ → List ℕ
@@ -33,8 +33,7 @@ pub record Writes (c : Call) (o p : List ℕ) (w : Written) : Type 0 where
 
 -- the number that a writer's answer carries
 abbrev pub write_number : Written → ℕ
-write_number (written.Length n) = 0
-write_number (written.Refused n) = n
+write_number w = number_in w
 
 -- bs begins with the record of c, whose length is n
 pub record Encodes (c : Call) (bs : List ℕ) (n : ℕ) : Type 0 where

@@ -4,19 +4,20 @@
 pub mod kinds;
 mod promises;
 pub mod reading;
+pub mod refusals;
 pub mod trips;
 pub mod writing;
 
 // A task's number, as it came.
-#[derive(Clone, Copy)]
+#[derive(Clone, Copy, PartialEq, Eq)]
 pub struct TaskNo(pub u8);
 
 // A flag's number, as it came.
-#[derive(Clone, Copy)]
+#[derive(Clone, Copy, PartialEq, Eq)]
 pub struct FlagNo(pub u8);
 
 // A controlled subprogram's number, as it came.
-#[derive(Clone, Copy)]
+#[derive(Clone, Copy, PartialEq, Eq)]
 pub struct SubNo(pub u8);
 
 // A message's text, as it came: its eight bytes as one number, the first the highest.
@@ -24,7 +25,7 @@ pub struct SubNo(pub u8);
 pub struct Text(pub u64);
 
 // The kinds of records, and Unknown for a first byte that is no carried kind.
-#[derive(Clone, Copy)]
+#[derive(Clone, Copy, PartialEq, Eq)]
 pub enum Kind {
     Unknown,
     Terminate,
@@ -44,6 +45,30 @@ pub enum Kind {
     Exit,
     Send,
     Receive,
+}
+
+// Why a record, a call or a table is refused. Each has its number (docs/CALLS.md, 6; docs/BLOCKS.md).
+#[derive(Clone, Copy, PartialEq, Eq)]
+pub enum Refusal {
+    NoTable,
+    NoConfiguration,
+    WrongLength,
+    UnknownKind,
+    NobodyActive,
+    OutOfRange,
+    NamesCaller,
+    QueueFull,
+    AlarmRunning,
+    EndOfTime,
+    HeldAlready,
+    NotHeld,
+    StillHeld,
+    MessagesFull,
+    Unmendable,
+    OutsideImage,
+    NotListed,
+    BufferShort,
+    ReadOtherwise,
 }
 
 // A record's kind with the numbers of its body as they came, unused bits too.
@@ -105,18 +130,4 @@ pub enum Call {
     Receive {
         task: TaskNo,
     },
-}
-
-// What reading a record answers: the call, or the number of the refusal.
-#[derive(Clone, Copy)]
-pub enum Got {
-    Call(Call),
-    Refused(u8),
-}
-
-// What writing a record answers: its length, or the number of the refusal.
-#[derive(Clone, Copy)]
-pub enum Written {
-    Length(usize),
-    Refused(u8),
 }

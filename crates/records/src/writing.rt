@@ -3,7 +3,7 @@ ghost use Rattle.std.specs.Prelude.{◌≡◌, ◌∷◌, ◌++◌, ◌≤◌, l
 ghost use Rattle.records.specs.Writing.{Encodes, Writes};
 ghost use Rattle.records.specs.declared.Call.TheVariants as call;
 
-use crate::{Call, TaskNo, Text, Written};
+use crate::{Call, Refusal, TaskNo, Text};
 
 // The bytes of a record, with zeros after them, and their number.
 #[derive(Clone, Copy)]
@@ -20,8 +20,7 @@ fn few(a: u8, b: u8, c: u8, d: u8, n: usize) -> Encoded
 fn start_record(option: u8, task: TaskNo, argument: u16) -> Encoded
     ensures { Encodes (call.StartOrQueue option task argument) result.0 result.1 }
 {
-    let high = (argument / 256) as u8;
-    let low = (argument % 256) as u8;
+    let [high, low] = argument.to_be_bytes();
     Encoded([0x05, option, task.0, high, low, 0, 0, 0, 0, 0], 5)
 }
 
@@ -29,10 +28,7 @@ fn start_record(option: u8, task: TaskNo, argument: u16) -> Encoded
 fn wait_record(mode: u8, mask: u32) -> Encoded
     ensures { Encodes (call.Wait mode mask) result.0 result.1 }
 {
-    let a = (mask / 16777216) as u8;
-    let b = (mask / 65536 % 256) as u8;
-    let c = (mask / 256 % 256) as u8;
-    let d = (mask % 256) as u8;
+    let [a, b, c, d] = mask.to_be_bytes();
     Encoded([0x0A, mode, a, b, c, d, 0, 0, 0, 0], 6)
 }
 
@@ -40,15 +36,7 @@ fn wait_record(mode: u8, mask: u32) -> Encoded
 fn send_record(task: TaskNo, text: Text) -> Encoded
     ensures { Encodes (call.Send task text) result.0 result.1 }
 {
-    let x = text.0;
-    let a = (x / 72057594037927936) as u8;
-    let b = (x / 281474976710656 % 256) as u8;
-    let c = (x / 1099511627776 % 256) as u8;
-    let d = (x / 4294967296 % 256) as u8;
-    let e = (x / 16777216 % 256) as u8;
-    let f = (x / 65536 % 256) as u8;
-    let g = (x / 256 % 256) as u8;
-    let h = (x % 256) as u8;
+    let [a, b, c, d, e, f, g, h] = text.0.to_be_bytes();
     Encoded([0x14, task.0, a, b, c, d, e, f, g, h], 10)
 }
 
@@ -81,29 +69,16 @@ fn encode(call: Call) -> Encoded
     }
 }
 
-// Copies the first n of the bytes to the start of out.
-fn put(bytes: [u8; 10], n: usize, out: &mut [u8])
-    requires { (n ≤ 10) × (n ≤ length out.old) }
-    ensures { out.new ≡ take n bytes ++ drop n out.old }
-{
-    let mut i: usize = 0;
-    while i < n {
-        out[i] = bytes[i];
-        i += 1;
-    }
-}
-
 // Puts a call's record at the start of out, whose bytes after it keep their content. Refused with 20 where out is
 // shorter than the record: then no byte changes.
-pub fn write(call: Call, out: &mut [u8]) -> Written
+pub fn write(call: Call, out: &mut [u8]) -> Result<usize, Refusal>
     ensures { Writes call out.old out.new result }
 {
     let e = encode(call);
     let n = e.1;
     if out.len() < n {
-        return Written::Refused(20);
+        return Err(Refusal::BufferShort);
     }
-    let b = e.0;
-    put(b, n, out);
-    Written::Length(n)
+    out[..n].copy_from_slice(&e.0[..n]);
+    Ok(n)
 }

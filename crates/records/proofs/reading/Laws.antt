@@ -16,8 +16,10 @@ use Rattle.records.specs.Reading.{first_kind, read_of, read_as, read_number}
 use Rattle.records.specs.Promises.{Misfit}
 use Rattle.records.specs.declared.Kind.{Kind}
 use Rattle.records.specs.declared.Kind.TheVariants as kind
-use Rattle.records.specs.declared.Got.{Got}
-use Rattle.records.specs.declared.Got.TheVariants as got
+use Rattle.std.specs.Prelude.{Ok, Err}
+use Rattle.records.specs.declared.Refusal.{Refusal}
+use Rattle.records.specs.Refusals.{refusal_number, Got}
+use Rattle.records.specs.declared.Refusal.TheVariants as refusal
 
 -- by cases on a test
 pub decide : {P : Type 0} (b : Bool) → (b ≡ true → P) → (b ≡ false → P) → P
@@ -25,7 +27,7 @@ decide true f g = f refl
 decide false f g = g refl
 
 module _ (s : List ℕ) where
-  pub read-empty : length s ≡ 0 → read_of s ≡ got.Refused 3
+  pub read-empty : length s ≡ 0 → read_of s ≡ Err refusal.WrongLength
   unfolding read_of
   read-empty e = rw (eq-eqb (length s) 0 e)
 
@@ -34,12 +36,12 @@ module _ (s : List ℕ) where
   read_some f = rw (ne_eqb (length s) 0 f)
 
   module _ (k : Kind) where
-    pub as_unknown : length_of k ≡ 0 → read_as k s ≡ got.Refused 4
+    pub as_unknown : length_of k ≡ 0 → read_as k s ≡ Err refusal.UnknownKind
     unfolding read_as
     as_unknown u = rw (eq-eqb (length_of k) 0 u)
 
     module _ (known : length_of k ≡ 0 → ⊥) where
-      pub as_length : (length s ≡ length_of k → ⊥) → read_as k s ≡ got.Refused 3
+      pub as_length : (length s ≡ length_of k → ⊥) → read_as k s ≡ Err refusal.WrongLength
       unfolding read_as
       as_length n = rw (ne_eqb (length_of k) 0 known, ne_eqb (length s) (length_of k) n)
 
@@ -49,14 +51,14 @@ module _ (s : List ℕ) where
 
 -- what is got is a call
 abbrev Called : Got → Type 0
-Called (got.Call c) = Unit {0}
-Called (got.Refused n) = ⊥
+Called (Ok c) = Unit {0}
+Called (Err n) = ⊥
 
 called-number : (g : Got) → Called g → read_number g ≡ 0
-called-number (got.Call c) u = refl
-called-number (got.Refused n) u = absurd u
+called-number (Ok c) u = refl
+called-number (Err n) u = absurd u
 
-called-not : (g : Got) (n : ℕ) → g ≡ got.Refused n → Called g → ⊥
+called-not : (g : Got) (n : Refusal) → g ≡ Err n → Called g → ⊥
 called-not g n e u = rw e at u
 
 -- a kind is Unknown, or has a length and a call for any numbers
@@ -82,9 +84,9 @@ known kind.Receive = inr (λ e. omega arith, λ xs. tt)
 
 -- the four cases of reading
 pub read-cases : {P : Type 0} (s : List ℕ)
-    → (length s ≡ 0 → read_of s ≡ got.Refused 3 → P)
-    → (length s ≢ 0 → first_kind s ≡ kind.Unknown → read_of s ≡ got.Refused 4 → P)
-    → (length s ≢ 0 → Misfit s → read_of s ≡ got.Refused 3 → P)
+    → (length s ≡ 0 → read_of s ≡ Err refusal.WrongLength → P)
+    → (length s ≢ 0 → first_kind s ≡ kind.Unknown → read_of s ≡ Err refusal.UnknownKind → P)
+    → (length s ≢ 0 → Misfit s → read_of s ≡ Err refusal.WrongLength → P)
     → (length s ≢ 0 → first_kind s ≢ kind.Unknown → length s ≡ length_of (first_kind s) → read_of s ≡ got_of (first_kind s) (cut (body_of (first_kind s)) 1 s)
     → read_number (read_of s) ≡ 0 → P)
     → P
@@ -115,16 +117,13 @@ module _ (s : List ℕ) where
       (λ e m r. inr (inl (ap read_number r)))
       (λ e k n r z. inl z)
 
-  pub refuses : (n : ℕ) → read_of s ≡ got.Refused n → (n ≡ 3) ⊎ (n ≡ 4)
-  refuses n e =
+  pub refuses : (r : Refusal) → read_of s ≡ Err r → (refusal_number r ≡ 3) ⊎ (refusal_number r ≡ 4)
+  refuses q e =
       read-cases s
-      (λ z r. inl (same n 3 (sym e ∙ r)))
-      (λ z u r. inr (same n 4 (sym e ∙ r)))
-      (λ z m r. inl (same n 3 (sym e ∙ r)))
-      (λ z k l r o. ⊎_elim (λ u. absurd (k u)) (λ q. absurd (called-not (got_of (first_kind s) (cut (body_of (first_kind s)) 1 s)) n (sym r ∙ e) (q.1 (cut (body_of (first_kind s)) 1 s)))) (known (first_kind s)))
-    where
-      same : (i j : ℕ) → got.Refused i ≡ got.Refused j → i ≡ j
-      same i j q = cc
+      (λ z r. inl (ap read_number (sym e ∙ r)))
+      (λ z u r. inr (ap read_number (sym e ∙ r)))
+      (λ z m r. inl (ap read_number (sym e ∙ r)))
+      (λ z k l r o. ⊎_elim (λ u. absurd (k u)) (λ p. absurd (called-not (got_of (first_kind s) (cut (body_of (first_kind s)) 1 s)) q (sym r ∙ e) (p.1 (cut (body_of (first_kind s)) 1 s)))) (known (first_kind s)))
 
   pub three : (read_number (read_of s) ≡ 3) ↔ ((length s ≡ 0) ⊎ Misfit s)
   three =

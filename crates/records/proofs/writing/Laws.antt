@@ -13,12 +13,15 @@ use borrow.Author.Tests.{le-leb, lt-leb, leb-true, leb-false}
 use Rattle.records.specs.Writing.{bytes_of, written_of, out_of, write_number}
 use Rattle.records.specs.declared.Call.{Call}
 use Rattle.records.specs.declared.Call.TheVariants as call
-use Rattle.records.specs.declared.Written.TheVariants as written
+use Rattle.records.specs.declared.Refusal.{Refusal}
+use Rattle.records.specs.Refusals.{Written}
 use Rattle.records.proofs.reading.Laws.{decide}
+use Rattle.std.specs.Prelude.{Ok, Err}
+use Rattle.records.specs.declared.Refusal.TheVariants as refusal
 
 module _ (c : Call) (o : List ℕ) where
   module _ (h : length o < length (bytes_of c)) where
-    pub write_refused : written.Refused 20 ≡ written_of c o
+    pub write_refused : Err refusal.BufferShort ≡ written_of c o
     unfolding written_of
     write_refused = rw (lt-leb (length (bytes_of c)) (length o) h)
 
@@ -27,7 +30,7 @@ module _ (c : Call) (o : List ℕ) where
     out-kept = rw (lt-leb (length (bytes_of c)) (length o) h)
 
   module _ (h : length (bytes_of c) ≤ length o) where
-    pub write_done : written.Length (length (bytes_of c)) ≡ written_of c o
+    pub write_done : Ok (length (bytes_of c)) ≡ written_of c o
     unfolding written_of
     write_done = rw (le-leb (length (bytes_of c)) (length o) h)
 
@@ -78,12 +81,12 @@ module _ (c : Call) (o : List ℕ) (h : 10 ≤ length o) where
   fits : length (bytes_of c) ≤ length o
   fits = omega (arith, bytes-short c)
 
-  pub write_length : (n : ℕ) → written.Length n ≡ written_of c o → n ≡ length (bytes_of c)
-  write_length n e = let f : written.Length n ≡ written.Length (length (bytes_of c)) = e ∙ sym (write_done c o fits) in cc
+  pub write_length : (n : ℕ) → ◌≡◌ {A = Written} (Ok n) (written_of c o) → n ≡ length (bytes_of c)
+  write_length n e = let f : ◌≡◌ {A = Written} (Ok n) (Ok (length (bytes_of c))) = e ∙ sym (write_done c o fits) in cc
 
-  pub write_never : (k : ℕ) → written.Refused k ≡ written_of c o → ⊥
-  write_never k e =
-      let f : written.Refused k ≡ written.Length (length (bytes_of c)) = e ∙ sym (write_done c o fits) in
+  pub write_never : (r : Refusal) → ◌≡◌ {A = Written} (Err r) (written_of c o) → ⊥
+  write_never r e =
+      let f : ◌≡◌ {A = Written} (Err r) (Ok (length (bytes_of c))) = e ∙ sym (write_done c o fits) in
       let z : ◌≡◌ {A = ℕ} 0 1 = cc in
       omega arith
 

@@ -5,9 +5,9 @@ use mathlib.Core.List.{◌++◌}
 use native.Mathlib.Omega.{arith}
 use lib.ListN.{length, drop}
 use Rattle.records.specs.Writing.{bytes_of}
-use Rattle.records.specs.declared.Written.TheVariants as written
 use Rattle.records.proofs.writing.Laws.{write_refused, out-kept, write_done, out-done}
 use Rattle.records.proofs.writing.write.Goals as goal
+use Rattle.std.specs.Prelude.{Ok}
 
 pub returns-then-out-n : goal.returns-then-out-n
 returns-then-out-n c =
@@ -23,9 +23,8 @@ returns c =
     let s = a.out.now in
     let h : length (bytes_of a.call) ≤ length s = omega (arith, e.count) in
     record {
-      answer = ap written.Length e.count ∙ write_done a.call s h;
-      buffer = c.put.ensures
-          ∙ ap (λ b. b ++ drop c.encode-e.result.1 s) e.bytes
+      answer = ap Ok e.count ∙ write_done a.call s h;
+      buffer = ap (λ b. b ++ drop c.encode-e.result.1 s) (c.copy_from_slice.ensures.after ∙ e.bytes)
           ∙ ap (λ k. bytes_of a.call ++ drop k s) e.count
           ∙ out-done a.call s h;
     }
