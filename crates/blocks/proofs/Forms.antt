@@ -15,9 +15,9 @@ use Rattle.records.specs.declared.Kind.{Kind}
 use Rattle.records.specs.declared.Kind.TheVariants as kind
 use Rattle.records.specs.declared.Call.{Call}
 use Rattle.records.specs.declared.Call.TheVariants as call
-use Rattle.records.specs.declared.Got.TheVariants as got
 use Rattle.blocks.specs.Types.{Use, same, task, beside, Form, forms, no_form, first_form, form_at, form_of, is_none}
 use Rattle.blocks.proofs.Places.{decide, clash}
+use Rattle.std.specs.Prelude.{Ok}
 
 -- nothing is given beside, and one number at most is
 abbrev pub NoBeside : List Use → Type 0
@@ -140,7 +140,7 @@ unfolding form_at
 byte_at b e = found-byte b forms e
 
 -- numbers of a kind that has a block are a call
-pub is_call : (k : Kind) → is_none (form_of k) ≡ false → (xs : List ℕ) → (c : Call) × (got_of k xs ≡ got.Call c)
+pub is_call : (k : Kind) → is_none (form_of k) ≡ false → (xs : List ℕ) → (c : Call) × (got_of k xs ≡ Ok c)
 unfolding form_of
 is_call kind.Unknown e xs = clash e
 is_call kind.Terminate e xs = (_, refl)

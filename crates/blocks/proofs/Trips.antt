@@ -5,7 +5,7 @@ use mathlib.Core.Logic.{◌≢◌}
 use mathlib.Core.Bool.{Bool, true, false, not, ◌||◌}
 use mathlib.Core.List.{List, [], ◌∷◌, ◌++◌}
 use native.Mathlib.Omega.{arith}
-use lib.Dec.{eqb}
+use lib.Dec.{eqb, ltb}
 use lib.ListN.{length, get_or, take, drop}
 use borrow.Author.Tests.{ne_eqb, eqb-true, eqb-false, not-false}
 use Rattle.records.proofs.Assured.{promises}
@@ -14,21 +14,22 @@ use Rattle.records.specs.Numbers.{Bytes, part, total, lay, cut}
 use Rattle.records.specs.Kinds.{length_of}
 use Rattle.records.specs.Calls.{kind_of_call, fields_of, got_of}
 use Rattle.records.specs.Reading.{first_kind, read_of, read_as, read_number}
+use Rattle.records.specs.Refusals.{refusal_number, refusal_for}
 use Rattle.records.specs.declared.Call.{Call}
-use Rattle.records.specs.declared.Got.TheVariants as got
-use Rattle.blocks.specs.Lists.{task_of, address_of}
-use Rattle.blocks.specs.Types.{Form, form_at, form_of, is_none, length_in, to_call, to_block, block_of, numbers_at}
+use Rattle.blocks.specs.Lists.{task_of, address_of, is_bad}
+use Rattle.blocks.specs.Types.{Form, form_at, form_of, is_none, length_in, unlisted, to_call, to_block, block_of, numbers_at}
 use Rattle.blocks.specs.Refusals.{is_outside, later, refusals, numbers_in, form_in as formOfRecord}
 use Rattle.blocks.specs.Reading.{form_in, fields_in, work_in, read_refusals, got_by, block_in}
 use Rattle.blocks.specs.Writing.{form_for, argument_of, laid_at, image_by, write_refusals, write_number, image_after, record_refusals, record_number, record_image}
 use Rattle.blocks.specs.Promises.{Others, AsCall}
-use Rattle.blocks.proofs.Places.{decide, neither, not-bad}
+use Rattle.blocks.proofs.Places.{decide, neither, not-bad, clash}
 use Rattle.blocks.proofs.Forms.{sound-at, sound-of, name_of, byte_at, is_call}
 use Rattle.blocks.proofs.Through.{there_back, calls_back, blocks-back}
 use Rattle.blocks.proofs.Judged.{inside, Accepted, accepted}
 use Rattle.blocks.proofs.Laid.{others, first_byte, after-byte, laid-again, laid-length as image-length}
 use Rattle.blocks.proofs.reading.Laws.{numbers-length, same-form}
 use Rattle.blocks.proofs.writing.Laws.{refused, has-length, uses-length, laid-length, block-length, record_first, record_out}
+use Rattle.std.specs.Prelude.{Ok}
 
 -- ---- writing and reading
 -- reading, where the block's form, its call's numbers and that nothing refuses them are known by equations
@@ -75,7 +76,7 @@ module _ (s : List ℕ) (a : ℕ) (l : List ℕ) (c : Call) (w : ℕ) (e : first
       there_back (address_of l) (task_of l) w (form_for c).uses (fields_of c) (sound-of (kind_of_call c)).alone (uses-length c ok.some)
       (calls_back l (form_for c).uses (fields_of c) (not-bad l ok.good).1 ok.tasks)
 
-  written : block_in (image_after s a l c w) a l (argument_of c) ≡ got.Call c
+  written : block_in (image_after s a l c w) a l (argument_of c) ≡ Ok c
   written =
       let t = laid_at s a (block_of (form_for c) l w (fields_of c)) in
       let n : length t ≡ length s = image-length s a (block_of (form_for c) l w (fields_of c)) fits in
@@ -97,7 +98,7 @@ module _ (s : List ℕ) (a : ℕ) (l : List ℕ) (c : Call) (w : ℕ) (e : first
       ap_others n o = record { size = o.size; before = o.before; behind = λ i h. o.behind i (omega arith) }
 
 pub write_read : (s : List ℕ) (a : ℕ) (l : List ℕ) (c : Call) (w : ℕ) → write_number s a l c ≡ 0
-    → block_in (image_after s a l c w) a l (argument_of c) ≡ got.Call c
+    → block_in (image_after s a l c w) a l (argument_of c) ≡ Ok c
 unfolding write_number
 write_read s a l c w e = written s a l c w e
 
@@ -121,13 +122,13 @@ others-stay s a l c w =
 -- ---- reading and writing
 module _ (s : List ℕ) (a : ℕ) (l : List ℕ) (g : ℕ) where
   -- a call is read only where nothing refuses it
-  accepts : (c : Call) → block_in s a l g ≡ got.Call c
-      → (first_of (read_refusals s a l g) ≡ 0) × (got_of (form_in s a).name (fields_in s a l g) ≡ got.Call c)
+  accepts : (c : Call) → block_in s a l g ≡ Ok c
+      → (first_of (read_refusals s a l g) ≡ 0) × (got_of (form_in s a).name (fields_in s a l g) ≡ Ok c)
   unfolding block_in
   accepts c e =
       decide (eqb (first_of (read_refusals s a l g)) 0)
       (λ t. (eqb-true (first_of (read_refusals s a l g)) 0 t, rw t at e))
-      (λ f. refused (first_of (read_refusals s a l g)) c (rw f at e))
+      (λ f. refused (refusal_for (first_of (read_refusals s a l g))) c (rw f at e))
 
   module _ (h : Bytes s) (e : first_of (read_refusals s a l g) ≡ 0) where
     fine : Accepted (length s) a l (form_in s a) (fields_in s a l g)
@@ -147,7 +148,7 @@ module _ (s : List ℕ) (a : ℕ) (l : List ℕ) (g : ℕ) where
         ∙ ap (λ b. laid_at s a (b ∷ part (total f.widths) (a + 1) s)) (byte_at (get_or s a 0) fine.some)
         ∙ laid-again s a (total f.widths) (omega arith)
 
-pub read_write : (s : List ℕ) (a : ℕ) (l : List ℕ) (g : ℕ) (c : Call) → Bytes s → block_in s a l g ≡ got.Call c
+pub read_write : (s : List ℕ) (a : ℕ) (l : List ℕ) (g : ℕ) (c : Call) → Bytes s → block_in s a l g ≡ Ok c
     → (write_number s a l c ≡ 0) × (image_after s a l c (work_in s a) ≡ s)
 unfolding write_number image_after
 read_write s a l g c h e =
@@ -161,7 +162,7 @@ read_write s a l g c h e =
     )
 
 -- ---- records
-pub as_call : (s : List ℕ) (a : ℕ) (l bs : List ℕ) (c : Call) → read_of bs ≡ got.Call c → AsCall s a l bs c
+pub as_call : (s : List ℕ) (a : ℕ) (l bs : List ℕ) (c : Call) → read_of bs ≡ Ok c → AsCall s a l bs c
 unfolding record_number write_number
 as_call s a l bs c e = record { number = record_first s a l bs c e; image = λ w. record_out s a l bs c w e }
 
@@ -173,11 +174,11 @@ first_three false false true rs h = absurd (omega arith)
 first_three false false false rs h = (refl, refl)
 
 read_whole : (bs : List ℕ) (c : Call) → eqb (length bs) 0 ≡ false → eqb (length_of (first_kind bs)) 0 ≡ false
-    → eqb (length bs) (length_of (first_kind bs)) ≡ true → got_of (first_kind bs) (numbers_in bs) ≡ got.Call c → read_of bs ≡ got.Call c
+    → eqb (length bs) (length_of (first_kind bs)) ≡ true → got_of (first_kind bs) (numbers_in bs) ≡ Ok c → read_of bs ≡ Ok c
 unfolding read_of read_as
 read_whole bs c e f g h = rw (e, f, g) h
 
-pub call_in : (s : List ℕ) (a : ℕ) (l bs : List ℕ) → record_number s a l bs ≡ 0 → (c : Call) × (read_of bs ≡ got.Call c)
+pub call_in : (s : List ℕ) (a : ℕ) (l bs : List ℕ) → record_number s a l bs ≡ 0 → (c : Call) × (read_of bs ≡ Ok c)
 unfolding record_number
 call_in s a l bs e =
     let k = first_kind bs in
@@ -204,6 +205,18 @@ unfolding record_number
 record_decides s a l bs = promises.first-decides (record_refusals s a l bs)
     (λ e. omega arith, (λ e. omega arith, (λ e. omega arith, (λ e. omega arith, (λ e. omega arith, (λ e. omega arith, tt))))))
 
+-- each number of the list is a refusal's own
+told : (b c d e f : Bool) → eqb (first_of (when 18 b ∷ when 4 c ∷ when 18 d ∷ when 19 e ∷ when 21 f ∷ [])) 0 ≡ false
+    → refusal_number (refusal_for (first_of (when 18 b ∷ when 4 c ∷ when 18 d ∷ when 19 e ∷ when 21 f ∷ [])))
+    ≡ first_of (when 18 b ∷ when 4 c ∷ when 18 d ∷ when 19 e ∷ when 21 f ∷ [])
+unfolding first_of
+told true c d e f h = refl
+told false true d e f h = refl
+told false false true e f h = refl
+told false false false true f h = refl
+told false false false false true h = refl
+told false false false false false h = clash h
+
 -- what is read carries the first's number
 read_first : (s : List ℕ) (a : ℕ) (l : List ℕ) (g : ℕ) → read_number (block_in s a l g) ≡ first_of (read_refusals s a l g)
 unfolding block_in
@@ -217,7 +230,7 @@ read_first s a l g =
     let named : is_none (form_of f.name) ≡ false = ap is_none (sound-at (get_or s a 0)).named ∙ k.some in
     let c = is_call f.name named (fields_in s a l g) in
     rw t (ap read_number c.1 ∙ sym z))
-    (λ u. rw u refl)
+    (λ u. rw u (told (is_outside (length s) a) (is_none f) (ltb (length s) (a + length_in f)) (is_bad l || unlisted (length l) f.uses (fields_in s a l g)) (f.otherwise (fields_in s a l g)) u))
 
 pub read-decides : (s : List ℕ) (a : ℕ) (l : List ℕ) (g : ℕ) → Decides (read_refusals s a l g) (read_number (block_in s a l g))
 read-decides s a l g = rw (read_first s a l g) (decides (length s) a l (form_in s a) (fields_in s a l g))

@@ -1,11 +1,10 @@
 -- A question in bytes, and its answer: a head, which says what is asked, beside an image and room for a record.
-use Rattle.std.specs.Prelude.{ℕ, ◌+◌, ◌*◌, ◌≡◌, Bool, not, cond, ◌||◌, List, eqb, ltb, length, get_or, take, drop, replicate}
+use Rattle.std.specs.Prelude.{ℕ, ◌+◌, ◌*◌, ◌≡◌, Bool, not, cond, ◌||◌, List, eqb, ltb, length, get_or, take, drop, replicate, Ok, Err}
 use Rattle.records.specs.Numbers.{number_of, part, cut}
 use Rattle.records.specs.Writing.{written_of, out_of, write_number as written}
-use Rattle.records.specs.declared.Got.{Got}
-use Rattle.records.specs.declared.Got.TheVariants as got
 use Rattle.blocks.specs.Reading.{block_in}
 use Rattle.blocks.specs.Writing.{record_number, record_image}
+use Rattle.records.specs.Refusals.{refusal_number, Got}
 
 -- ---- the head: what is asked (0 read, 1 write), the address (4 bytes), the argument or the work address (2), the
 -- list's length (1) and its addresses (2 each), the record's length (1) and the record
@@ -37,12 +36,12 @@ is_no_head q = ltb 1 (get_or q 0 0) || not (eqb (length q) (end_of q))
 
 -- ---- what is told of a block that was read: the number, and what the room for its record then holds
 abbrev pub told_number : Got → List ℕ → ℕ
-told_number (got.Call c) o = written (written_of c o)
-told_number (got.Refused n) o = n
+told_number (Ok c) o = written (written_of c o)
+told_number (Err r) o = refusal_number r
 
 abbrev pub told_record : Got → List ℕ → List ℕ
-told_record (got.Call c) o = out_of c o
-told_record (got.Refused n) o = o
+told_record (Ok c) o = out_of c o
+told_record (Err r) o = o
 
 -- ---- the answer to the head q, with the image s and the room o: 3 where it is no head
 abbrev pub read_in : List ℕ → List ℕ → Got

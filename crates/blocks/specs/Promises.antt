@@ -1,11 +1,9 @@
 -- What is promised of the definitions, each sentence over all types of blocks at once.
-use Rattle.std.specs.Prelude.{ℕ, ◌+◌, ◌≤◌, ◌<◌, ◌≡◌, ◌↔◌, ◌≢◌, false, List, [], ◌∷◌, map, length, get_or}
+use Rattle.std.specs.Prelude.{ℕ, ◌+◌, ◌≤◌, ◌<◌, ◌≡◌, ◌↔◌, ◌≢◌, false, List, [], ◌∷◌, map, length, get_or, Ok}
 use Rattle.records.specs.Firsts.{Refusal, Decides}
 use Rattle.records.specs.Numbers.{Bytes}
 use Rattle.records.specs.Reading.{read_of, read_number}
 use Rattle.records.specs.declared.Call.{Call}
-use Rattle.records.specs.declared.Got.{Got}
-use Rattle.records.specs.declared.Got.TheVariants as got
 use Rattle.blocks.specs.Lists.{place_of, has_repeat}
 use Rattle.blocks.specs.Types.{length_in}
 use Rattle.blocks.specs.Reading.{work_in, read_refusals, block_in, ReadsBlock}
@@ -13,6 +11,7 @@ use Rattle.blocks.specs.Writing.{form_for, argument_of, write_refusals, write_nu
 use Rattle.blocks.specs.Writing.{record_refusals, record_number, record_image, WritesRecord}
 use Rattle.blocks.specs.Asking.{EndsAt, Answers}
 use Rattle.blocks.specs.Hex.{InHex}
+use Rattle.records.specs.Refusals.{Got}
 
 -- t has the length of s, and its bytes before the address a and from a + n on
 pub record Others (s : List ℕ) (a n : ℕ) (t : List ℕ) : Type 0 where
@@ -32,9 +31,9 @@ numbers_of rs = map (λ (r : Refusal). r.number) rs
 pub record Promises : Type 0 where
   -- where writing a call is accepted, reading its block, with the same list and the call's argument, gives the call
   pub write_read : (s : List ℕ) (a : ℕ) (l : List ℕ) (c : Call) (work : ℕ) → write_number s a l c ≡ 0
-      → block_in (image_after s a l c work) a l (argument_of c) ≡ got.Call c
+      → block_in (image_after s a l c work) a l (argument_of c) ≡ Ok c
   -- where reading gives a call, writing it back with the block's own work address is accepted, and gives the same image
-  pub read_write : (s : List ℕ) (a : ℕ) (l : List ℕ) (argument : ℕ) (c : Call) → Bytes s → block_in s a l argument ≡ got.Call c
+  pub read_write : (s : List ℕ) (a : ℕ) (l : List ℕ) (argument : ℕ) (c : Call) → Bytes s → block_in s a l argument ≡ Ok c
       → (write_number s a l c ≡ 0) × (image_after s a l c (work_in s a) ≡ s)
   -- after any write, refused or not, the image has its length and every other byte; a refusal changes none at all
   pub others-stay : (s : List ℕ) (a : ℕ) (l : List ℕ) (c : Call) (work : ℕ)
@@ -44,8 +43,8 @@ pub record Promises : Type 0 where
   pub record_keeps : (s : List ℕ) (a : ℕ) (l bs : List ℕ) (work : ℕ) → record_number s a l bs ≢ 0
       → record_image s a l bs work ≡ s
   -- a record is written as the call that is read from it; where one is accepted, there is such a call
-  pub as_call : (s : List ℕ) (a : ℕ) (l bs : List ℕ) (c : Call) → read_of bs ≡ got.Call c → AsCall s a l bs c
-  pub is_call : (s : List ℕ) (a : ℕ) (l bs : List ℕ) → record_number s a l bs ≡ 0 → (c : Call) × (read_of bs ≡ got.Call c)
+  pub as_call : (s : List ℕ) (a : ℕ) (l bs : List ℕ) (c : Call) → read_of bs ≡ Ok c → AsCall s a l bs c
+  pub is_call : (s : List ℕ) (a : ℕ) (l bs : List ℕ) → record_number s a l bs ≡ 0 → (c : Call) × (read_of bs ≡ Ok c)
   -- each number is given exactly when its condition is the first that holds, 0 exactly if none holds; their order
   pub read-decides : (s : List ℕ) (a : ℕ) (l : List ℕ) (argument : ℕ)
       → Decides (read_refusals s a l argument) (read_number (block_in s a l argument))

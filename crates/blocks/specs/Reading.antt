@@ -1,11 +1,10 @@
 -- Reading: the call of the block at an address of an image, or the number of the refusal.
-use Rattle.std.specs.Prelude.{ℕ, ◌≡◌, cond, List, eqb, length, get_or}
+use Rattle.std.specs.Prelude.{ℕ, ◌≡◌, cond, List, eqb, length, get_or, Err}
 use Rattle.records.specs.Firsts.{Refusal, first_of}
 use Rattle.records.specs.Calls.{got_of}
-use Rattle.records.specs.declared.Got.{Got}
-use Rattle.records.specs.declared.Got.TheVariants as got
 use Rattle.blocks.specs.Types.{Form, form_at, to_call, numbers_at, beside_in}
 use Rattle.blocks.specs.Refusals.{refusals}
+use Rattle.records.specs.Refusals.{refusal_for, Got}
 
 -- the form of the block at an address, its call's numbers, the call, and its own work address, 0 where it has none
 abbrev pub form_in : List ℕ → ℕ → Form
@@ -25,7 +24,7 @@ read_refusals s a l argument = refusals (length s) a l (form_in s a) (fields_in 
 
 -- by the number: the call of a form with its numbers, or the refusal
 abbrev pub got_by : ℕ → Form → List ℕ → Got
-got_by n f xs = cond (eqb n 0) (got_of f.name xs) (got.Refused n)
+got_by n f xs = cond (eqb n 0) (got_of f.name xs) (Err (refusal_for n))
 
 unfoldable pub block_in : List ℕ → ℕ → List ℕ → ℕ → Got
 block_in s a l argument = got_by (first_of (read_refusals s a l argument)) (form_in s a) (fields_in s a l argument)

@@ -1,17 +1,8 @@
 // A question in bytes: what its head says.
-ghost use Rattle.std.specs.Prelude.{◌≡◌, [], ◌∷◌, ◌≤◌};
-ghost use Rattle.records.specs.Numbers.{number_of};
+ghost use Rattle.std.specs.Prelude.{◌≡◌, ◌≤◌};
 ghost use Rattle.blocks.specs.Asking.{address_in, beside_in, count_in, record_at, EndsAt, is_no_head, Lists};
 
-use crate::reading;
 use records::reading::byte_at;
-
-// The number of four bytes, the first the highest.
-fn word(a: u8, b: u8, c: u8, d: u8) -> usize
-    ensures { result ≡ number_of (a ∷ b ∷ c ∷ d ∷ []) }
-{
-    (((a as usize) * 256 + (b as usize)) * 256 + (c as usize)) * 256 + (d as usize)
-}
 
 // The address.
 pub(crate) fn address_in(head: &[u8]) -> usize
@@ -21,7 +12,7 @@ pub(crate) fn address_in(head: &[u8]) -> usize
     let b = byte_at(head, 2);
     let c = byte_at(head, 3);
     let d = byte_at(head, 4);
-    word(a, b, c, d)
+    u32::from_be_bytes([a, b, c, d]) as usize
 }
 
 // The argument, or the work address.
@@ -30,7 +21,7 @@ pub(crate) fn beside_in(head: &[u8]) -> u16
 {
     let a = byte_at(head, 5);
     let b = byte_at(head, 6);
-    reading::pair(a, b)
+    u16::from_be_bytes([a, b])
 }
 
 // The list's length.
@@ -46,12 +37,10 @@ pub(crate) fn list_in(head: &[u8]) -> [u16; 255]
 {
     let mut list = [0u16; 255];
     let count = count_in(head);
-    let mut i: usize = 0;
-    while i < count {
+    for i in 0..count {
         let a = byte_at(head, 8 + 2 * i);
         let b = byte_at(head, 9 + 2 * i);
-        list[i] = reading::pair(a, b);
-        i += 1;
+        list[i] = u16::from_be_bytes([a, b]);
     }
     list
 }

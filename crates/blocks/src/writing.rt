@@ -1,10 +1,10 @@
 // Writing: from a call, or a record, to the block at an address of an image.
-ghost use Rattle.std.specs.Prelude.{◌≡◌, ◌+◌, ◌≤◌, length};
-ghost use Rattle.std.proofs.Math.Seq.{paste};
+ghost use Rattle.std.specs.Prelude.{◌≡◌};
+ghost use Rattle.records.specs.Refusals.{number_in};
 ghost use Rattle.blocks.specs.Writing.{Lays, WritesBlock, WritesRecord};
 
 use crate::{lists, refusals, types};
-use records::{Call, Got, kinds};
+use records::{Call, Refusal, kinds, reading};
 
 // The bytes of a block, with zeros after them, and their number; 0 where there is no block.
 #[derive(Clone, Copy)]
@@ -22,10 +22,8 @@ fn lay(list: &[u16], call: Call, work: u16) -> Laid
         Call::StartIfDormant { .. } => Laid([0, 0, 0, 0, 0, 0], 0),
         Call::StartOrQueue { option, task, .. } => {
             let address = lists::address_of(list, task.0);
-            let high = (address / 256) as u8;
-            let low = (address % 256) as u8;
-            let work_high = (work / 256) as u8;
-            let work_low = (work % 256) as u8;
+            let [high, low] = address.to_be_bytes();
+            let [work_high, work_low] = work.to_be_bytes();
             Laid([0x05, option, high, low, work_high, work_low], 6)
         }
         Call::Flag { .. } => Laid([0, 0, 0, 0, 0, 0], 0),
@@ -42,57 +40,48 @@ fn lay(list: &[u16], call: Call, work: u16) -> Laid
     }
 }
 
-// Copies the first n of the bytes to an address of the image.
-fn put(image: &mut [u8], address: usize, bytes: [u8; 6], n: usize)
-    requires { (n ≤ 6) × (address + n ≤ length image.old) }
-    ensures { image.new ≡ paste image.old address bytes n }
-{
-    let mut i: usize = 0;
-    while i < n {
-        image[address + i] = bytes[i];
-        i += 1;
-    }
-}
-
-// Writes the block of a call to an address of an image, by the list of task addresses and with the work address: 0,
-// and every other byte is as it was. Refused: 18 where the image is longer than 65,536 bytes or the address is not in
+// Writes the block of a call to an address of an image, by the list of task addresses and with the work address: every
+// other byte is as it was. Refused: 18 where the image is longer than 65,536 bytes or the address is not in
 // it, 4 where the call is of none of the four kinds, 18 where the block would pass the image's end, 19 where the list
 // is longer than 16 or has a repeat, or the task is not listed, 21 where old boards read the block otherwise. Then no
 // byte changes.
-pub fn write(image: &mut [u8], address: usize, list: &[u16], call: Call, work: u16) -> u8
-    ensures { WritesBlock image.old address list.now call work image.new result }
+pub fn write(
+    image: &mut [u8],
+    address: usize,
+    list: &[u16],
+    call: Call,
+    work: u16,
+) -> Result<(), Refusal>
+    ensures { WritesBlock image.old address list.now call work image.new (number_in result) }
 {
     let laid = lay(list, call, work);
     let n = laid.1;
-    let number = refusals::by_place(image.len(), address, n, list);
-    if number != 0 {
-        return number;
-    }
-    let more = refusals::by_numbers(call, list.len());
-    if more != 0 {
-        return more;
-    }
-    let bytes = laid.0;
-    put(image, address, bytes, n);
-    0
+    refusals::by_place(image.len(), address, n, list)?;
+    refusals::by_numbers(call, list.len())?;
+    image[address..address + n].copy_from_slice(&laid.0[..n]);
+    Ok(())
 }
 
 // The same from a record's bytes. Refused besides: 4 where it is empty, 3 where its length is not its kind's; both
 // before the second 18.
-pub fn write_record(image: &mut [u8], address: usize, list: &[u16], bytes: &[u8], work: u16) -> u8
-    ensures { WritesRecord image.old address list.now bytes.now work image.new result }
+pub fn write_record(
+    image: &mut [u8],
+    address: usize,
+    list: &[u16],
+    bytes: &[u8],
+    work: u16,
+) -> Result<(), Refusal>
+    ensures { WritesRecord image.old address list.now bytes.now work image.new (number_in result) }
 {
     if refusals::is_outside(image.len(), address) {
-        return 18;
+        return Err(Refusal::OutsideImage);
     }
     if bytes.len() == 0 {
-        return 4;
+        return Err(Refusal::UnknownKind);
     }
     if !types::has_block(kinds::kind_of(bytes[0])) {
-        return 4;
+        return Err(Refusal::UnknownKind);
     }
-    match records::reading::read(bytes) {
-        Got::Call(call) => write(image, address, list, call, work),
-        Got::Refused(number) => number,
-    }
+    let call = reading::read(bytes)?;
+    write(image, address, list, call, work)
 }

@@ -12,14 +12,14 @@ use borrow.Author.Tests.{lt-ltb, le-ltb, eq-eqb, ne_eqb, not-false, eqb-true}
 use Rattle.records.specs.Numbers.{number_of, part, cut}
 use Rattle.records.specs.Writing.{written_of, out_of}
 use Rattle.records.specs.declared.Call.{Call}
-use Rattle.records.specs.declared.Got.{Got}
-use Rattle.records.specs.declared.Got.TheVariants as got
-use Rattle.records.specs.declared.Written.TheVariants as written
+use Rattle.records.specs.declared.Refusal.{Refusal}
+use Rattle.records.specs.Refusals.{refusal_number, number_in, Got, Written}
 use Rattle.blocks.specs.Reading.{block_in}
 use Rattle.blocks.specs.Writing.{record_number, record_image, WritesRecord}
 use Rattle.blocks.specs.Asking.{address_in, beside_in, count_in, list_in, record_at, end_of, record_in, is_no_head}
 use Rattle.blocks.specs.Asking.{read_in, answer_number, answer_image, answer_record, Answers, Lists}
 use Rattle.blocks.proofs.Places.{neither}
+use Rattle.std.specs.Prelude.{Ok, Err}
 
 -- ---- the list
 words_more : (q : List ℕ) (n i : ℕ) → cut (replicate (suc n) 2) i q ≡ cut (replicate n 2) i q ++ (number_of (part 2 (i + 2 * n) q) ∷ [])
@@ -91,21 +91,15 @@ module _ (q s o : List ℕ) where
         }
 
     module _ (w : get_or q 0 0 ≡ 1 → ⊥) where
-      pub read_no : (n : ℕ) → read_in q s ≡ got.Refused n → Answers q s o s o n
+      pub read_no : (r : Refusal) → read_in q s ≡ Err r → Answers q s o s o (refusal_number r)
       unfolding answer_number answer_image answer_record
-      read_no n r =
+      read_no j r =
           let b = ne_eqb (get_or q 0 0) 1 w in
           record { number = rw (e, b, r) refl; image = rw (e, b) refl; «record» = rw (e, b, r) refl }
 
-      module _ (c : Call) (p : List ℕ) (r : read_in q s ≡ got.Call c) (x : p ≡ out_of c o) where
-        pub read_told : (k : ℕ) → written_of c o ≡ written.Length k → Answers q s o s p 0
+      module _ (c : Call) (p : List ℕ) (r : read_in q s ≡ Ok c) (y : p ≡ out_of c o) where
+        pub read_told : (w : Written) → w ≡ written_of c o → Answers q s o s p (number_in w)
         unfolding answer_number answer_image answer_record
-        read_told k h =
+        read_told x h =
             let b = ne_eqb (get_or q 0 0) 1 w in
-            record { number = rw (e, b, r, h) refl; image = rw (e, b) refl; «record» = rw (e, b, r) x }
-
-        pub read_short : (n : ℕ) → written_of c o ≡ written.Refused n → Answers q s o s p n
-        unfolding answer_number answer_image answer_record
-        read_short n h =
-            let b = ne_eqb (get_or q 0 0) 1 w in
-            record { number = rw (e, b, r, h) refl; image = rw (e, b) refl; «record» = rw (e, b, r) x }
+            record { number = rw (e, b, r) (ap number_in h); image = rw (e, b) refl; «record» = rw (e, b, r) y }

@@ -4,11 +4,10 @@ use Prim.Native.Nat.{ℕ, ◌+◌}
 use mathlib.Core.Path.{◌≡◌, sym, ap, ◌∙◌}
 use mathlib.Core.Logic.{◌≢◌}
 use mathlib.Core.Bool.{Bool, true, false, not, ◌||◌}
-use mathlib.Core.List.{List, ◌∷◌, ◌++◌, append_assoc}
+use mathlib.Core.List.{List, ◌∷◌, ◌++◌}
 use native.Mathlib.Omega.{arith}
 use lib.Dec.{eqb}
 use lib.ListN.{length, take, drop}
-use lib.Seq.{paste}
 use borrow.Author.Tests.{eq-eqb, ne_eqb, eqb-true, eqb-false}
 use Rattle.records.proofs.Assured.{promises}
 use Rattle.records.specs.Firsts.{Refusal, when, first_of}
@@ -18,7 +17,9 @@ use Rattle.records.specs.Reading.{first_kind, read_of, read_as}
 use Rattle.records.specs.declared.Kind.{Kind}
 use Rattle.records.specs.declared.Kind.TheVariants as kind
 use Rattle.records.specs.declared.Call.{Call}
-use Rattle.records.specs.declared.Got.TheVariants as got
+use Rattle.records.specs.declared.Refusal.{Refusal as Why}
+use Rattle.records.specs.declared.Refusal.TheVariants as why
+use Rattle.records.specs.Refusals.{refusal_number, number_in, Got}
 use Rattle.blocks.specs.Lists.{address_of}
 use Rattle.blocks.specs.Types.{Form, form_of, is_none, length_in, to_block, block_of}
 use Rattle.blocks.specs.Refusals.{is_outside, later, refusals, form_in, numbers_in}
@@ -28,6 +29,7 @@ use Rattle.blocks.proofs.Places.{decide, clash}
 use Rattle.blocks.proofs.Forms.{sound-of, name_of, call_length_lem, is_call}
 use Rattle.blocks.proofs.Through.{through-length}
 use Rattle.blocks.proofs.reading.Laws.{cut-length}
+use Rattle.std.specs.Prelude.{Ok, Err}
 
 -- ---- a block that is laid
 -- a call that has a block has a number for each use
@@ -60,7 +62,7 @@ module _ (s : List ℕ) (a : ℕ) (l : List ℕ) (w : ℕ) where
   }
 
   pub write_yes : (c : Call) (bs t : List ℕ) (n : ℕ) → 0 ≡ first_of (write_refusals s a l c) → is_none (form_for c) ≡ false
-      → Lays l c w bs n → t ≡ paste s a bs n → WritesBlock s a l c w t 0
+      → Lays l c w bs n → t ≡ take a s ++ (take n bs ++ drop (a + n) s) → WritesBlock s a l c w t 0
   unfolding write_number image_after
   write_yes c bs t n e h y p =
       let b = block_of (form_for c) l w (fields_of c) in
@@ -68,7 +70,6 @@ module _ (s : List ℕ) (a : ℕ) (l : List ℕ) (w : ℕ) where
       record {
         number = e;
         image = p
-            ∙ append_assoc (take a s) (take n bs) (drop (a + n) s)
             ∙ ap (λ x. take a s ++ (x ++ drop (a + n) s)) (y.block h)
             ∙ ap (λ m. take a s ++ (b ++ drop (a + m) s)) k
             ∙ ap (λ m. image_by m s a l (form_for c) w (fields_of c)) e;
@@ -96,8 +97,8 @@ has-length kind.Exit e = clash e
 has-length kind.Send e = clash e
 has-length kind.Receive e = clash e
 
-pub refused : {P : Type 0} (n : ℕ) (c : Call) → got.Refused n ≡ got.Call c → P
-refused n c e = let z : ◌≡◌ {A = ℕ} 0 1 = cc in absurd (omega arith)
+pub refused : {P : Type 0} (r : Why) (c : Call) → ◌≡◌ {A = Got} (Err r) (Ok c) → P
+refused r c e = let z : ◌≡◌ {A = ℕ} 0 1 = cc in absurd (omega arith)
 
 -- a record that is read as a call: it is not empty, its length is its kind's, and the call is of its kind and numbers
 pub record Holds (bs : List ℕ) (c : Call) : Type 0 where
@@ -106,22 +107,22 @@ pub record Holds (bs : List ℕ) (c : Call) : Type 0 where
   pub kind : kind_of_call c ≡ first_kind bs
   pub numbers : fields_of c ≡ numbers_in bs
 
-pub holds : (bs : List ℕ) (c : Call) → read_of bs ≡ got.Call c → Holds bs c
+pub holds : (bs : List ℕ) (c : Call) → read_of bs ≡ Ok c → Holds bs c
 unfolding read_of read_as
 holds bs c e =
     let k = first_kind bs in
     decide (eqb (length bs) 0)
-    (λ t. refused 3 c (rw t at e))
+    (λ t. refused why.WrongLength c (rw t at e))
     (λ f.
     decide (eqb (length_of k) 0)
-    (λ t. refused 4 c (rw (f, t) at e))
+    (λ t. refused why.UnknownKind c (rw (f, t) at e))
     (λ g.
     decide (eqb (length bs) (length_of k))
     (λ t.
-    let h : got_of k (numbers_in bs) ≡ got.Call c = rw (f, g, t) at e in
+    let h : got_of k (numbers_in bs) ≡ Ok c = rw (f, g, t) at e in
     let q = promises.call-parts k (numbers_in bs) c (cut-length (body_of k) 1 bs) h in
     record { some = eqb-false (length bs) 0 f; whole = eqb-true (length bs) (length_of k) t; kind = q.0; numbers = q.1 })
-    (λ m. refused 3 c (rw (f, g, m) at e))))
+    (λ m. refused why.WrongLength c (rw (f, g, m) at e))))
 
 -- a record that is not empty and has its kind's length is judged as its form and numbers are
 dropped : (b c d : Bool) → d ≡ false → (e : Bool) → e ≡ true → (rs : List Refusal)
@@ -130,12 +131,12 @@ unfolding first_of
 dropped b c d f e t rs = rw (f, t)
 
 -- what is refused with a number is that number
-number : (n : ℕ) → got.Refused 3 ≡ got.Refused n → n ≡ 3
-number n e = cc
+number : (r : Why) → ◌≡◌ {A = Got} (Err why.WrongLength) (Err r) → refusal_number r ≡ 3
+number r e = sym (ap number_in e)
 
 module _ (s : List ℕ) (a : ℕ) (l : List ℕ) (bs : List ℕ) where
   -- a record is judged as its call
-  pub record_first : (c : Call) → read_of bs ≡ got.Call c → first_of (record_refusals s a l bs) ≡ first_of (write_refusals s a l c)
+  pub record_first : (c : Call) → read_of bs ≡ Ok c → first_of (record_refusals s a l bs) ≡ first_of (write_refusals s a l c)
   record_first c e =
       let h = holds bs c e in
       judged h ∙ (λ i. first_of (refusals (length s) a l (form_of (sym h.kind i)) (sym h.numbers i)))
@@ -146,14 +147,14 @@ module _ (s : List ℕ) (a : ℕ) (l : List ℕ) (bs : List ℕ) where
           dropped (is_outside (length s) a) (is_none (form_in bs)) (eqb (length bs) 0) (ne_eqb (length bs) 0 h.some)
           (eqb (length bs) n) (eq-eqb (length bs) n h.whole) (later (length s) a l (form_in bs) (numbers_in bs))
 
-  pub record_out : (c : Call) (w : ℕ) → read_of bs ≡ got.Call c → record_image s a l bs w ≡ image_after s a l c w
+  pub record_out : (c : Call) (w : ℕ) → read_of bs ≡ Ok c → record_image s a l bs w ≡ image_after s a l c w
   unfolding record_image image_after record_number write_number
   record_out c w e =
       let h = holds bs c e in
       ap (λ n. image_by n s a l (form_in bs) w (numbers_in bs)) (record_first c e)
       ∙ (λ i. image_by (first_of (write_refusals s a l c)) s a l (form_of (sym h.kind i)) w (sym h.numbers i))
 
-  pub as_record : (c : Call) (w : ℕ) (t : List ℕ) (n : ℕ) → read_of bs ≡ got.Call c → WritesBlock s a l c w t n → WritesRecord s a l bs w t n
+  pub as_record : (c : Call) (w : ℕ) (t : List ℕ) (n : ℕ) → read_of bs ≡ Ok c → WritesBlock s a l c w t n → WritesRecord s a l bs w t n
   unfolding record_number write_number
   as_record c w t n e y = record { number = y.number ∙ sym (record_first c e); image = y.image ∙ sym (record_out c w e) }
 
@@ -179,16 +180,16 @@ module _ (s : List ℕ) (a : ℕ) (l : List ℕ) (bs : List ℕ) where
       record_none e = rw (i, ne_eqb (length bs) 0 m, e)
 
       -- a record of a kind that has a block, and that is no call, has another length
-      pub record_misfit : (n : ℕ) → is_none (form_in bs) ≡ false → read_of bs ≡ got.Refused n
-          → (n ≡ 3) × (n ≡ first_of (record_refusals s a l bs))
+      pub record_misfit : (r : Why) → is_none (form_in bs) ≡ false → read_of bs ≡ Err r
+          → (refusal_number r ≡ 3) × (refusal_number r ≡ first_of (record_refusals s a l bs))
       unfolding first_of read_of read_as
-      record_misfit n e r =
+      record_misfit j e r =
           let k = first_kind bs in
           let f = ne_eqb (length bs) 0 m in
           let g = ne_eqb (length_of k) 0 (has-length k e) in
           decide (eqb (length bs) (length_of k))
           (λ t.
-          let h : got_of k (numbers_in bs) ≡ got.Refused n = rw (f, g, t) at r in
+          let h : got_of k (numbers_in bs) ≡ Err j = rw (f, g, t) at r in
           let q = is_call k e (numbers_in bs) in
-          refused n q.0 (sym h ∙ q.1))
-          (λ t. let h : got.Refused 3 ≡ got.Refused n = rw (f, g, t) at r in (number n h, rw (i, f, e, t) (number n h)))
+          refused j q.0 (sym h ∙ q.1))
+          (λ t. let h : ◌≡◌ {A = Got} (Err why.WrongLength) (Err j) = rw (f, g, t) at r in (number j h, rw (i, f, e, t) (number j h)))

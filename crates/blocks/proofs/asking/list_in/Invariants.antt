@@ -1,12 +1,8 @@
 -- `asking::list_in` meets its contract: the invariant is that the array begins with the addresses that were read.
 use mathlib.Core.Path.{◌≡◌}
-use Prim.Native.Nat.{◌≤◌, ◌-◌}
 use lib.ListN.{length, take, replicate}
 use Rattle.records.specs.Numbers.{cut}
 use Rattle.blocks.proofs.asking.list_in.Given as goal
 
 abbrev pub invariant-loop-i : goal.invariant-loop-i
-invariant-loop-i l = (l.i ≤ l.count) × (length l.list ≡ 255) × (take l.i l.list ≡ cut (replicate l.i 2) 8 l.head)
-
-abbrev pub decreases-loop-i : goal.decreases-loop-i
-decreases-loop-i l = l.count - l.i
+invariant-loop-i l = (length l.list ≡ 255) × (take l.i l.list ≡ cut (replicate l.i 2) 8 l.head)

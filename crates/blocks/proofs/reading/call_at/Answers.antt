@@ -43,7 +43,7 @@ returns-in-5 c =
     let x = c.byte_at-a in
     let y = c.byte_at-b in
     let b = c.byte_at in
-    rw (c.task_of.ensures, c.pair.ensures, c.byte_at-in-5.ensures, x.ensures, y.ensures)
+    rw (c.task_of.ensures, c.from_be_bytes.ensures, c.byte_at-in-5.ensures, x.ensures, y.ensures)
     (at_5 s a l g (sym b.ensures ∙ c.in-5.is))
 
 pub returns-in_default : goal.returns-in_default

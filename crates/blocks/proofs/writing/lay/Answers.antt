@@ -1,6 +1,7 @@
 -- `writing::lay` meets its contract: each arm's bytes are those of its form.
 use mathlib.Core.Path.{refl}
 use lib.Dec.{lit≤}
+use borrow.Author.Rules.{rules}
 use Rattle.blocks.specs.Types.{form_of}
 use Rattle.blocks.proofs.Places.{clash}
 use Rattle.blocks.proofs.writing.lay.Goals as goal
@@ -27,7 +28,9 @@ returns-in-StartIfDormant c = rw c.in-StartIfDormant.is (record { size = refl; s
 
 pub returns-in-StartOrQueue : goal.returns-in-StartOrQueue
 unfolding form_of
-returns-in-StartOrQueue c = rw (c.in-StartOrQueue.is, c.address_of-address.ensures) (record { size = refl; small = lit≤ tt; block = λ e. refl })
+returns-in-StartOrQueue c =
+    rw (c.in-StartOrQueue.is, c.to_be_bytes.ensures, c.to_be_bytes-in-StartOrQueue.ensures, c.address_of-address.ensures)
+    (record { size = refl; small = lit≤ tt; block = λ e. (let h = c.address_of-address.type_inv in let w = c.type_inv in search rules) })
 
 pub returns-in-Flag : goal.returns-in-Flag
 unfolding form_of

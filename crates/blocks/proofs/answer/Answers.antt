@@ -1,14 +1,16 @@
--- `quermanic_block` meets its contract: each test picks its case of the answer, with what the head says.
+-- `answer` meets its contract: each test picks its case of the answer, with what the head says.
 use Prim.Native.Nat.{ℕ}
 use mathlib.Core.Path.{sym, ◌∙◌, ◌≡◌}
 use mathlib.Core.Bool.{false}
 use mathlib.Core.List.{List}
 use native.Mathlib.Omega.{arith}
 use lib.ListN.{length, get_or, take}
-use Rattle.blocks.specs.Asking.{list_in, is_no_head, read_in}
-use Rattle.blocks.proofs.asking.Laws.{list-is, count-is, record_is, read_is, ends, not-asked, asked_write, read_no, read_told, read_short}
-use Rattle.blocks.proofs.quermanic_block.Goals as goal
-use Rattle.blocks.proofs.quermanic_block.Goals.{After-count_in-count, After-read}
+use Rattle.std.proofs.lemmas.Result.{err_from_is_err_and}
+use Rattle.records.specs.Refusals.{number_in}
+use Rattle.blocks.specs.Asking.{Answers, list_in, is_no_head, read_in}
+use Rattle.blocks.proofs.asking.Laws.{list-is, count-is, record_is, read_is, ends, not-asked, asked_write, read_no, read_told}
+use Rattle.blocks.proofs.answer.Goals as goal
+use Rattle.blocks.proofs.answer.Goals.{After-count_in-count, After-read, After-write}
 
 abbrev head : After-count_in-count → List ℕ
 head m = m.args.head.now
@@ -68,27 +70,27 @@ returns-then-byte_at-eq1 c =
 pub slice_bounds-read-end : goal.slice_bounds-read-end
 slice_bounds-read-end c = counts (goal.at.slice_bounds-read-end c).After-count_in-count
 
-pub returns-in-Length : goal.returns-in-Length
-returns-in-Length c =
-    let x = (goal.at.returns-in-Length c).After-read in
+pub returns-in_err-call : goal.returns-in_err-call
+returns-in_err-call c =
+    let x = (goal.at.returns-in_err-call c).After-read in
     let m = (goal.at.After-read x).After-count_in-count in
-    let k = c.in-Call in
-    let w = c.write.ensures in
-    let n = sym w.answer ∙ c.in-Length.is in
-    read_told (head m) (image m) (room m) (is-head m) (is_read x) k.call _ (given x ∙ k.is) w.buffer _ n
+    let q = err_from_is_err_and c.from_residual.result c.from_residual.ensures.1 in
+    rw (q.1, q.2) (read_no (head m) (image m) (room m) (is-head m) (is_read x) _ (given x ∙ c.in_err-call.was))
 
-pub returns-in-Refused-write : goal.returns-in-Refused-write
-returns-in-Refused-write c =
-    let x = (goal.at.returns-in-Refused-write c).After-read in
+-- what writing the call that was read answers
+told : (k : After-write) → let x = (goal.at.After-write k).After-read in let m = (goal.at.After-read x).After-count_in-count in
+    Answers (head m) (image m) (room m) (image m) k.write.new.out (number_in k.write.result)
+told k =
+    let x = (goal.at.After-write k).After-read in
     let m = (goal.at.After-read x).After-count_in-count in
-    let k = c.in-Call in
-    let w = c.write.ensures in
-    let n = c.in-Refused-write in
-    read_short (head m) (image m) (room m) (is-head m) (is_read x) k.call _ (given x ∙ k.is) w.buffer n.number (sym w.answer ∙ n.is)
+    let w = k.write.ensures in
+    read_told (head m) (image m) (room m) (is-head m) (is_read x) k.in_ok-call.call _ (given x ∙ k.in_ok-call.was) w.buffer _ w.answer
 
-pub returns-in-Refused : goal.returns-in-Refused
-returns-in-Refused c =
-    let x = (goal.at.returns-in-Refused c).After-read in
-    let m = (goal.at.After-read x).After-count_in-count in
-    let n = c.in-Refused in
-    read_no (head m) (image m) (room m) (is-head m) (is_read x) n.number (given x ∙ n.is)
+pub returns-in_err-write : goal.returns-in_err-write
+returns-in_err-write c =
+    let k = (goal.at.returns-in_err-write c).After-write in
+    let q = err_from_is_err_and c.from_residual-in_err-write.result c.from_residual-in_err-write.ensures.1 in
+    rw (q.1, q.2) (rw (c.in_err-write.was) at (told k))
+
+pub returns : goal.returns
+returns c = let k = (goal.at.returns c).After-write in rw c.in_ok-write.was at (told k)
