@@ -1,13 +1,11 @@
 -- The numbers an answer can carry (docs/CALLS.md, 6): one list, in its order, of each number and when it is given, read
 -- off the sheet. The first whose condition holds is the answer's.
-use Rattle.std.specs.Prelude.{ℕ, ◌≡◌, Bool, not, List, [], ◌∷◌, eqb, length, get_or}
+use Rattle.std.specs.Prelude.{ℕ, ◌≡◌, Bool, not, List, [], ◌∷◌, eqb, length, get_or, Ok, Err}
 use Rattle.records.specs.Firsts.{Refusal, when}
 use Rattle.records.specs.declared.TaskNo.{TaskNo}
 use Rattle.records.specs.declared.Kind.{Kind}
 use Rattle.records.specs.declared.Call.{Call}
 use Rattle.records.specs.declared.Call.TheVariants as call
-use Rattle.records.specs.declared.Got.{Got}
-use Rattle.records.specs.declared.Got.TheVariants as got
 use Rattle.records.specs.Kinds.{kind_of, length_of, is_call}
 use Rattle.records.specs.Reading.{read_of}
 use Rattle.executive.specs.declared.Task.{Task}
@@ -16,6 +14,7 @@ use Rattle.executive.specs.declared.Table.{Table}
 use Rattle.executive.specs.Lists.{◌and◌}
 use Rattle.executive.specs.Check.{is_well_formed}
 use Rattle.executive.specs.Sheet.{sheet, rule_of}
+use Rattle.records.specs.Refusals.{Got}
 
 -- ---- the record: 4 where its first byte is no carried kind, and as a call also 40 to 42
 abbrev pub kind_of_record : List ℕ → Kind
@@ -23,8 +22,8 @@ kind_of_record s = kind_of (get_or s 0 0)
 
 -- the call that a record holds; what stands for one that holds none is never looked at
 abbrev pub called_by : Got → Call
-called_by (got.Call c) = c
-called_by (got.Refused n) = call.End
+called_by (Ok c) = c
+called_by (Err n) = call.End
 
 abbrev pub call_in : List ℕ → Call
 call_in s = called_by (read_of s)

@@ -11,7 +11,7 @@ use crate::{
     Rest, Task, calls, check, decisions, flags, messages, places, refusals, starts, states,
     subprograms,
 };
-use records::{Call, Got, TaskNo, kinds, reading};
+use records::{Call, TaskNo, kinds, reading};
 
 // What is decided of a record, and the rest as it is after that.
 #[derive(Clone, Copy)]
@@ -136,8 +136,8 @@ fn decide_record(tasks: [Task; 16], rest: Rest, c: TaskNo, bytes: &[u8]) -> Deci
     let kind = kinds::kind_of(bytes[0]);
     if kinds::is_call(kind) {
         return match reading::read(bytes) {
-            Got::Call(call) => decide_call(tasks, rest, c, call),
-            Got::Refused(number) => decisions::refused(number),
+            Ok(call) => decide_call(tasks, rest, c, call),
+            Err(why) => decisions::refused(why.into()),
         };
     }
     decisions::refused(4)

@@ -4,7 +4,7 @@ ghost use Rattle.executive.specs.Check.{queue_right};
 ghost use Rattle.executive.specs.Step.{step_of, Steps, StepsCall};
 
 use crate::{Outcome, Table, deciding};
-use records::{Call, Written, writing};
+use records::{Call, writing};
 
 impl Table {
     // A step at a table whose queue is right: refused with the first number that is given, or accepted.
@@ -43,8 +43,8 @@ impl Table {
     {
         let mut record = [0u8; 10];
         match writing::write(call, &mut record) {
-            Written::Length(n) => self.step(&record[..n]),
-            Written::Refused(number) => self.refuse(number),
+            Ok(n) => self.step(&record[..n]),
+            Err(why) => self.refuse(why.into()),
         }
     }
 }

@@ -12,8 +12,6 @@ use Rattle.records.specs.Firsts.{first_of}
 use Rattle.records.specs.declared.Kind.TheVariants as kind
 use Rattle.records.specs.declared.Call.{Call}
 use Rattle.records.specs.declared.Call.TheVariants as call
-use Rattle.records.specs.declared.Got.{Got}
-use Rattle.records.specs.declared.Got.TheVariants as got
 use Rattle.records.specs.Numbers.{Bytes}
 use Rattle.records.specs.Kinds.{byte_of, length_of, is_call}
 use Rattle.records.specs.Calls as calls
@@ -39,19 +37,22 @@ use Rattle.executive.proofs.step.FirstThatHolds.{allowed}
 use Rattle.executive.proofs.Book.Lists.{agrees_first, FirstIs}
 use Rattle.executive.proofs.Book.Step.{Ending, Does, step_does}
 use Rattle.executive.proofs.Book.Written.{new_asked, new_begun}
+use Rattle.std.specs.Prelude.{Ok, Err}
+use Rattle.records.specs.declared.Refusal.{Refusal}
+use Rattle.records.specs.Refusals.{Got}
 
 not-false : (b : Bool) → not b ≡ false → b ≡ true
 not-false true e = refl
 not-false false e = false_not_true (sym e)
 
 -- what is not refused is a call
-call_got : (g : Got) → ((n : ℕ) → g ≡ got.Refused n → ⊥) → g ≡ got.Call (called_by g)
-call_got (got.Call c) h = refl
-call_got (got.Refused n) h = absurd (h n refl)
+call_got : (g : Got) → ((n : Refusal) → g ≡ Err n → ⊥) → g ≡ Ok (called_by g)
+call_got (Ok c) h = refl
+call_got (Err n) h = absurd (h n refl)
 
 -- ---- an accepted record was read, and so its first byte is its call's
 module _ (t : Table) (s : List ℕ) (e : (step_of t s).answer.number ≡ 0) where
-  pub was_read : read_of s ≡ got.Call (call_in s)
+  pub was_read : read_of s ≡ Ok (call_in s)
   unfolding refusals
   was_read =
       let a = first-none 1 _ _ (omega arith) (allowed t s e) in

@@ -7,15 +7,17 @@ use borrow.Author.Tests.{le-leb}
 use lib.ListN.{length, take, drop}
 use lib.Seq.{take_at}
 use Rattle.records.specs.declared.Call.{Call}
-use Rattle.records.specs.declared.Written.TheVariants as written
 use Rattle.records.specs.Writing.{bytes_of, written_of, out_of}
 use Rattle.records.proofs.Assured.{promises}
+use Rattle.std.specs.Prelude.{Ok, Err}
+use Rattle.records.specs.declared.Refusal.{Refusal}
+use Rattle.records.specs.Refusals.{Written}
 
 module _ (c : Call) (o : List ℕ) (h : 10 ≤ length o) where
   fits : length (bytes_of c) ≤ length o
   fits = omega (arith, promises.short c)
 
-  write_done : written.Length (length (bytes_of c)) ≡ written_of c o
+  write_done : Ok (length (bytes_of c)) ≡ written_of c o
   unfolding written_of
   write_done = rw (le-leb (length (bytes_of c)) (length o) fits)
 
@@ -23,12 +25,12 @@ module _ (c : Call) (o : List ℕ) (h : 10 ≤ length o) where
   unfolding out_of
   out-done = rw (le-leb (length (bytes_of c)) (length o) fits)
 
-  pub write_length : (n : ℕ) → written.Length n ≡ written_of c o → n ≡ length (bytes_of c)
-  write_length n e = let f : written.Length n ≡ written.Length (length (bytes_of c)) = e ∙ sym write_done in cc
+  pub write_length : (n : ℕ) → ◌≡◌ {A = Written} (Ok n) (written_of c o) → n ≡ length (bytes_of c)
+  write_length n e = let f : ◌≡◌ {A = Written} (Ok n) (Ok (length (bytes_of c))) = e ∙ sym write_done in cc
 
-  pub write_never : (k : ℕ) → written.Refused k ≡ written_of c o → ⊥
-  write_never k e =
-      let f : written.Refused k ≡ written.Length (length (bytes_of c)) = e ∙ sym write_done in
+  pub write_never : (r : Refusal) → ◌≡◌ {A = Written} (Err r) (written_of c o) → ⊥
+  write_never r e =
+      let f : ◌≡◌ {A = Written} (Err r) (Ok (length (bytes_of c))) = e ∙ sym write_done in
       let z : ◌≡◌ {A = ℕ} 0 1 = cc in
       omega arith
 

@@ -11,8 +11,6 @@ use Rattle.records.specs.declared.TaskNo.{TaskNo}
 use Rattle.records.specs.declared.FlagNo.{FlagNo}
 use Rattle.records.specs.declared.Call.{Call}
 use Rattle.records.specs.declared.Call.TheVariants as call
-use Rattle.records.specs.declared.Got.{Got}
-use Rattle.records.specs.declared.Got.TheVariants as got
 use Rattle.records.specs.Calls.{InRange, GotInRange}
 use Rattle.records.specs.Numbers.{Bytes}
 use Rattle.records.specs.Reading.{read_of}
@@ -50,6 +48,8 @@ use Rattle.executive.proofs.Plans.Enter.{enter-good}
 use Rattle.executive.proofs.Plans.Exit.{exit_good}
 use Rattle.executive.proofs.Plans.Send.{send-good}
 use Rattle.executive.proofs.Plans.Receive.{receive-good}
+use Rattle.std.specs.Prelude.{Ok, Err}
+use Rattle.records.specs.Refusals.{Got}
 
 and-other : (a b : Bool) → a and b ≡ false → a ≡ true → b ≡ false
 and-other true b e f = e
@@ -176,8 +176,8 @@ pub call_in_range : (s : List ℕ) → Bytes s → InRange (call_in s)
 call_in_range s b = go (read_of s) (promises.read_in_range s b)
   where
     go : (g : Got) → GotInRange g → InRange (called_by g)
-    go (got.Call c) r = r
-    go (got.Refused n) r = tt
+    go (Ok c) r = r
+    go (Err n) r = tt
 
 -- nothing refuses an accepted record's call
 pub call-allowed : (t : Table) (s : List ℕ) → first_of (refusals t s) ≡ 0 → first_of (call_refusals t (call_in s)) ≡ 0
