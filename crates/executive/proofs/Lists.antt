@@ -5,5 +5,6 @@ pub mod Arrays
 pub mod Pad
 pub mod Slid
 pub mod ClosedUp
+pub mod Chains
 pub mod Loops
 pub mod Search

@@ -37,7 +37,7 @@ pub fn all_but_queue(tasks: [Task; 16], rest: Rest) -> bool
         return false;
     }
     let alarms = rest.alarms;
-    if !passes::all_alarms(alarms, now) {
+    if !passes::all_alarms(&alarms, now) {
         return false;
     }
     let pool = rest.pool;

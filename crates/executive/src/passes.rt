@@ -113,16 +113,8 @@ pub(crate) fn requests_right(
     true
 }
 
-pub(crate) fn all_alarms(alarms: [Millis; 32], now: Millis) -> bool
-    ensures { result ≡ all_of (alarm_right now.0) alarms }
+pub(crate) fn all_alarms(alarms: &[Millis], now: Millis) -> bool
+    ensures { result ≡ all_of (alarm_right now.0) alarms.now }
 {
-    let mut i: usize = 0;
-    while i < 32 {
-        let a = alarms[i];
-        if !rules::alarm_right(a, now) {
-            return false;
-        }
-        i += 1;
-    }
-    true
+    alarms.iter().all(|a| rules::alarm_right(*a, now))
 }
