@@ -11,8 +11,6 @@ use Rattle.executive.specs.declared.Message.{Message}
 use Rattle.executive.specs.declared.Mail.{Mail}
 use Rattle.executive.specs.declared.Rest.{Rest}
 use Rattle.executive.specs.declared.Table.{Table}
-use Rattle.executive.specs.declared.waiters.Link.{Link}
-use Rattle.executive.specs.declared.waiters.Link.TheVariants.{AtStart, AtEnd}
 use Rattle.executive.specs.Numbers.{most_tasks, most_queued, most_sent, flag_count, sub_count, last_sub, highest, most_granule, end_of_time, longest}
 use Rattle.executive.specs.Lists.{one, sum_of, ◌and◌, up_to, all_of}
 use Rattle.executive.specs.Pool.{requests}
@@ -344,11 +342,3 @@ in_passes ts r =
 pub record Tallies (c : List ℕ) (xs : List TaskNo) : Type 0 where
   pub sized : length c ≡ 17
   pub counts : (j : ℕ) → j < most_tasks → get_or c j 0 ≡ stands_in (suc j) xs
-
--- ---- whom a request names as a waiter
-abbrev pub link_of : Link → Request → ℕ
-link_of AtStart r = r.start_waiter.0
-link_of AtEnd r = r.end_waiter.0
-
-abbrev pub links_in : Link → ℕ → List Request → ℕ
-links_in l k p = sum_of (λ (r : Request). one (eqb k (link_of l r))) p

@@ -29,21 +29,13 @@ pub(crate) fn cleared(levels: u16, p: u8, next: u8) -> u16
 }
 
 // The word of a line. A number that names no task counts as one of priority 0.
-pub(crate) fn levels_of(tasks: [Task; 16], line: [TaskNo; 16], taken: usize) -> u16
-    requires { taken ≤ 16 }
-    ensures { result ≡ levels_of (items tasks (take taken line)) }
+pub(crate) fn levels_of(tasks: &[Task; 16], line: &[TaskNo]) -> u16
+    ensures { result ≡ levels_of (items tasks.now line.now) }
 {
     let mut word: u16 = 0;
-    let mut i = taken;
-    while 0 < i {
-        i -= 1;
-        let k = places::entry_place(line[i]);
-        if k < 16 {
-            let e = tasks[k];
-            word = level_bit(e.priority) | word;
-        } else {
-            word = 1 | word;
-        }
+    for k in line {
+        let e = places::task_at(*tasks, *k);
+        word |= level_bit(e.priority);
     }
     word
 }
@@ -55,16 +47,14 @@ pub fn word_of(tasks: [Task; 16], line: [TaskNo; 16], taken: u8) -> u16
     if 16 < taken {
         return 0;
     }
-    levels_of(tasks, line, taken as usize)
+    levels_of(&tasks, &line[..taken as usize])
 }
 
 // What the lamp shows of a word: the place of its highest bit, nothing where it has none.
 pub fn lamp(levels: u16) -> Lamp
     ensures { result ≡ lamp_of levels }
 {
-    let mut p: u8 = 16;
-    while 0 < p {
-        p -= 1;
+    for p in (0..16).rev() {
         if levels & level_bit(p) != 0 {
             return Lamp::Level(p);
         }

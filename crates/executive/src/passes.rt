@@ -1,116 +1,59 @@
 // The passes of the check over the entries, the alarms and the pool, each by the rules on one of them.
-ghost use Rattle.std.specs.Prelude.{◌≡◌, ◌≤◌, ◌<◌, ◌+◌, drop, take};
+ghost use Rattle.std.specs.Prelude.{◌≡◌};
 ghost use Rattle.executive.specs.Lists.{all_of};
 ghost use Rattle.executive.specs.Check.{is_blank, alarm_right, is_free, entry_right, request_right};
 
 use crate::{Millis, Request, Task, places, rules, states};
 
-// All sixteen entries keep the rules on one entry, in one pass.
-pub(crate) fn entries_right(tasks: [Task; 16], count: u8, now: Millis, flags: u32) -> bool
-    ensures { result ≡ all_of (entry_right count now.0 flags) tasks }
+// All entries keep the rules on one entry, in one pass.
+pub(crate) fn entries_right(tasks: &[Task], count: u8, now: Millis, flags: u32) -> bool
+    ensures { result ≡ all_of (entry_right count now.0 flags) tasks.now }
 {
-    let mut i: usize = 0;
-    while i < 16 {
-        let e = tasks[i];
-        if !rules::entry_right(e, count, now, flags) {
-            return false;
-        }
-        i += 1;
-    }
-    true
+    tasks
+        .iter()
+        .all(|e| rules::entry_right(*e, count, now, flags))
 }
 
-// The entries past the task count are zero.
-pub(crate) fn blank_past(tasks: [Task; 16], from: usize) -> bool
-    requires { from ≤ 16 }
-    ensures { result ≡ all_of is_blank (drop from tasks) }
+// These entries are zero.
+pub(crate) fn all_blank(tasks: &[Task]) -> bool
+    ensures { result ≡ all_of is_blank tasks.now }
 {
-    let mut i = from;
-    while i < 16 {
-        let e = tasks[i];
-        if !rules::is_blank(e) {
-            return false;
-        }
-        i += 1;
-    }
-    true
+    tasks.iter().all(|e| rules::is_blank(*e))
 }
 
-// No place of the pool is taken: all numbers of the requests, put together, and all their arguments, are 0. It stops at
-// none of them, so that the compiler can take many at a time.
-fn none_queued(pool: [Request; 32]) -> bool
-    ensures { result ≡ all_of is_free pool }
+// These places of the pool are zero: all numbers of the requests, put together, and all their arguments, are 0. It stops
+// at none of them, so that the compiler can take many at a time.
+pub(crate) fn all_free(places: &[Request]) -> bool
+    ensures { result ≡ all_of is_free places.now }
 {
     let mut numbers: u8 = 0;
     let mut arguments: u16 = 0;
-    let mut i: usize = 0;
-    while i < 32 {
-        let q = pool[i];
-        numbers = numbers | q.target.0 | q.priority | q.start_waiter.0 | q.end_waiter.0;
-        arguments = arguments | q.argument;
-        i += 1;
+    for q in places {
+        numbers |= q.target.0 | q.priority | q.start_waiter.0 | q.end_waiter.0;
+        arguments |= q.argument;
     }
-    if numbers != 0 {
+    numbers == 0 && arguments == 0
+}
+
+// A queued request keeps the rules on one request, and names a busy task only.
+fn request_right(tasks: &[Task; 16], q: Request, count: u8) -> bool
+    ensures { result ≡ request_right tasks.now count q }
+{
+    if !rules::request_fits(q, count) {
         return false;
     }
-    arguments == 0
-}
-
-// From a place on, the pool's places are zero.
-fn free_places(pool: [Request; 32], queued: usize) -> bool
-    requires { queued ≤ 32 }
-    ensures { result ≡ all_of is_free (drop queued pool) }
-{
-    let mut i = queued;
-    while i < 32 {
-        let q = pool[i];
-        if !rules::is_free(q) {
-            return false;
-        }
-        i += 1;
+    let target = places::entry_place(q.target);
+    if 15 < target {
+        return false;
     }
-    true
-}
-
-// The pool's free places are zero.
-pub(crate) fn free_from(pool: [Request; 32], queued: usize) -> bool
-    requires { queued ≤ 32 }
-    ensures { result ≡ all_of is_free (drop queued pool) }
-{
-    if queued == 0 {
-        return none_queued(pool);
-    }
-    free_places(pool, queued)
+    !states::is_dormant(tasks[target].state)
 }
 
 // All queued requests keep the rules on one request, and name busy tasks only; in one pass.
-pub(crate) fn requests_right(
-    tasks: [Task; 16],
-    pool: [Request; 32],
-    queued: usize,
-    count: u8,
-) -> bool
-    requires { queued ≤ 32 }
-    ensures { result ≡ all_of (request_right tasks count) (take queued pool) }
+pub(crate) fn requests_right(tasks: &[Task; 16], asked: &[Request], count: u8) -> bool
+    ensures { result ≡ all_of (request_right tasks.now count) asked.now }
 {
-    let mut i: usize = 0;
-    while i < queued {
-        let q = pool[i];
-        if !rules::request_fits(q, count) {
-            return false;
-        }
-        let target = places::entry_place(q.target);
-        if 15 < target {
-            return false;
-        }
-        let e = tasks[target];
-        let s = e.state;
-        if states::is_dormant(s) {
-            return false;
-        }
-        i += 1;
-    }
-    true
+    asked.iter().all(|q| request_right(tasks, *q, count))
 }
 
 pub(crate) fn all_alarms(alarms: &[Millis], now: Millis) -> bool

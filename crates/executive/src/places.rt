@@ -1,5 +1,5 @@
 // The entries by task number: one guarded way from a number to its place, one read, one write.
-ghost use Rattle.std.specs.Prelude.{◌≡◌, ◌<◌, set};
+ghost use Rattle.std.specs.Prelude.{◌≡◌};
 ghost use Rattle.executive.specs.Places.{task_at, put_at, entry_place};
 
 use crate::{Millis, State, Task};
@@ -34,31 +34,14 @@ pub fn entry_place(k: TaskNo) -> usize
 pub fn task_at(tasks: [Task; 16], k: TaskNo) -> Task
     ensures { result ≡ task_at tasks k.0 }
 {
-    let i = entry_place(k);
-    if 15 < i {
-        return NO_TASK;
+    match tasks.get(entry_place(k)) {
+        Some(e) => *e,
+        None => NO_TASK,
     }
-    tasks[i]
 }
 
-// One task's entry, lent where it lies: it is rewritten, its state and its time with the rest.
-fn rewrite(task: &mut Task, e: Task)
-    ensures { task.new ≡ e }
-{
-    *task = e;
-}
-
-// The entries with the one at a place rewritten; no other is touched.
-fn put_in(tasks: [Task; 16], i: usize, e: Task) -> [Task; 16]
-    requires { i < 16 }
-    ensures { result ≡ set tasks i e }
-{
-    let mut out = tasks;
-    rewrite(&mut out[i], e);
-    out
-}
-
-// The entries with one task's rewritten; a number that names no task changes none.
+// The entries with one task's rewritten where it lies, its state and its time with the rest; a number that names no task
+// changes none.
 pub fn put_at(tasks: [Task; 16], k: TaskNo, e: Task) -> [Task; 16]
     ensures { result ≡ put_at tasks k.0 e }
 {
@@ -66,5 +49,7 @@ pub fn put_at(tasks: [Task; 16], k: TaskNo, e: Task) -> [Task; 16]
     if 15 < i {
         return tasks;
     }
-    put_in(tasks, i, e)
+    let mut out = tasks;
+    out[i] = e;
+    out
 }

@@ -1,6 +1,6 @@
 // The check of a line, the ready queue's or a subprogram's: exactly the tasks in its state, once each, in descending
 // priority.
-ghost use Rattle.std.specs.Prelude.{◌≡◌, ◌≤◌, ◌<◌, ◌+◌, eqb, drop, take};
+ghost use Rattle.std.specs.Prelude.{◌≡◌, ◌≤◌, eqb, length};
 ghost use Rattle.executive.specs.Lists.{one, up_to, all_of, ◌and◌};
 ghost use Rattle.executive.specs.States.{is_as, waits_for};
 ghost use Rattle.executive.specs.Table.{items, levels_of};
@@ -9,32 +9,22 @@ ghost use Rattle.executive.specs.Check.{is_nobody, falls, exact_at, line_right, 
 use crate::{State, Task, levels, places, states};
 use records::TaskNo;
 
-// The queue's free places are zero.
-pub(crate) fn blank_from(queue: [TaskNo; 16], ready: usize) -> bool
-    requires { ready ≤ 16 }
-    ensures { result ≡ all_of is_nobody (drop ready queue) }
+// These places of a line are free.
+pub(crate) fn all_nobody(places: &[TaskNo]) -> bool
+    ensures { result ≡ all_of is_nobody places.now }
 {
-    let mut i = ready;
-    while i < 16 {
-        if queue[i].0 != 0 {
-            return false;
-        }
-        i += 1;
-    }
-    true
+    places.iter().all(|k| k.0 == 0)
 }
 
-// Those ready are tasks, in descending priority, and the word of their levels is this one.
-fn descends(tasks: [Task; 16], queue: [TaskNo; 16], ready: usize, count: u8, levels: u16) -> bool
-    requires { (ready ≤ 16) × (count ≤ 16) }
-    ensures { result ≡ (falls tasks count 15 (take ready queue) and eqb levels
-        (levels_of (items tasks (take ready queue)))) }
+// Those in a line are tasks, in descending priority, and the word of their levels is this one.
+fn descends(tasks: &[Task; 16], line: &[TaskNo], count: u8, levels: u16) -> bool
+    requires { count ≤ 16 }
+    ensures { result ≡ (falls tasks.now count 15 line.now and eqb levels (levels_of (items tasks.now line.now))) }
 {
     let mut p: u8 = 15;
     let mut word: u16 = 0;
-    let mut i: usize = 0;
-    while i < ready {
-        let k = places::entry_place(queue[i]);
+    for x in line {
+        let k = places::entry_place(*x);
         if count as usize <= k {
             return false;
         }
@@ -43,42 +33,22 @@ fn descends(tasks: [Task; 16], queue: [TaskNo; 16], ready: usize, count: u8, lev
             return false;
         }
         p = e.priority;
-        word = word | levels::level_bit(p);
-        i += 1;
+        word |= levels::level_bit(p);
     }
     levels == word
 }
 
-pub(crate) fn plus_if(c: u8, k: u8, x: u8) -> u8
-    requires { c < 255 }
-    ensures { result ≡ one (eqb k x) + c }
+// How often each number from 1 to 16 stands in a line: that of k at place k - 1. Place 16 is for the numbers that no task
+// can have.
+fn tally(line: &[TaskNo]) -> [u8; 17]
+    requires { length line.now ≤ 16 }
+    ensures { Tallies result line.now }
 {
-    if k == x {
-        return c + 1;
+    let mut counts = [0u8; 17];
+    for x in line {
+        counts[places::entry_place(*x)] += 1;
     }
-    c
-}
-
-// How often each number stands in a line: that of k at place k - 1. Place 16 is for the numbers that no task can have.
-#[derive(Clone, Copy)]
-struct Counts {
-    of: [u8; 17],
-}
-
-// How often each number from 1 to 16 stands in the queue.
-fn tally(queue: [TaskNo; 16], ready: usize) -> Counts
-    requires { ready ≤ 16 }
-    ensures { Tallies result.of (take ready queue) }
-{
-    let mut of = [0u8; 17];
-    let mut i = ready;
-    while 0 < i {
-        i -= 1;
-        let k = places::entry_place(queue[i]);
-        let n = of[k];
-        of[k] = n + 1;
-    }
-    Counts { of }
+    counts
 }
 
 // Whether a task that stands n times in a line stands there as often as its state says: once if it is of the line's
@@ -93,27 +63,16 @@ fn exact_at(s: State, n: u8, kind: u8, number: u8) -> bool
 }
 
 // The line holds exactly those whose state is of a kind and waits for a number, once each.
-fn all_exact(
-    tasks: [Task; 16],
-    queue: [TaskNo; 16],
-    ready: usize,
-    count: u8,
-    kind: u8,
-    number: u8,
-) -> bool
-    requires { (ready ≤ 16) × (count ≤ 16) }
-    ensures { result ≡ up_to (exact_at (is_as kind number) tasks (take ready queue)) count }
+fn all_exact(tasks: &[Task; 16], line: &[TaskNo], count: u8, kind: u8, number: u8) -> bool
+    requires { (length line.now ≤ 16) × (count ≤ 16) }
+    ensures { result ≡ up_to (exact_at (is_as kind number) tasks.now line.now) count }
 {
-    let c = tally(queue, ready);
-    let mut k: u8 = 0;
-    while k < count {
-        let e = tasks[k as usize];
-        let s = e.state;
-        let n = c.of[k as usize];
-        if !exact_at(s, n, kind, number) {
+    let counts = tally(line);
+    for k in 0..count {
+        let i = k as usize;
+        if !exact_at(tasks[i].state, counts[i], kind, number) {
             return false;
         }
-        k += 1;
     }
     true
 }
@@ -121,13 +80,13 @@ fn all_exact(
 // The ready queue holds exactly the ready tasks, once each, in descending priority; its free places are zero; the word
 // of the ready levels is theirs.
 pub(crate) fn line_right(
-    tasks: [Task; 16],
-    queue: [TaskNo; 16],
+    tasks: &[Task; 16],
+    queue: &[TaskNo; 16],
     ready: u8,
     count: u8,
     levels: u16,
 ) -> bool
-    ensures { result ≡ line_lit tasks count ready queue levels }
+    ensures { result ≡ line_lit tasks.now count ready queue.now levels }
 {
     if 16 < count {
         return false;
@@ -136,27 +95,27 @@ pub(crate) fn line_right(
         return false;
     }
     let n = ready as usize;
-    if !descends(tasks, queue, n, count, levels) {
-        return false;
-    }
-    all_exact(tasks, queue, n, count, states::READY, 0) && blank_from(queue, n)
+    let taken = &queue[..n];
+    descends(tasks, taken, count, levels)
+        && all_exact(tasks, taken, count, states::READY, 0)
+        && all_nobody(&queue[n..])
 }
 
 // The line of subprogram m holds exactly those who wait for it, once each, in descending priority; its free places are
 // zero. No word of its levels is kept, so its own is given.
 pub(crate) fn waiting_right(
-    tasks: [Task; 16],
-    line: [TaskNo; 16],
+    tasks: &[Task; 16],
+    line: &[TaskNo; 16],
     waiting: usize,
     count: u8,
     m: u8,
 ) -> bool
     requires { (waiting ≤ 16) × (count ≤ 16) }
-    ensures { result ≡ line_right (waits_for m) tasks count waiting line }
+    ensures { result ≡ line_right (waits_for m) tasks.now count waiting line.now }
 {
-    let word = levels::levels_of(tasks, line, waiting);
-    if !descends(tasks, line, waiting, count, word) {
-        return false;
-    }
-    all_exact(tasks, line, waiting, count, states::AWAIT_SUB, m) && blank_from(line, waiting)
+    let taken = &line[..waiting];
+    let word = levels::levels_of(tasks, taken);
+    descends(tasks, taken, count, word)
+        && all_exact(tasks, taken, count, states::AWAIT_SUB, m)
+        && all_nobody(&line[waiting..])
 }

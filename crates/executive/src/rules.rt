@@ -11,19 +11,7 @@ use crate::{Mail, Message, Millis, Request, State, Task, clock, flags, states};
 pub fn in_bounds(count: u8, granule: u8, clock: Millis, queued: u8) -> bool
     ensures { result ≡ in_bounds count granule clock queued }
 {
-    if count < 1 {
-        return false;
-    }
-    if 16 < count {
-        return false;
-    }
-    if granule < 1 {
-        return false;
-    }
-    if clock::END_OF_TIME < clock.0 {
-        return false;
-    }
-    queued <= 32
+    1 <= count && count <= 16 && 1 <= granule && clock.0 <= clock::END_OF_TIME && queued <= 32
 }
 
 // One who waits for a subprogram waits for one of 0 to 7; one who waits for a message, for one of the tasks' or any.
@@ -44,64 +32,34 @@ pub fn awaits_in_range(s: State, count: u8) -> bool
 pub fn numbers_in_range(e: Task, count: u8) -> bool
     ensures { result ≡ numbers_in_range count e }
 {
-    if 15 < e.own {
-        return false;
-    }
-    if 15 < e.priority {
-        return false;
-    }
-    let s = e.state;
-    awaits_in_range(s, count)
+    e.own <= 15 && e.priority <= 15 && awaits_in_range(e.state, count)
 }
 
 pub fn entry_in_range(e: Task, count: u8) -> bool
     ensures { result ≡ entry_in_range count e }
 {
-    if !numbers_in_range(e, count) {
-        return false;
-    }
-    e.end_waiter.0 <= count
+    numbers_in_range(e, count) && e.end_waiter.0 <= count
 }
 
 // Zeros but for the own priority and the state.
 pub fn is_zero(e: Task) -> bool
     ensures { result ≡ is_zero e }
 {
-    if e.priority != 0 {
-        return false;
-    }
-    if e.argument != 0 {
-        return false;
-    }
-    if e.start.0 != 0 {
-        return false;
-    }
-    e.end_waiter.0 == 0
+    e.priority == 0 && e.argument == 0 && e.start.0 == 0 && e.end_waiter.0 == 0
 }
 
 // An entry past the task count.
 pub fn is_blank(e: Task) -> bool
     ensures { result ≡ is_blank e }
 {
-    let s = e.state;
-    if !states::is_dormant(s) {
-        return false;
-    }
-    if e.own != 0 {
-        return false;
-    }
-    is_zero(e)
+    states::is_dormant(e.state) && e.own == 0 && is_zero(e)
 }
 
 // A dormant task holds zeros but for its own priority.
 pub fn dormant_entry_right(e: Task) -> bool
     ensures { result ≡ dormant_entry_right e }
 {
-    let s = e.state;
-    if !states::is_dormant(s) {
-        return true;
-    }
-    is_zero(e)
+    !states::is_dormant(e.state) || is_zero(e)
 }
 
 // A stored time is after the clock and at most the longest interval after it.
@@ -114,23 +72,15 @@ pub fn is_stored(at: Millis, now: Millis) -> bool
 pub fn is_timely(s: State, now: Millis) -> bool
     ensures { result ≡ is_timely now.0 s }
 {
-    if !states::has_time(s) {
-        return true;
-    }
-    let at = states::time_of(s);
-    is_stored(at, now)
+    !states::has_time(s) || is_stored(states::time_of(s), now)
 }
 
 // A wait mask is nonzero and its condition is false.
 pub fn is_unmet(s: State, flags: u32) -> bool
     ensures { result ≡ is_unmet flags s }
 {
-    if !states::has_mask(s) {
-        return true;
-    }
-    let mode = states::wait_mode(s);
     let mask = states::mask_of(s);
-    0 < mask && !flags::is_met(flags, mode, mask)
+    !states::has_mask(s) || 0 < mask && !flags::is_met(flags, states::wait_mode(s), mask)
 }
 
 // The rules on one entry alone: its numbers, its stored time, its last scheduled start, its wait mask, its zeros
@@ -138,140 +88,74 @@ pub fn is_unmet(s: State, flags: u32) -> bool
 pub fn entry_right(e: Task, count: u8, now: Millis, flags: u32) -> bool
     ensures { result ≡ entry_right count now.0 flags e }
 {
-    let s = e.state;
-    if !entry_in_range(e, count) {
-        return false;
-    }
-    if !is_timely(s, now) {
-        return false;
-    }
-    if now.0 < e.start.0 {
-        return false;
-    }
-    if !is_unmet(s, flags) {
-        return false;
-    }
-    dormant_entry_right(e)
+    entry_in_range(e, count)
+        && is_timely(e.state, now)
+        && e.start.0 <= now.0
+        && is_unmet(e.state, flags)
+        && dormant_entry_right(e)
 }
 
 pub fn request_in_range(q: Request, count: u8) -> bool
     ensures { result ≡ request_in_range count q }
 {
-    if 15 < q.priority {
-        return false;
-    }
-    if count < q.target.0 {
-        return false;
-    }
-    if count < q.start_waiter.0 {
-        return false;
-    }
-    q.end_waiter.0 <= count
+    q.priority <= 15 && q.target.0 <= count && q.start_waiter.0 <= count && q.end_waiter.0 <= count
 }
 
 // A request's waiter is not its target, and there are not two of them.
 pub fn names_others(q: Request) -> bool
     ensures { result ≡ names_others q }
 {
-    if q.target.0 == q.start_waiter.0 {
-        return false;
-    }
-    if q.target.0 == q.end_waiter.0 {
-        return false;
-    }
-    if q.start_waiter.0 == 0 {
-        return true;
-    }
-    q.end_waiter.0 == 0
+    q.target.0 != q.start_waiter.0
+        && q.target.0 != q.end_waiter.0
+        && (q.start_waiter.0 == 0 || q.end_waiter.0 == 0)
 }
 
 pub fn is_free(q: Request) -> bool
     ensures { result ≡ is_free q }
 {
-    if q.target.0 != 0 {
-        return false;
-    }
-    if q.priority != 0 {
-        return false;
-    }
-    if q.argument != 0 {
-        return false;
-    }
-    if q.start_waiter.0 != 0 {
-        return false;
-    }
-    q.end_waiter.0 == 0
+    q.target.0 == 0
+        && q.priority == 0
+        && q.argument == 0
+        && q.start_waiter.0 == 0
+        && q.end_waiter.0 == 0
 }
 
 // The rules on one request alone: its numbers and its waiter.
 pub fn request_fits(q: Request, count: u8) -> bool
     ensures { result ≡ request_fits count q }
 {
-    if !request_in_range(q, count) {
-        return false;
-    }
-    names_others(q)
+    request_in_range(q, count) && names_others(q)
 }
 
 // An alarm that is running has a stored time.
 pub fn alarm_right(a: Millis, now: Millis) -> bool
     ensures { result ≡ alarm_right now.0 a }
 {
-    if a.0 == 0 {
-        return true;
-    }
-    is_stored(a, now)
+    a.0 == 0 || is_stored(a, now)
 }
 
 // A waiting message's addressee and sender are tasks, and its priority is in range.
 pub fn message_in_range(m: Message, count: u8) -> bool
     ensures { result ≡ message_in_range count m }
 {
-    if m.to.0 == 0 {
-        return false;
-    }
-    if count < m.to.0 {
-        return false;
-    }
-    if m.sender.0 == 0 {
-        return false;
-    }
-    if count < m.sender.0 {
-        return false;
-    }
-    m.priority <= 15
+    0 < m.to.0 && m.to.0 <= count && 0 < m.sender.0 && m.sender.0 <= count && m.priority <= 15
 }
 
 pub fn is_no_message(m: Message) -> bool
     ensures { result ≡ is_no_message m }
 {
-    if m.to.0 != 0 {
-        return false;
-    }
-    if m.sender.0 != 0 {
-        return false;
-    }
-    if m.priority != 0 {
-        return false;
-    }
-    m.text.0 == 0
+    m.to.0 == 0 && m.sender.0 == 0 && m.priority == 0 && m.text.0 == 0
 }
 
 pub fn is_no_mail(x: Mail) -> bool
     ensures { result ≡ is_no_mail x }
 {
-    if x.sender.0 != 0 {
-        return false;
-    }
-    x.text.0 == 0
+    x.sender.0 == 0 && x.text.0 == 0
 }
 
 // No message stands in a dormant task's entry.
 pub fn is_emptied(s: State, x: Mail) -> bool
     ensures { result ≡ is_emptied s x }
 {
-    if !states::is_dormant(s) {
-        return true;
-    }
-    is_no_mail(x)
+    !states::is_dormant(s) || is_no_mail(x)
 }

@@ -35,10 +35,8 @@ pub fn kind_of(s: State) -> u8
         State::Ready => READY,
         State::Paused(_) => PAUSED,
         State::Due(_) => DUE,
-        State::Flags(mode, _) => match mode {
-            Mode::Any => AWAIT_ANY,
-            Mode::All => AWAIT_ALL,
-        },
+        State::Flags(Mode::Any, _) => AWAIT_ANY,
+        State::Flags(Mode::All, _) => AWAIT_ALL,
         State::AwaitStart => AWAIT_START,
         State::AwaitEnd => AWAIT_END,
         State::AwaitSub(_) => AWAIT_SUB,
@@ -51,15 +49,8 @@ pub fn time_of(s: State) -> Millis
     ensures { TimeIs s result }
 {
     match s {
-        State::Paused(at) => at,
-        State::Due(at) => at,
-        State::Dormant => Millis(0),
-        State::Ready => Millis(0),
-        State::Flags(_, _) => Millis(0),
-        State::AwaitStart => Millis(0),
-        State::AwaitEnd => Millis(0),
-        State::AwaitSub(_) => Millis(0),
-        State::AwaitMessage(_) => Millis(0),
+        State::Paused(at) | State::Due(at) => at,
+        _ => Millis(0),
     }
 }
 
@@ -69,14 +60,7 @@ pub fn mask_of(s: State) -> u32
 {
     match s {
         State::Flags(_, mask) => mask,
-        State::Dormant => 0,
-        State::Ready => 0,
-        State::Paused(_) => 0,
-        State::Due(_) => 0,
-        State::AwaitStart => 0,
-        State::AwaitEnd => 0,
-        State::AwaitSub(_) => 0,
-        State::AwaitMessage(_) => 0,
+        _ => 0,
     }
 }
 
@@ -88,13 +72,7 @@ pub fn awaited_of(s: State) -> u8
     match s {
         State::AwaitSub(m) => m.0,
         State::AwaitMessage(k) => k.0,
-        State::Dormant => 0,
-        State::Ready => 0,
-        State::Paused(_) => 0,
-        State::Due(_) => 0,
-        State::Flags(_, _) => 0,
-        State::AwaitStart => 0,
-        State::AwaitEnd => 0,
+        _ => 0,
     }
 }
 

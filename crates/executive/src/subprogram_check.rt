@@ -8,29 +8,23 @@ use crate::{State, Sub, Task, places, queue_check, states};
 
 // All numbers of a subprogram, put together with those before: 0 exactly where they are 0, and so it is free and nobody
 // waits. It stops at none of them, so that the compiler can take many at a time.
-fn with_all(before: u8, s: Sub) -> u8
-    ensures { eqb result 0 ≡ (eqb before 0 and is_free_sub s) }
+fn with_all(before: u8, s: &Sub) -> u8
+    ensures { eqb result 0 ≡ (eqb before 0 and is_free_sub s.now) }
 {
-    let line = s.line;
     let mut all = before | s.holder.0 | s.waiting;
-    let mut i: usize = 0;
-    while i < 16 {
-        all = all | line[i].0;
-        i += 1;
+    for k in &s.line {
+        all |= k.0;
     }
     all
 }
 
 // All are free, and nobody waits for one: one pass over their bytes.
-fn all_free(subs: [Sub; 8]) -> bool
-    ensures { result ≡ all_of is_free_sub subs }
+fn all_free(subs: &[Sub; 8]) -> bool
+    ensures { result ≡ all_of is_free_sub subs.now }
 {
     let mut all: u8 = 0;
-    let mut i: usize = 0;
-    while i < 8 {
-        let s = subs[i];
+    for s in subs {
         all = with_all(all, s);
-        i += 1;
     }
     all == 0
 }
@@ -57,71 +51,57 @@ fn still_none(none: bool, s: State, k: u8, count: u8) -> bool
 
 // None of the tasks 1 to count waits for one of them. All sixteen entries are passed, so that the compiler reads them
 // where they lie.
-fn none_waits(tasks: [Task; 16], count: u8) -> bool
+fn none_waits(tasks: &[Task; 16], count: u8) -> bool
     requires { count ≤ 16 }
-    ensures { result ≡ up_to (waits_for_none tasks) count }
+    ensures { result ≡ up_to (waits_for_none tasks.now) count }
 {
     let mut none = true;
-    let mut k: u8 = 0;
-    while k < 16 {
-        let e = tasks[k as usize];
-        let s = e.state;
-        none = still_none(none, s, k, count);
-        k += 1;
+    for k in 0..16 {
+        none = still_none(none, tasks[k as usize].state, k, count);
     }
     none
 }
 
 // A holder is busy; a free one has no waiters.
-fn holder_right(tasks: [Task; 16], s: Sub) -> bool
-    ensures { result ≡ holder_right tasks s }
+fn holder_right(tasks: &[Task; 16], s: &Sub) -> bool
+    ensures { result ≡ holder_right tasks.now s.now }
 {
     if s.holder.0 == 0 {
         return s.waiting == 0;
     }
-    let e = places::task_at(tasks, s.holder);
+    let e = places::task_at(*tasks, s.holder);
     let state = e.state;
     !states::is_dormant(state)
 }
 
 // Subprogram m: its numbers are in range, and it keeps the rule.
-fn sub_right(tasks: [Task; 16], s: Sub, m: u8, count: u8) -> bool
+fn sub_right(tasks: &[Task; 16], s: &Sub, m: u8, count: u8) -> bool
     requires { count ≤ 16 }
-    ensures { result ≡ (sub_in_range count s and sub_right tasks count m s) }
+    ensures { result ≡ (sub_in_range count s.now and sub_right tasks.now count m s.now) }
 {
-    if count < s.holder.0 {
-        return false;
-    }
-    if 16 < s.waiting {
-        return false;
-    }
-    if !holder_right(tasks, s) {
-        return false;
-    }
-    let line = s.line;
-    queue_check::waiting_right(tasks, line, s.waiting as usize, count, m)
+    s.holder.0 <= count
+        && s.waiting <= 16
+        && holder_right(tasks, s)
+        && queue_check::waiting_right(tasks, &s.line, s.waiting as usize, count, m)
 }
 
 // Each subprogram keeps its rules.
-fn each_right(tasks: [Task; 16], subs: [Sub; 8], count: u8) -> bool
+fn each_right(tasks: &[Task; 16], subs: &[Sub; 8], count: u8) -> bool
     requires { count ≤ 16 }
-    ensures { result ≡ held_right tasks count subs }
+    ensures { result ≡ held_right tasks.now count subs.now }
 {
-    let mut m: u8 = 0;
-    while m < 8 {
-        let s = subs[m as usize];
-        if !sub_right(tasks, s, m, count) {
+    for m in 0..8 {
+        if !sub_right(tasks, &subs[m as usize], m, count) {
             return false;
         }
-        m += 1;
     }
     true
 }
 
 // The subprograms keep their rules. Where all are free and nobody waits there is nothing to count.
-pub(crate) fn subs_right(tasks: [Task; 16], subs: [Sub; 8], count: u8) -> bool
+pub(crate) fn subs_right(tasks: &[Task; 16], subs: &[Sub; 8], count: u8) -> bool
     requires { count ≤ 16 }
-    ensures { result ≡ held_right tasks count subs }
+    ensures { result ≡ held_right tasks.now count subs.now }
 {
     if all_free(subs) {
         return none_waits(tasks, count);

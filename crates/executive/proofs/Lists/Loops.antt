@@ -3,7 +3,7 @@ use Prim.Native.Nat.{ℕ, zero, suc, ◌+◌, ◌-◌, ◌≤◌, ◌<◌}
 use mathlib.Core.Path.{◌≡◌, refl, ap, ◌∙◌}
 use mathlib.Core.Bool.{Bool, true, false, cond}
 use mathlib.Core.Logic.{⊎_elim, ◌≢◌}
-use mathlib.Core.List.{List, [], ◌∷◌}
+use mathlib.Core.List.{List, [], ◌∷◌, ◌++◌}
 use native.Mathlib.Omega.{arith}
 use native.Mathlib.Nat.{eq-or-lt_of_le}
 use native.Mathlib.Numerals.{add-one}
@@ -11,29 +11,16 @@ use lib.Dec.{eqb, ltb}
 use lib.ListN.{length, take, drop, get_or, set, length-set, length-drop, replicate, drop_of_length-le, get_or-eq_default}
 use borrow.Author.Tests.{eqb-true, eqb-false, ne_eqb, ltb-true, ltb-false}
 use Rattle.records.specs.declared.TaskNo.{TaskNo}
-use lib.Seq.{length-take-le, get_or-take, drop-cons, get_or-set_same, get_or-set_other}
+use lib.Seq.{length-take-le, get_or-take, drop-cons, take-suc, get_or-set_same, get_or-set_other}
 use Rattle.executive.specs.Lists.{one, sum_of, up_to, all_of, each}
 use Rattle.executive.specs.Places.{nobody, entry_place}
 use Rattle.executive.specs.Check.{Tallies}
+use Rattle.std.proofs.Common.{length-append}
+use Rattle.executive.proofs.Lists.Sums.{sum-snoc}
 
 pub one-le : (b : Bool) → one b ≤ 1
 one-le true = omega arith
 one-le false = omega arith
-
--- the sum of the last of the first n, one more at a time
-module _ {A : Type 0} (f : A → ℕ) (d : A) (p : List A) (n : ℕ) (hn : n ≤ length p) where
-  pub tally_start : 0 ≡ sum_of f (drop n (take n p))
-  unfolding sum_of
-  tally_start = rw (drop_of_length-le (take n p) {i = n} (rw (length-take-le n p hn) (omega arith))) refl
-
-  pub tally_turn : (i c : ℕ) → 0 < i → i ≤ n → c ≡ sum_of f (drop i (take n p)) → f (get_or p (i - 1) d) + c ≡ sum_of f (drop (i - 1) (take n p))
-  unfolding sum_of
-  tally_turn i c h l e =
-      let m : length (take n p) ≡ n = length-take-le n p hn in
-      let s : suc (i - 1) ≡ i = omega arith in
-      let x : drop (i - 1) (take n p) ≡ get_or p (i - 1) d ∷ drop i (take n p) =
-      drop-cons (take n p) (i - 1) d (omega arith) ∙ rw (get_or-take n p (i - 1) d (omega arith), s) refl in
-      rw (x, e) refl
 
 stuck : (b : Bool) → cond b false false ≡ false
 stuck true = refl
@@ -148,33 +135,25 @@ zeros zero j = refl
 zeros (suc n) zero = refl
 zeros (suc n) (suc j) = zeros n j
 
-tally_more : (c : List ℕ) (x : TaskNo) (xs : List TaskNo) → Tallying c xs → Tallying (more c x.0) (x ∷ xs)
-unfolding sum_of
+tally_more : (c : List ℕ) (x : TaskNo) (xs : List TaskNo) → Tallying c xs → Tallying (more c x.0) (xs ++ (x ∷ []))
 tally_more c x xs t =
     record {
       told = record {
         sized = length-set c (entry_place x.0) (get_or c (entry_place x.0) 0 + 1) ∙ t.told.sized;
-        counts = λ j h. more-counts c x.0 j t.told.sized h ∙ ap (λ (m : ℕ). one (eqb (suc j) x.0) + m) (t.told.counts j h);
+        counts = λ j h. more-counts c x.0 j t.told.sized h ∙ omega (arith, t.told.counts j h, sum-snoc (λ (y : TaskNo). one (eqb (suc j) y.0)) xs x);
       };
-      low = λ j. more-low c (entry_place x.0) j (length xs) (t.low (entry_place x.0)) (t.low j);
+      low = λ j. let l : length (xs ++ (x ∷ [])) ≡ suc (length xs) = omega (arith, length-append xs (x ∷ [])) in rw l (more-low c (entry_place x.0) j (length xs) (t.low (entry_place x.0)) (t.low j));
     }
 
--- the loop that tallies the first n of a line, from the back
-module _ (q : List TaskNo) (n : ℕ) (h : n ≤ length q) where
-  pub line_first : Tallying (replicate 17 0) (drop n (take n q))
-  unfolding sum_of
-  line_first = rw (drop_of_length-le (take n q) {i = n} (rw (length-take-le n q h) (omega arith))) (record { told = record { sized = refl; counts = λ j l. zeros 17 j }; low = λ j. omega (arith, zeros 17 j) })
+-- none yet, and the next of a line
+pub tally-none : Tallying (replicate 17 0) []
+unfolding sum_of
+tally-none = record { told = record { sized = refl; counts = λ j l. zeros 17 j }; low = λ j. omega (arith, zeros 17 j) }
 
-  pub line_low : (i : ℕ) (c : List ℕ) → Tallying c (drop i (take n q)) → (j : ℕ) → get_or c j 0 ≤ n
-  line_low i c t j = omega (arith, t.low j, length-drop i (take n q), length-take-le n q h)
-
-  pub line-turn : (i : ℕ) (c : List ℕ) → 0 < i → i ≤ n → Tallying c (drop i (take n q)) → Tallying (more c (get_or q (i - 1) nobody).0) (drop (i - 1) (take n q))
-  line-turn i c g l t =
-      let m : length (take n q) ≡ n = length-take-le n q h in
-      let z : suc (i - 1) ≡ i = omega arith in
-      let x : drop (i - 1) (take n q) ≡ get_or q (i - 1) nobody ∷ drop i (take n q) =
-      drop-cons (take n q) (i - 1) nobody (omega arith) ∙ rw (get_or-take n q (i - 1) nobody (omega arith), z) refl in
-      rw x (tally_more c (get_or q (i - 1) nobody) (drop i (take n q)) t)
+pub tally-next : (q : List TaskNo) (i : ℕ) (c : List ℕ) → i < length q → Tallying c (take i q) → Tallying (more c (get_or q i nobody).0) (take (i + 1) q)
+tally-next q i c h t =
+    let e : take (i + 1) q ≡ take i q ++ (get_or q i nobody ∷ []) = rw add-one (take-suc q i nobody h) in
+    rw e (tally_more c (get_or q i nobody) (take i q) t)
 
 -- ---- a loop that takes a step for each number from k up to e - 1: what is left to do gives the whole
 module _ {A : Type 0} (f : A → ℕ → A) (e k : ℕ) (a : A) where

@@ -35,54 +35,83 @@ task-place n k h = go k.0
         near true l = refl
         near false l = let g = ltb-false i 16 l in le-ltb i n (omega arith) ∙ sym (le-ltb 16 n h)
 
--- the turns of the loop, over the first r places
+-- the turns of the loop over a line
+module _ (ts : List Task) (n : ℕ) (xs : List TaskNo) (i p : ℕ) where
+  opened : i < length xs → drop i xs ≡ get_or xs i nobody ∷ drop (i + 1) xs
+  opened h = drop-cons xs i nobody h ∙ rw add-one refl
+
+  -- the next in the line, k being its place
+  module _ (h : i < length xs) (hn : n ≤ 16) (ht : length ts ≡ 16) (k : ℕ) (e : k ≡ entry_place (get_or xs i nobody).0) where
+    entry : get_or ts k no_task ≡ task_at ts (get_or xs i nobody).0
+    entry = rw e (sym (at_place ts ht (get_or xs i nobody).0))
+
+    within : (b : Bool) → ltb k n ≡ b → is_task n (get_or xs i nobody) ≡ b
+    within b l = task-place n (get_or xs i nobody) hn ∙ rw e at l
+
+    pub line-off : n ≤ k → falls ts n p (drop i xs) ≡ false
+    unfolding falls
+    line-off l = rw (opened h, within false (le-ltb k n l)) refl
+
+    pub line-over : k < n → p < (get_or ts k no_task).priority → falls ts n p (drop i xs) ≡ false
+    unfolding falls
+    line-over l o = rw (opened h, within true (lt-ltb k n l), ← entry, lt-leb (get_or ts k no_task).priority p o) refl
+
+    pub line-turn : k < n → (get_or ts k no_task).priority ≤ p → falls ts n (get_or ts k no_task).priority (drop (i + 1) xs) ≡ falls ts n p (drop i xs)
+    unfolding falls
+    line-turn l o = rw (opened h, within true (lt-ltb k n l), ← entry, le-leb (get_or ts k no_task).priority p o) refl
+
+    pub entry-level : (get_or ts k no_task).priority ≡ (task_at ts (get_or xs i nobody).0).priority
+    entry-level = ap (λ (t : Task). t.priority) entry
+
+  pub line-end : length xs ≤ i → falls ts n p (drop i xs) ≡ true
+  unfolding falls
+  line-end h = rw (drop_of_length-le xs {i = i} h) refl
+
+-- the word so far, and that of those who are left
+module _ (ts : List Task) (xs ys : List TaskNo) (i w : ℕ) where
+  pub word-turn : (x : ℕ) → i < length xs → x ≡ (task_at ts (get_or xs i nobody).0).priority → levels_of (items ts ys) ≡ bit_or w (levels_of (items ts (drop i xs)))
+      → levels_of (items ts ys) ≡ bit_or (bit_or w (level_bit x)) (levels_of (items ts (drop (i + 1) xs)))
+  unfolding levels_of items
+  word-turn x h f g =
+      g
+      ∙ ap (λ (l : List TaskNo). bit_or w (levels_of (items ts l))) (opened ts 0 xs i 0 h)
+      ∙ sym (or_assoc w (level_bit (task_at ts (get_or xs i nobody).0).priority) (levels_of (items ts (drop (i + 1) xs))))
+      ∙ ap (λ (y : ℕ). bit_or (bit_or w (level_bit y)) (levels_of (items ts (drop (i + 1) xs)))) (sym f)
+
+  pub word-end : length xs ≤ i → levels_of (items ts ys) ≡ bit_or w (levels_of (items ts (drop i xs))) → w ≡ levels_of (items ts ys)
+  unfolding levels_of items
+  word-end h g = sym (g ∙ ap (λ (l : List TaskNo). bit_or w (levels_of (items ts l))) (drop_of_length-le xs {i = i} h) ∙ or_zero_r w)
+
+-- the same over the first r places of an array
 module _ (ts : List Task) (n : ℕ) (q : List TaskNo) (r : ℕ) (hr : r ≤ length q) (i p : ℕ) where
-  opened : i < r → drop i (take r q) ≡ get_or q i nobody ∷ drop (i + 1) (take r q)
-  opened h =
-      let m : length (take r q) ≡ r = length-take-le r q hr in
-      drop-cons (take r q) i nobody (omega arith) ∙ rw (get_or-take r q i nobody h, add-one) refl
+  here : i < r → i < length (take r q)
+  here h = rw (length-take-le r q hr) h
 
-  -- the next in the queue, k being its place
+  past : r ≤ i → length (take r q) ≤ i
+  past h = rw (length-take-le r q hr) h
+
   module _ (h : i < r) (hn : n ≤ 16) (ht : length ts ≡ 16) (k : ℕ) (e : k ≡ entry_place (get_or q i nobody).0) where
-    entry : get_or ts k no_task ≡ task_at ts (get_or q i nobody).0
-    entry = rw e (sym (at_place ts ht (get_or q i nobody).0))
-
-    within : (b : Bool) → ltb k n ≡ b → is_task n (get_or q i nobody) ≡ b
-    within b l = task-place n (get_or q i nobody) hn ∙ rw e at l
+    there : k ≡ entry_place (get_or (take r q) i nobody).0
+    there = rw (get_or-take r q i nobody h) e
 
     pub falls-off : n ≤ k → falls ts n p (drop i (take r q)) ≡ false
-    unfolding falls
-    falls-off l = rw (opened h, within false (le-ltb k n l)) refl
+    falls-off = line-off ts n (take r q) i p (here h) hn ht k there
 
     pub falls-over : k < n → p < (get_or ts k no_task).priority → falls ts n p (drop i (take r q)) ≡ false
-    unfolding falls
-    falls-over l o = rw (opened h, within true (lt-ltb k n l), ← entry, lt-leb (get_or ts k no_task).priority p o) refl
+    falls-over = line-over ts n (take r q) i p (here h) hn ht k there
 
     pub falls-turn : k < n → (get_or ts k no_task).priority ≤ p → falls ts n (get_or ts k no_task).priority (drop (i + 1) (take r q)) ≡ falls ts n p (drop i (take r q))
-    unfolding falls
-    falls-turn l o = rw (opened h, within true (lt-ltb k n l), ← entry, le-leb (get_or ts k no_task).priority p o) refl
+    falls-turn = line-turn ts n (take r q) i p (here h) hn ht k there
 
-    -- the word so far, and that of those who are left
     pub word_on : (w x : ℕ) → x ≡ (get_or ts k no_task).priority → levels_of (items ts (take r q)) ≡ bit_or w (levels_of (items ts (drop i (take r q))))
         → levels_of (items ts (take r q)) ≡ bit_or (bit_or w (level_bit x)) (levels_of (items ts (drop (i + 1) (take r q))))
-    unfolding levels_of items
-    word_on w x f g =
-        g
-        ∙ ap (λ (xs : List TaskNo). bit_or w (levels_of (items ts xs))) (opened h)
-        ∙ sym (or_assoc w (level_bit (task_at ts (get_or q i nobody).0).priority) (levels_of (items ts (drop (i + 1) (take r q)))))
-        ∙ ap (λ (y : ℕ). bit_or (bit_or w (level_bit y)) (levels_of (items ts (drop (i + 1) (take r q))))) (sym (f ∙ ap (λ (e : Task). e.priority) entry))
+    word_on w x f = word-turn ts (take r q) (take r q) i w x (here h) (f ∙ entry-level ts n (take r q) i p (here h) hn ht k there)
 
   pub word_end : (w : ℕ) → r ≤ i → levels_of (items ts (take r q)) ≡ bit_or w (levels_of (items ts (drop i (take r q)))) → w ≡ levels_of (items ts (take r q))
-  unfolding levels_of items
-  word_end w h g =
-      let m : length (take r q) ≡ r = length-take-le r q hr in
-      sym (g ∙ ap (λ (xs : List TaskNo). bit_or w (levels_of (items ts xs))) (drop_of_length-le (take r q) {i = i} (omega arith)) ∙ or_zero_r w)
+  word_end w h = word-end ts (take r q) (take r q) i w (past h)
 
   pub falls-end : r ≤ i → falls ts n p (drop i (take r q)) ≡ true
-  unfolding falls
-  falls-end h =
-      let m : length (take r q) ≡ r = length-take-le r q hr in
-      rw (drop_of_length-le (take r q) {i = i} (omega arith)) refl
+  falls-end h = line-end ts n (take r q) i p (past h)
 
 -- the tests in the code's order are the same test
 pub lit-order : (z a f x e : Bool) → (z and (a and ((f and e) and x))) ≡ ((z and (a and (f and x))) and e)

@@ -29,34 +29,58 @@ use Rattle.executive.proofs.Lists.Loops.{both, all-get, all_make, every_get, eve
 use Rattle.executive.proofs.states.Laws.{dormant-is}
 use Rattle.executive.proofs.check.Blanks.{blank-pad, pad-blank}
 
--- ---- one pass over those that wait, the first n of p, none over priority u
-module _ (ts : List Task) (k u : ℕ) (p : List Message) (n : ℕ) (hn : n ≤ length p) (i : ℕ) where
-  right-turn : i < n → letters_right ts k u (drop i (take n p))
-      ≡ cond (message_in_range k (get_or p i no_message)) (cond (leb (get_or p i no_message).priority u)
-      (cond (is_untaken ts (get_or p i no_message)) (letters_right ts k (get_or p i no_message).priority (drop (suc i) (take n p))) false) false) false
+-- ---- one pass over those that wait, none over priority u
+module _ (ts : List Task) (k u : ℕ) (xs : List Message) (i : ℕ) where
+  letters-turn : i < length xs → letters_right ts k u (drop i xs)
+      ≡ cond (message_in_range k (get_or xs i no_message)) (cond (leb (get_or xs i no_message).priority u)
+      (cond (is_untaken ts (get_or xs i no_message)) (letters_right ts k (get_or xs i no_message).priority (drop (suc i) xs)) false) false) false
   unfolding letters_right
-  right-turn h = rw (drop-cons (take n p) i no_message (rw (length-take-le n p hn) h), get_or-take n p i no_message h) refl
+  letters-turn h = rw (drop-cons xs i no_message h) refl
 
   -- past the last; one out of range; one of a higher priority; one that its addressee takes; on to the next
-  pub right-over : n ≤ i → letters_right ts k u (drop i (take n p)) ≡ true
+  pub letters-over : length xs ≤ i → letters_right ts k u (drop i xs) ≡ true
   unfolding letters_right
-  right-over h = rw (drop_of_length-le (take n p) {i = i} (rw (length-take-le n p hn) h)) refl
+  letters-over h = rw (drop_of_length-le xs {i = i} h) refl
+
+  pub letters-out : i < length xs → message_in_range k (get_or xs i no_message) ≡ false → letters_right ts k u (drop i xs) ≡ false
+  letters-out h e = letters-turn h ∙ rw e refl
+
+  pub letters-high : i < length xs → message_in_range k (get_or xs i no_message) ≡ true → u < (get_or xs i no_message).priority
+      → letters_right ts k u (drop i xs) ≡ false
+  letters-high h e f = letters-turn h ∙ rw (e, lt-leb _ _ f) refl
+
+  pub letters-taken : i < length xs → message_in_range k (get_or xs i no_message) ≡ true → (get_or xs i no_message).priority ≤ u
+      → is_untaken ts (get_or xs i no_message) ≡ false → letters_right ts k u (drop i xs) ≡ false
+  letters-taken h e f g = letters-turn h ∙ rw (e, le-leb _ _ f, g) refl
+
+  pub letters-on : i < length xs → message_in_range k (get_or xs i no_message) ≡ true → (get_or xs i no_message).priority ≤ u
+      → is_untaken ts (get_or xs i no_message) ≡ true
+      → letters_right ts k (get_or xs i no_message).priority (drop (i + 1) xs) ≡ letters_right ts k u (drop i xs)
+  letters-on h e f g = rw add-one (sym (letters-turn h ∙ rw (e, le-leb _ _ f, g) refl))
+
+-- the same over the first n places of an array
+module _ (ts : List Task) (k u : ℕ) (p : List Message) (n : ℕ) (hn : n ≤ length p) (i : ℕ) where
+  here : i < n → i < length (take n p)
+  here h = rw (length-take-le n p hn) h
+
+  pub right-over : n ≤ i → letters_right ts k u (drop i (take n p)) ≡ true
+  right-over h = letters-over ts k u (take n p) i (rw (length-take-le n p hn) h)
 
   pub right-out : i < n → message_in_range k (get_or p i no_message) ≡ false → letters_right ts k u (drop i (take n p)) ≡ false
-  right-out h e = right-turn h ∙ rw e refl
+  right-out h = rw (← get_or-take n p i no_message h) (letters-out ts k u (take n p) i (here h))
 
   pub right-high : i < n → message_in_range k (get_or p i no_message) ≡ true → u < (get_or p i no_message).priority
       → letters_right ts k u (drop i (take n p)) ≡ false
-  right-high h e f = right-turn h ∙ rw (e, lt-leb _ _ f) refl
+  right-high h = rw (← get_or-take n p i no_message h) (letters-high ts k u (take n p) i (here h))
 
   pub right-taken : i < n → message_in_range k (get_or p i no_message) ≡ true → (get_or p i no_message).priority ≤ u
       → is_untaken ts (get_or p i no_message) ≡ false → letters_right ts k u (drop i (take n p)) ≡ false
-  right-taken h e f g = right-turn h ∙ rw (e, le-leb _ _ f, g) refl
+  right-taken h = rw (← get_or-take n p i no_message h) (letters-taken ts k u (take n p) i (here h))
 
   pub right-on : i < n → message_in_range k (get_or p i no_message) ≡ true → (get_or p i no_message).priority ≤ u
       → is_untaken ts (get_or p i no_message) ≡ true
       → letters_right ts k (get_or p i no_message).priority (drop (i + 1) (take n p)) ≡ letters_right ts k u (drop i (take n p))
-  right-on h e f g = rw add-one (sym (right-turn h ∙ rw (e, le-leb _ _ f, g) refl))
+  right-on h = rw (← get_or-take n p i no_message h) (letters-on ts k u (take n p) i (here h))
 
 -- the same as the tests one after the other
 pub in_one-pass : (ts : List Task) (n p : ℕ) (ms : List Message)

@@ -60,12 +60,12 @@ none-begun n s l =
 
 -- ---- a message: its numbers, and its text
 pub message_put : (n t : ℕ) (m : Message)
-    → (eqb (bit_or (bit_or (bit_or n m.to.0) m.sender.0) m.priority) 0 and eqb (bit_or t m.text.0) 0) ≡ ((eqb n 0 and eqb t 0) and is_no_message m)
+    → (eqb (bit_or n (bit_or (bit_or m.to.0 m.sender.0) m.priority)) 0 and eqb (bit_or t m.text.0) 0) ≡ ((eqb n 0 and eqb t 0) and is_no_message m)
 message_put n t m =
-    rw (or-none (bit_or (bit_or n m.to.0) m.sender.0) m.priority, or-none (bit_or n m.to.0) m.sender.0, or-none n m.to.0, or-none t m.text.0)
+    rw (or-none n (bit_or (bit_or m.to.0 m.sender.0) m.priority), or-none (bit_or m.to.0 m.sender.0) m.priority, or-none m.to.0 m.sender.0, or-none t m.text.0)
     (go (eqb n 0) (eqb m.to.0 0) (eqb m.sender.0 0) (eqb m.priority 0) (eqb t 0) (eqb m.text.0 0))
   where
-    go : (a b c d e f : Bool) → ((((a and b) and c) and d) and (e and f)) ≡ ((a and e) and (b and c and d and f))
+    go : (a b c d e f : Bool) → ((a and ((b and c) and d)) and (e and f)) ≡ ((a and e) and (b and c and d and f))
     go false b c d e f = refl
     go true false c d true f = refl
     go true false c d false f = refl
@@ -78,19 +78,19 @@ message_put n t m =
 
 -- ---- a request: its numbers, and its argument
 pub request_put : (n t : ℕ) (q : Request)
-    → (eqb (bit_or (bit_or (bit_or (bit_or n q.target.0) q.priority) q.start_waiter.0) q.end_waiter.0) 0 and eqb (bit_or t q.argument) 0)
+    → (eqb (bit_or n (bit_or (bit_or (bit_or q.target.0 q.priority) q.start_waiter.0) q.end_waiter.0)) 0 and eqb (bit_or t q.argument) 0)
     ≡ ((eqb n 0 and eqb t 0) and is_free q)
 request_put n t q =
     rw (
-      or-none (bit_or (bit_or (bit_or n q.target.0) q.priority) q.start_waiter.0) q.end_waiter.0,
-      or-none (bit_or (bit_or n q.target.0) q.priority) q.start_waiter.0,
-      or-none (bit_or n q.target.0) q.priority,
-      or-none n q.target.0,
+      or-none n (bit_or (bit_or (bit_or q.target.0 q.priority) q.start_waiter.0) q.end_waiter.0),
+      or-none (bit_or (bit_or q.target.0 q.priority) q.start_waiter.0) q.end_waiter.0,
+      or-none (bit_or q.target.0 q.priority) q.start_waiter.0,
+      or-none q.target.0 q.priority,
       or-none t q.argument,
     )
     (go (eqb n 0) (eqb q.target.0 0) (eqb q.priority 0) (eqb q.start_waiter.0 0) (eqb q.end_waiter.0 0) (eqb t 0) (eqb q.argument 0))
   where
-    go : (a b c d g e f : Bool) → (((((a and b) and c) and d) and g) and (e and f)) ≡ ((a and e) and (b and c and f and d and g))
+    go : (a b c d g e f : Bool) → ((a and (((b and c) and d) and g)) and (e and f)) ≡ ((a and e) and (b and c and f and d and g))
     go false b c d g e f = refl
     go true false c d g true f = refl
     go true false c d g false f = refl

@@ -1,4 +1,4 @@
--- For the code: the lamp's search turn by turn, and the word of a line place by place.
+-- For the code: the lamp's search turn by turn, from the highest bit down.
 use Prim.Native.Nat.{ℕ, zero, suc, ◌-◌, ◌^◌, ◌≤◌, ◌<◌}
 use mathlib.Core.Path.{◌≡◌, refl, sym, ap, ◌∙◌}
 use mathlib.Core.List.{List, ◌∷◌}
@@ -30,27 +30,3 @@ module _ (w : ℕ) where
   unfolding lamp_below is_set
   lamp-clear zero h l e = absurd (omega arith)
   lamp-clear (suc q) h l e = let z : suc q - 1 ≡ q = omega arith in rw (z, eq-eqb (bit_and w (2 ^ q)) 0 (sym (ap (bit_and w) (bit_is q l)) ∙ e)) refl
-
--- ---- the word of a line, from its last place to its first
--- the priority of the task x, k being its place
-module _ (ts : List Task) (l : length ts ≡ 16) (x : TaskNo) (k : ℕ) (e : k ≡ entry_place x.0) where
-  pub read-level : (get_or ts k no_task).priority ≡ (task_at ts x.0).priority
-  read-level = rw (at_place ts l x.0, ← e) refl
-
-  pub no-level : 15 < k → 0 ≡ (task_at ts x.0).priority
-  no-level h = ap (λ (t : Task). t.priority) (sym (at-no-place ts l x.0 k e h))
-
-module _ (ts : List Task) (q : List TaskNo) (n : ℕ) (h : n ≤ length q) where
-  pub word_none : 0 ≡ levels_of (items ts (drop n (take n q)))
-  unfolding levels_of items
-  word_none = rw (drop_of_length-le (take n q) {i = n} (rw (length-take-le n q h) (omega arith))) refl
-
-  pub word-turn : (i w x : ℕ) → 0 < i → i ≤ n → w ≡ levels_of (items ts (drop i (take n q))) → x ≡ (task_at ts (get_or q (i - 1) nobody).0).priority
-      → bit_or (level_bit x) w ≡ levels_of (items ts (drop (i - 1) (take n q)))
-  unfolding levels_of items
-  word-turn i w x g l e p =
-      let m : length (take n q) ≡ n = length-take-le n q h in
-      let z : suc (i - 1) ≡ i = omega arith in
-      let y : drop (i - 1) (take n q) ≡ get_or q (i - 1) nobody ∷ drop i (take n q) =
-      drop-cons (take n q) (i - 1) nobody (omega arith) ∙ rw (get_or-take n q (i - 1) nobody (omega arith), z) refl in
-      rw (y, e, p) refl

@@ -1,4 +1,4 @@
-use mathlib.Core.Path.{◌≡◌, refl, ◌∙◌}
+use mathlib.Core.Path.{◌≡◌, ◌∙◌}
 use native.Mathlib.Omega.{arith}
 use Rattle.executive.specs.Lamp.{lamp_below}
 use Rattle.executive.proofs.levels.Turns.{lamp-set, lamp-clear}
@@ -7,25 +7,16 @@ use Rattle.executive.proofs.levels.lamp.Goals as goal
 pub returns-then-levels-level_bit-ne0 : goal.returns-then-levels-level_bit-ne0
 returns-then-levels-level_bit-ne0 c =
     let v = c.loop-p in
-    lamp-set _ v.p c.loop-p-test.true v.invariant.0 (rw c.level_bit.ensures at c.if-levels-level_bit-ne0.true) ∙ v.invariant.1
+    lamp-set _ v.p c.loop-p-test.true v.auto.p (rw c.level_bit.ensures at c.if-levels-level_bit-ne0.true) ∙ v.invariant
 
 pub loop-p-preserved : goal.loop-p-preserved
 loop-p-preserved c =
     let v = c.loop-p in
-    (omega arith, lamp-clear _ v.p c.loop-p-test.true v.invariant.0 (rw c.level_bit.ensures at c.if-levels-level_bit-ne0.false) ∙ v.invariant.1)
+    lamp-clear _ v.p c.loop-p-test.true v.auto.p (rw c.level_bit.ensures at c.if-levels-level_bit-ne0.false) ∙ v.invariant
 
 pub returns : goal.returns
 unfolding lamp_below
 returns c =
     let v = c.loop-p in
     let z : v.p ≡ 0 = omega arith in
-    rw z at v.invariant.1
-
-pub loop-p-init : goal.loop-p-init
-loop-p-init c = (omega arith, refl)
-
-pub overflow_sub-p : goal.overflow_sub-p
-overflow_sub-p c = omega arith
-
-pub loop-p-smaller : goal.loop-p-smaller
-loop-p-smaller c = omega arith
+    rw z at v.invariant

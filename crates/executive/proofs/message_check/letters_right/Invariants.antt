@@ -1,11 +1,7 @@
-use Prim.Native.Nat.{◌≤◌, ◌-◌}
 use mathlib.Core.Path.{◌≡◌}
-use lib.ListN.{take, drop}
+use lib.ListN.{drop}
 use Rattle.executive.specs.Check.{letters_right}
 use Rattle.executive.proofs.message_check.letters_right.Given as goal
 
-abbrev pub invariant-loop-i : goal.invariant-loop-i
-invariant-loop-i l = (l.i ≤ l.sent) × (letters_right l.tasks l.count l.p (drop l.i (take l.sent l.messages)) ≡ letters_right l.tasks l.count 15 (take l.sent l.messages))
-
-abbrev pub decreases-loop-i : goal.decreases-loop-i
-decreases-loop-i l = l.sent - l.i
+abbrev pub invariant-loop-m : goal.invariant-loop-m
+invariant-loop-m l = letters_right l.tasks l.count l.p (drop l.m-index l.waiting) ≡ letters_right l.tasks l.count 15 l.waiting

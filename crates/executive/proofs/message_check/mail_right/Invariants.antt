@@ -1,4 +1,3 @@
-use Prim.Native.Nat.{◌≤◌, ◌-◌}
 use mathlib.Core.Path.{◌≡◌}
 use mathlib.Core.Bool.{true}
 use Rattle.executive.specs.Lists.{up_to}
@@ -6,7 +5,4 @@ use Rattle.executive.specs.Check.{mail_right_at}
 use Rattle.executive.proofs.message_check.mail_right.Given as goal
 
 abbrev pub invariant-loop-i : goal.invariant-loop-i
-invariant-loop-i l = (l.i ≤ 16) × (up_to (mail_right_at l.tasks l.count l.mail) l.i ≡ true)
-
-abbrev pub decreases-loop-i : goal.decreases-loop-i
-decreases-loop-i l = 16 - l.i
+invariant-loop-i l = up_to (mail_right_at l.tasks l.count l.mail) l.i ≡ true

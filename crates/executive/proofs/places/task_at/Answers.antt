@@ -1,11 +1,15 @@
-use mathlib.Core.Path.{sym}
+use mathlib.Core.Path.{◌≡◌, sym, ◌∙◌}
+use native.Mathlib.Omega.{arith}
+use lib.ListN.{length}
+use Rattle.executive.specs.Places.{no_task}
 use Rattle.executive.proofs.places.TaskAt.{at_place, at-no-place}
 use Rattle.executive.proofs.places.task_at.Goals as goal
 
-pub returns-then-i-gt15 : goal.returns-then-i-gt15
-returns-then-i-gt15 c =
-    sym (at-no-place c.args.tasks c.well_formed.0.1.0.1 c.args.k.0 _ c.entry_place-i.ensures c.if-i-gt15.true)
+pub returns-in-Some : goal.returns-in-Some
+returns-in-Some c =
+    c.in-Some.ensures.lookup.3.1 no_task ∙ rw c.entry_place.ensures (sym (at_place c.args.tasks c.well_formed.0.1.0.1 c.args.k.0))
 
-pub returns : goal.returns
-returns c =
-    rw c.entry_place-i.ensures (sym (at_place c.args.tasks c.well_formed.0.1.0.1 c.args.k.0))
+pub returns-in-None : goal.returns-in-None
+returns-in-None c =
+    let l : length c.args.tasks ≡ 16 = c.well_formed.0.1.0.1 in
+    sym (at-no-place c.args.tasks l c.args.k.0 _ c.entry_place.ensures (omega (arith, c.in-None.ensures.lookup)))

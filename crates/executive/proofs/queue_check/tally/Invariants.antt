@@ -1,10 +1,6 @@
-use Prim.Native.Nat.{◌≤◌}
-use lib.ListN.{take, drop}
+use lib.ListN.{take}
 use Rattle.executive.proofs.Lists.Loops.{Tallying}
 use Rattle.executive.proofs.queue_check.tally.Given as goal
 
-abbrev pub invariant-loop-i : goal.invariant-loop-i
-invariant-loop-i l = (l.i ≤ l.ready) × Tallying l.of (drop l.i (take l.ready l.queue))
-
-abbrev pub decreases-loop-i : goal.decreases-loop-i
-decreases-loop-i l = l.i
+abbrev pub invariant-loop-x : goal.invariant-loop-x
+invariant-loop-x l = Tallying l.counts (take l.x-index l.line)

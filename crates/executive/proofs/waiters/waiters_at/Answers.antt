@@ -1,43 +1,66 @@
-use Rattle.executive.proofs.Lists.Tests.{and_false_left, and_false_right, and_true_left, both_false}
-use Rattle.executive.specs.Check.{waiters_at}
-use lib.Dec.{eqb}
-use lib.ListN.{take}
-use Rattle.executive.specs.Places.{task_at}
-use Rattle.executive.specs.States.{await_start, is}
-use Rattle.executive.specs.WellFormed.{starts_of}
-use native.Mathlib.Nat.{add-zero}
+use Prim.Native.Nat.{ℕ, ◌+◌}
+use mathlib.Core.Path.{◌≡◌, refl, ◌∙◌}
+use mathlib.Core.Bool.{Bool, true, false, not}
+use mathlib.Core.List.{List}
 use borrow.Author.Tests.{eq-eqb, ne_eqb}
+use lib.Dec.{eqb}
+use mir.Val.{bool_byte}
+use Rattle.std.specs.List.{count_by}
+use Rattle.executive.specs.declared.Task.{Task}
+use Rattle.executive.specs.declared.Request.{Request}
+use Rattle.executive.specs.Lists.{one, ◌and◌}
+use Rattle.executive.specs.Places.{task_at}
+use Rattle.executive.specs.States.{await_start, await_end, is_of}
+use Rattle.executive.specs.Check.{waiters_at}
+use Rattle.executive.proofs.Lists.Chains.{count_of-is}
+use Rattle.executive.proofs.Lists.Tests.{and_false_left, and_true_left}
 use Rattle.executive.proofs.waiters.waiters_at.Goals as goal
 
-pub links_in-starts-requires : goal.links_in-starts-requires
-links_in-starts-requires c = c.requires.0
+byte-is : (b : Bool) → bool_byte b ≡ one b
+byte-is true = refl
+byte-is false = refl
 
-pub returns-then-starts-start : goal.returns-then-starts-start
-unfolding waiters_at
-returns-then-starts-start c = and_false_left _ _ (ne_eqb _ _ (rw (c.links_in-starts.ensures.1, c.plus_if-start.ensures, c.kind_of-kind.ensures, c.requires.1, add-zero) at c.if-starts-start.true))
+-- the rule, as it is counted: the requests that name task k as either waiter, the runs that do, and the task's entry
+module _ (ts : List Task) (p : List Request) (k : ℕ) (e : Task) (h : e ≡ task_at ts k) where
+  abbrev starts : ℕ
+  starts = count_by (λ (r : Request). eqb k r.start_waiter.0) p
 
-pub links_in-ends-requires : goal.links_in-ends-requires
-links_in-ends-requires c = c.requires.0
+  abbrev ends : ℕ
+  ends = count_by (λ (r : Request). eqb k r.end_waiter.0) p
 
-pub returns-then-ends-runs : goal.returns-then-ends-runs
-unfolding waiters_at
-returns-then-ends-runs c =
-    let k = c.kind_of-kind.ensures in
-    let e = c.requires.1 in
-    let one = c.plus_if-start.ensures in
-    let starts = rw (c.links_in-starts.ensures.1, one, k, e, add-zero) at c.if-starts-start.false in
-    let runs = c.runs_in-runs.ensures.1 in
-    let want = c.plus_if-end.ensures in
-    let ends = rw (c.links_in-ends.ensures.1, runs, want, k, e, add-zero) at c.if-ends-runs.true in
-    and_true_left _ _ _ (eq-eqb _ _ starts) (and_true_left _ _ _ (eq-eqb _ _ ends) (rw e))
+  abbrev runs : ℕ
+  runs = count_by (λ (t : Task). eqb k t.end_waiter.0) ts
 
-pub returns-else-ends-runs : goal.returns-else-ends-runs
-unfolding waiters_at
-returns-else-ends-runs c =
-    let k = c.kind_of-kind.ensures in
-    let a = c.args in
-    let starts = eqb (starts_of a.k.0 (take a.queued a.pool)) (is await_start (task_at a.tasks a.k.0).state) in
-    let runs = c.runs_in-runs.ensures.1 in
-    let want = c.plus_if-end.ensures in
-    let ends = rw (c.links_in-ends.ensures.1, runs, want, k, c.requires.1, add-zero) at c.if-ends-runs.false in
-    both_false (ne_eqb _ _ c.if-ends-runs.false) (and_false_right starts _ (and_false_left _ _ (ne_eqb _ _ ends)))
+  counted : (s f g : ℕ) (x y : Bool) → s ≡ starts → f ≡ ends → g ≡ runs → x ≡ is_of await_start e.state → y ≡ is_of await_end e.state
+      → (eqb s (bool_byte x) and eqb (f + g) (bool_byte y) and not (eqb k e.end_waiter.0)) ≡ waiters_at ts p k
+  unfolding waiters_at
+  counted s f g x y a b c u v =
+      rw (
+        a,
+        b,
+        c,
+        byte-is x,
+        byte-is y,
+        u,
+        v,
+        h,
+        count_of-is (λ (r : Request). eqb k r.start_waiter.0) p,
+        count_of-is (λ (r : Request). eqb k r.end_waiter.0) p,
+        count_of-is (λ (t : Task). eqb k t.end_waiter.0) ts,
+      ) refl
+
+pub returns-then-starts-is_of : goal.returns-then-starts-is_of
+returns-then-starts-is_of c =
+    and_false_left _ _ (ne_eqb _ _ c.if-starts-is_of.true)
+    ∙ counted c.args.tasks.now c.args.asked.now c.args.k.0 c.args.e c.requires _ _ _ _ _ c.starts_of-starts.ensures refl refl c.is_of.ensures refl
+
+pub returns-then-ends-is_of : goal.returns-then-ends-is_of
+returns-then-ends-is_of c =
+    and_true_left _ _ _ (eq-eqb _ _ c.if-starts-is_of.false) (and_true_left _ _ _ (eq-eqb _ _ c.if-ends-is_of.true) refl)
+    ∙ counted c.args.tasks.now c.args.asked.now c.args.k.0 c.args.e c.requires _ _ _ _ _ c.starts_of-starts.ensures c.ends_of.ensures c.runs_of.ensures c.is_of.ensures c.is_of-2.ensures
+
+pub returns-else-ends-is_of : goal.returns-else-ends-is_of
+returns-else-ends-is_of c =
+    ne_eqb _ _ c.if-ends-is_of.false
+    ∙ and_true_left _ _ _ (eq-eqb _ _ c.if-starts-is_of.false) (and_false_left _ _ (ne_eqb _ _ c.if-ends-is_of.false))
+    ∙ counted c.args.tasks.now c.args.asked.now c.args.k.0 c.args.e c.requires _ _ _ _ _ c.starts_of-starts.ensures c.ends_of.ensures c.runs_of.ensures c.is_of.ensures c.is_of-2.ensures
