@@ -1,6 +1,6 @@
 -- The laws of the check's loops: counting from the back, a test at each number, a test of each element.
 use Prim.Native.Nat.{ℕ, zero, suc, ◌+◌, ◌-◌, ◌≤◌, ◌<◌}
-use mathlib.Core.Path.{◌≡◌, refl, ap, ◌∙◌}
+use mathlib.Core.Path.{◌≡◌, refl, ◌∙◌}
 use mathlib.Core.Bool.{Bool, true, false, cond}
 use mathlib.Core.Logic.{⊎_elim, ◌≢◌}
 use mathlib.Core.List.{List, [], ◌∷◌, ◌++◌}
@@ -8,7 +8,7 @@ use native.Mathlib.Omega.{arith}
 use native.Mathlib.Nat.{eq-or-lt_of_le}
 use native.Mathlib.Numerals.{add-one}
 use lib.Dec.{eqb, ltb}
-use lib.ListN.{length, take, drop, get_or, set, length-set, length-drop, replicate, drop_of_length-le, get_or-eq_default}
+use lib.ListN.{length, take, drop, get_or, set, length-set, replicate, drop_of_length-le, get_or-eq_default}
 use borrow.Author.Tests.{eqb-true, eqb-false, ne_eqb, ltb-true, ltb-false}
 use Rattle.records.specs.declared.TaskNo.{TaskNo}
 use lib.Seq.{length-take-le, get_or-take, drop-cons, take-suc, get_or-set_same, get_or-set_other}

@@ -1,20 +1,13 @@
 -- For the code: the lamp's search turn by turn, from the highest bit down.
 use Prim.Native.Nat.{ℕ, zero, suc, ◌-◌, ◌^◌, ◌≤◌, ◌<◌}
 use mathlib.Core.Path.{◌≡◌, refl, sym, ap, ◌∙◌}
-use mathlib.Core.List.{List, ◌∷◌}
 use native.Mathlib.Omega.{arith}
 use borrow.Author.Tests.{eq-eqb, ne_eqb, le-leb}
-use lib.Bits.{bit_and, bit_or}
-use lib.ListN.{length, get_or, take, drop, drop_of_length-le}
-use lib.Seq.{length-take-le, get_or-take, drop-cons}
-use Rattle.records.specs.declared.TaskNo.{TaskNo}
-use Rattle.executive.specs.declared.Task.{Task}
+use lib.Bits.{bit_and}
 use Rattle.executive.specs.declared.Lamp.TheVariants.{Level}
-use Rattle.executive.specs.Places.{nobody, no_task, task_at, entry_place}
-use Rattle.executive.specs.Table.{level_bit, items, levels_of}
+use Rattle.executive.specs.Table.{level_bit}
 use Rattle.executive.specs.Flags.{is_set}
 use Rattle.executive.specs.Lamp.{lamp_below}
-use Rattle.executive.proofs.places.TaskAt.{at_place, at-no-place}
 
 -- ---- the search, from the highest bit down
 module _ (w : ℕ) where
