@@ -34,8 +34,7 @@ pub(crate) fn levels_of(tasks: &[Task; 16], line: &[TaskNo]) -> u16
 {
     let mut word: u16 = 0;
     for k in line {
-        let e = places::task_at(*tasks, *k);
-        word |= level_bit(e.priority);
+        word |= level_bit(places::read_at(tasks, *k).priority);
     }
     word
 }

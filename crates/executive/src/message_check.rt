@@ -9,9 +9,7 @@ use crate::{Mail, Message, Task, messages, places, rules};
 fn is_untaken(tasks: &[Task; 16], m: Message) -> bool
     ensures { result ≡ is_untaken tasks.now m }
 {
-    let e = places::task_at(*tasks, m.to);
-    let s = e.state;
-    !messages::takes(s, m.sender)
+    !messages::takes(places::read_at(tasks, m.to).state, m.sender)
 }
 
 // Those that wait are in range and descend, and no addressee waits for one of them; in one pass.

@@ -39,14 +39,7 @@ pub(crate) fn all_free(places: &[Request]) -> bool
 fn request_right(tasks: &[Task; 16], q: Request, count: u8) -> bool
     ensures { result ≡ request_right tasks.now count q }
 {
-    if !rules::request_fits(q, count) {
-        return false;
-    }
-    let target = places::entry_place(q.target);
-    if 15 < target {
-        return false;
-    }
-    !states::is_dormant(tasks[target].state)
+    rules::request_fits(q, count) && !states::is_dormant(places::read_at(tasks, q.target).state)
 }
 
 // All queued requests keep the rules on one request, and name busy tasks only; in one pass.

@@ -17,27 +17,31 @@ pub const NO_TASK: Task = Task {
 
 // The place of a task's entry; 16, which is no place, for a number that no task can have. Whoever reads or writes
 // by a number that the table holds asks here.
+#[tactic(auto, using(crate::proofs::places::TaskAt::places))]
 pub fn entry_place(k: TaskNo) -> usize
     ensures { result ≡ entry_place k.0 }
 {
-    let n = k.0;
-    if n == 0 {
-        return 16;
+    match k.0 {
+        1..=16 => (k.0 - 1) as usize,
+        _ => 16,
     }
-    if 16 < n {
-        return 16;
-    }
-    (n - 1) as usize
 }
 
-// The task's entry; a blank one where there is no such task.
-pub fn task_at(tasks: [Task; 16], k: TaskNo) -> Task
-    ensures { result ≡ task_at tasks k.0 }
+// The task's entry, read where it lies; a blank one where there is no such task.
+pub(crate) fn read_at(tasks: &[Task; 16], k: TaskNo) -> Task
+    ensures { result ≡ task_at tasks.now k.0 }
 {
     match tasks.get(entry_place(k)) {
         Some(e) => *e,
         None => NO_TASK,
     }
+}
+
+// The same of entries that are handed over.
+pub fn task_at(tasks: [Task; 16], k: TaskNo) -> Task
+    ensures { result ≡ task_at tasks k.0 }
+{
+    read_at(&tasks, k)
 }
 
 // The entries with one task's rewritten where it lies, its state and its time with the rest; a number that names no task

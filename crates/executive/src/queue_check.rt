@@ -4,7 +4,7 @@ ghost use Rattle.std.specs.Prelude.{◌≡◌, ◌≤◌, eqb, length};
 ghost use Rattle.executive.specs.Lists.{one, up_to, all_of, ◌and◌};
 ghost use Rattle.executive.specs.States.{is_as, waits_for};
 ghost use Rattle.executive.specs.Table.{items, levels_of};
-ghost use Rattle.executive.specs.Check.{is_nobody, falls, exact_at, line_right, line_lit, Tallies};
+ghost use Rattle.executive.specs.Check.{is_nobody, is_task, falls, exact_at, line_right, line_lit, Tallies};
 
 use crate::{State, Task, levels, places, states};
 use records::TaskNo;
@@ -16,19 +16,24 @@ pub(crate) fn all_nobody(places: &[TaskNo]) -> bool
     places.iter().all(|k| k.0 == 0)
 }
 
+// A number that names one of so many tasks.
+fn is_task(k: TaskNo, count: u8) -> bool
+    ensures { result ≡ is_task count k }
+{
+    0 < k.0 && k.0 <= count
+}
+
 // Those in a line are tasks, in descending priority, and the word of their levels is this one.
 fn descends(tasks: &[Task; 16], line: &[TaskNo], count: u8, levels: u16) -> bool
-    requires { count ≤ 16 }
     ensures { result ≡ (falls tasks.now count 15 line.now and eqb levels (levels_of (items tasks.now line.now))) }
 {
     let mut p: u8 = 15;
     let mut word: u16 = 0;
-    for x in line {
-        let k = places::entry_place(*x);
-        if count as usize <= k {
+    for k in line {
+        if !is_task(*k, count) {
             return false;
         }
-        let e = tasks[k];
+        let e = places::read_at(tasks, *k);
         if p < e.priority {
             return false;
         }

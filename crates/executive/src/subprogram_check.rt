@@ -69,9 +69,7 @@ fn holder_right(tasks: &[Task; 16], s: &Sub) -> bool
     if s.holder.0 == 0 {
         return s.waiting == 0;
     }
-    let e = places::task_at(*tasks, s.holder);
-    let state = e.state;
-    !states::is_dormant(state)
+    !states::is_dormant(places::read_at(tasks, s.holder).state)
 }
 
 // Subprogram m: its numbers are in range, and it keeps the rule.

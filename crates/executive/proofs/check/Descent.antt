@@ -40,28 +40,18 @@ module _ (ts : List Task) (n : ℕ) (xs : List TaskNo) (i p : ℕ) where
   opened : i < length xs → drop i xs ≡ get_or xs i nobody ∷ drop (i + 1) xs
   opened h = drop-cons xs i nobody h ∙ rw add-one refl
 
-  -- the next in the line, k being its place
-  module _ (h : i < length xs) (hn : n ≤ 16) (ht : length ts ≡ 16) (k : ℕ) (e : k ≡ entry_place (get_or xs i nobody).0) where
-    entry : get_or ts k no_task ≡ task_at ts (get_or xs i nobody).0
-    entry = rw e (sym (at_place ts ht (get_or xs i nobody).0))
+  pub line-off : i < length xs → is_task n (get_or xs i nobody) ≡ false → falls ts n p (drop i xs) ≡ false
+  unfolding falls
+  line-off h t = rw (opened h, t) refl
 
-    within : (b : Bool) → ltb k n ≡ b → is_task n (get_or xs i nobody) ≡ b
-    within b l = task-place n (get_or xs i nobody) hn ∙ rw e at l
+  pub line-over : i < length xs → is_task n (get_or xs i nobody) ≡ true → p < (task_at ts (get_or xs i nobody).0).priority → falls ts n p (drop i xs) ≡ false
+  unfolding falls
+  line-over h t o = rw (opened h, t, lt-leb (task_at ts (get_or xs i nobody).0).priority p o) refl
 
-    pub line-off : n ≤ k → falls ts n p (drop i xs) ≡ false
-    unfolding falls
-    line-off l = rw (opened h, within false (le-ltb k n l)) refl
-
-    pub line-over : k < n → p < (get_or ts k no_task).priority → falls ts n p (drop i xs) ≡ false
-    unfolding falls
-    line-over l o = rw (opened h, within true (lt-ltb k n l), ← entry, lt-leb (get_or ts k no_task).priority p o) refl
-
-    pub line-turn : k < n → (get_or ts k no_task).priority ≤ p → falls ts n (get_or ts k no_task).priority (drop (i + 1) xs) ≡ falls ts n p (drop i xs)
-    unfolding falls
-    line-turn l o = rw (opened h, within true (lt-ltb k n l), ← entry, le-leb (get_or ts k no_task).priority p o) refl
-
-    pub entry-level : (get_or ts k no_task).priority ≡ (task_at ts (get_or xs i nobody).0).priority
-    entry-level = ap (λ (t : Task). t.priority) entry
+  pub line-turn : i < length xs → is_task n (get_or xs i nobody) ≡ true → (task_at ts (get_or xs i nobody).0).priority ≤ p
+      → falls ts n (task_at ts (get_or xs i nobody).0).priority (drop (i + 1) xs) ≡ falls ts n p (drop i xs)
+  unfolding falls
+  line-turn h t o = rw (opened h, t, le-leb (task_at ts (get_or xs i nobody).0).priority p o) refl
 
   pub line-end : length xs ≤ i → falls ts n p (drop i xs) ≡ true
   unfolding falls
@@ -84,28 +74,35 @@ module _ (ts : List Task) (xs ys : List TaskNo) (i w : ℕ) where
 
 -- the same over the first r places of an array
 module _ (ts : List Task) (n : ℕ) (q : List TaskNo) (r : ℕ) (hr : r ≤ length q) (i p : ℕ) where
-  here : i < r → i < length (take r q)
-  here h = rw (length-take-le r q hr) h
-
   past : r ≤ i → length (take r q) ≤ i
   past h = rw (length-take-le r q hr) h
 
+  -- the next in the line, k being its place
   module _ (h : i < r) (hn : n ≤ 16) (ht : length ts ≡ 16) (k : ℕ) (e : k ≡ entry_place (get_or q i nobody).0) where
-    there : k ≡ entry_place (get_or (take r q) i nobody).0
-    there = rw (get_or-take r q i nobody h) e
+    here : i < length (take r q)
+    here = rw (length-take-le r q hr) h
+
+    read : get_or (take r q) i nobody ≡ get_or q i nobody
+    read = get_or-take r q i nobody h
+
+    entry : (task_at ts (get_or (take r q) i nobody).0).priority ≡ (get_or ts k no_task).priority
+    entry = rw (read, e) (ap (λ (t : Task). t.priority) (at_place ts ht (get_or q i nobody).0))
+
+    within : (b : Bool) → ltb k n ≡ b → is_task n (get_or (take r q) i nobody) ≡ b
+    within b l = rw read (task-place n (get_or q i nobody) hn ∙ rw e at l)
 
     pub falls-off : n ≤ k → falls ts n p (drop i (take r q)) ≡ false
-    falls-off = line-off ts n (take r q) i p (here h) hn ht k there
+    falls-off l = line-off ts n (take r q) i p here (within false (le-ltb k n l))
 
     pub falls-over : k < n → p < (get_or ts k no_task).priority → falls ts n p (drop i (take r q)) ≡ false
-    falls-over = line-over ts n (take r q) i p (here h) hn ht k there
+    falls-over l o = line-over ts n (take r q) i p here (within true (lt-ltb k n l)) (rw entry o)
 
     pub falls-turn : k < n → (get_or ts k no_task).priority ≤ p → falls ts n (get_or ts k no_task).priority (drop (i + 1) (take r q)) ≡ falls ts n p (drop i (take r q))
-    falls-turn = line-turn ts n (take r q) i p (here h) hn ht k there
+    falls-turn l o = rw (← entry) (line-turn ts n (take r q) i p here (within true (lt-ltb k n l)) (rw entry o))
 
     pub word_on : (w x : ℕ) → x ≡ (get_or ts k no_task).priority → levels_of (items ts (take r q)) ≡ bit_or w (levels_of (items ts (drop i (take r q))))
         → levels_of (items ts (take r q)) ≡ bit_or (bit_or w (level_bit x)) (levels_of (items ts (drop (i + 1) (take r q))))
-    word_on w x f = word-turn ts (take r q) (take r q) i w x (here h) (f ∙ entry-level ts n (take r q) i p (here h) hn ht k there)
+    word_on w x f = word-turn ts (take r q) (take r q) i w x here (f ∙ sym entry)
 
   pub word_end : (w : ℕ) → r ≤ i → levels_of (items ts (take r q)) ≡ bit_or w (levels_of (items ts (drop i (take r q)))) → w ≡ levels_of (items ts (take r q))
   word_end w h = word-end ts (take r q) (take r q) i w (past h)

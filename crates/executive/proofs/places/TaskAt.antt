@@ -29,6 +29,8 @@ unfolding entry_place
 place-task zero h l = absurd (omega arith)
 place-task (suc i) h l = rw (lt-ltb i 16 (omega arith)) (omega arith)
 
+pub ruleset places = (place_none, place-past, place-task)
+
 pub place-low : (n : ℕ) → entry_place n ≤ 16
 unfolding entry_place
 place-low zero = omega arith

@@ -5,7 +5,7 @@ use Rattle.executive.specs.Table.{items, levels_of}
 use Rattle.executive.specs.Check.{falls}
 use Rattle.executive.proofs.queue_check.descends.Given as goal
 
-abbrev pub invariant-loop-x : goal.invariant-loop-x
-invariant-loop-x l =
-    (falls l.tasks l.count l.p (drop l.x-index l.line) ≡ falls l.tasks l.count 15 l.line)
-    × (levels_of (items l.tasks l.line) ≡ bit_or l.word (levels_of (items l.tasks (drop l.x-index l.line))))
+abbrev pub invariant-loop-k : goal.invariant-loop-k
+invariant-loop-k l =
+    (falls l.tasks l.count l.p (drop l.k-index l.line) ≡ falls l.tasks l.count 15 l.line)
+    × (levels_of (items l.tasks l.line) ≡ bit_or l.word (levels_of (items l.tasks (drop l.k-index l.line))))
