@@ -3,7 +3,7 @@ ghost use Rattle.std.specs.Prelude.{◌≡◌, cond, ◌≤◌, ◌-◌, eqb, lt
 ghost use Rattle.executive.specs.Table.{level_bit, items, levels_of};
 ghost use Rattle.executive.specs.Lamp.{lamp_of};
 
-use crate::{Lamp, Table, Task, places};
+use crate::{Table, Task, places};
 use records::TaskNo;
 
 // The bit of a priority; one over 15 has none.
@@ -50,20 +50,20 @@ pub fn word_of(tasks: [Task; 16], line: [TaskNo; 16], taken: u8) -> u16
 }
 
 // What the lamp shows of a word: the place of its highest bit, nothing where it has none.
-pub fn lamp(levels: u16) -> Lamp
+pub fn lamp(levels: u16) -> Option<u8>
     ensures { result ≡ lamp_of levels }
 {
     for p in (0..16).rev() {
         if levels & level_bit(p) != 0 {
-            return Lamp::Level(p);
+            return Some(p);
         }
     }
-    Lamp::Dark
+    None
 }
 
 impl Table {
     // What the lamp shows.
-    pub fn lamp(self) -> Lamp
+    pub fn lamp(self) -> Option<u8>
         ensures { result ≡ lamp_of self.levels }
     {
         lamp(self.levels)

@@ -187,13 +187,6 @@ pub struct Outcome {
     pub table: Table,
 }
 
-// What the status lamp shows: nothing when the executive is idle, else the highest ready priority.
-#[derive(Clone, Copy)]
-pub enum Lamp {
-    Dark,
-    Level(u8),
-}
-
 // What a configuration makes: an answer with number 0 and the table, or one with number 2 and a table of zeros.
 #[derive(Clone, Copy)]
 pub struct Fresh {

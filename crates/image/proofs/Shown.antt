@@ -7,7 +7,6 @@ use borrow.Author.Tests.{eq-eqb, eqb-true, eqb-false, ne_eqb}
 use lib.Dec.{eqb}
 use lib.ListN.{length}
 use Rattle.records.specs.Numbers.{number_of, part}
-use Rattle.executive.specs.declared.Lamp.{Lamp}
 use Rattle.executive.specs.Places.{task_at}
 use Rattle.executive.specs.Plans.{caller}
 use Rattle.executive.specs.Lamp.{lamp_of}
@@ -17,6 +16,7 @@ use Rattle.image.specs.Image.{levels_at, image_length, load_of}
 use Rattle.image.specs.EntryPoints.{WellFormedImage, lamp_byte, lamp_number, ShowsImage}
 use Rattle.image.proofs.Alike.{decide}
 use Rattle.image.proofs.Trips.{image-parts}
+use Rattle.std.proofs.Common.{Option}
 
 -- ---- for the code
 module _ (s : List ℕ) where
@@ -24,7 +24,7 @@ module _ (s : List ℕ) where
   unfolding lamp_number
   lamp-short h = rw (ne_eqb (length s) image_length h) refl
 
-  pub lamp-read : (w : ℕ) (l : Lamp) → length s ≡ image_length → w ≡ number_of (part 2 levels_at s) → l ≡ lamp_of w → lamp_byte l ≡ lamp_number s
+  pub lamp-read : (w : ℕ) (l : Option ℕ) → length s ≡ image_length → w ≡ number_of (part 2 levels_at s) → l ≡ lamp_of w → lamp_byte l ≡ lamp_number s
   unfolding lamp_number
   lamp-read w l n e f = rw (eq-eqb (length s) image_length n, ← e, ← f) refl
 

@@ -1,10 +1,8 @@
 -- What the entry points answer and leave in their buffers, for every input.
-use Rattle.std.specs.Prelude.{ℕ, ◌≤◌, ◌<◌, ◌≡◌, true, cond, List, [], ◌∷◌, ◌↔◌, eqb, ltb, length}
+use Rattle.std.specs.Prelude.{ℕ, ◌≤◌, ◌<◌, ◌≡◌, true, cond, List, [], ◌∷◌, ◌↔◌, eqb, ltb, length, Option, None, Some}
 use Rattle.records.specs.Numbers.{number_of, part, lay}
 use Rattle.executive.specs.declared.Answer.{Answer}
 use Rattle.executive.specs.declared.Table.{Table}
-use Rattle.executive.specs.declared.Lamp.{Lamp}
-use Rattle.executive.specs.declared.Lamp.TheVariants.{Dark, Level}
 use Rattle.executive.specs.Places.{task_at}
 use Rattle.executive.specs.Plans.{caller}
 use Rattle.executive.specs.Lamp.{lamp_of}
@@ -96,9 +94,9 @@ pub record StepsImage (s call o p q : List ℕ) (n : ℕ) : Type 0 where
 abbrev pub lamp_dark : ℕ
 lamp_dark = 16
 
-abbrev pub lamp_byte : Lamp → ℕ
-lamp_byte Dark = lamp_dark
-lamp_byte (Level p) = p
+abbrev pub lamp_byte : Option ℕ → ℕ
+lamp_byte None = lamp_dark
+lamp_byte (Some p) = p
 
 unfoldable pub lamp_number : List ℕ → ℕ
 lamp_number s = cond (eqb (length s) image_length) (lamp_byte (lamp_of (number_of (part 2 levels_at s)))) lamp_dark

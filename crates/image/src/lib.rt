@@ -6,7 +6,7 @@ ghost use Rattle.image.specs.EntryPoints.{MakesImage, CheckedImage, StepsImage, 
 ghost use Rattle.image.specs.Reasons.{ExplainsImage};
 ghost use Rattle.image.specs.Mending.{MendsImage};
 
-use executive::{Lamp, configuration, levels};
+use executive::{configuration, levels};
 use records::TaskNo;
 
 pub mod answers;
@@ -124,10 +124,7 @@ pub fn lamp(image: &[u8]) -> u8
         return LAMP_DARK;
     }
     let word = numbers::pair_in(image, LEVELS);
-    match levels::lamp(word) {
-        Lamp::Dark => LAMP_DARK,
-        Lamp::Level(p) => p,
-    }
+    levels::lamp(word).unwrap_or(LAMP_DARK)
 }
 
 // Tells why a task is not running: the answer's number, and the answer at the start of its buffer. Where that is

@@ -6,7 +6,6 @@ use mathlib.Core.Bool.{true}
 use native.Mathlib.Omega.{arith}
 use Rattle.executive.specs.declared.State.TheVariants.{Ready}
 use Rattle.executive.specs.declared.Table.{Table}
-use Rattle.executive.specs.declared.Lamp.TheVariants.{Dark, Level}
 use Rattle.executive.specs.Places.{task_at}
 use Rattle.executive.specs.Flags.{is_set}
 use Rattle.executive.specs.Plans.{caller}
@@ -20,6 +19,7 @@ use Rattle.executive.proofs.Plans.WorkingForm.{formed}
 use Rattle.executive.proofs.levels.Highest.{unset, lamp-top, lamp-none, lamp-dark}
 use Rattle.executive.proofs.step.Dispatched.{dispatches}
 use Rattle.executive.proofs.promises.Demands.{demands}
+use Rattle.std.proofs.Common.{None, Some}
 
 module _ (t : Table) (w : WellFormed t) where
   abbrev word : ℕ
@@ -28,7 +28,7 @@ module _ (t : Table) (w : WellFormed t) where
   chosen : Dispatched t (caller t).0
   chosen = dispatches t (formed w)
 
-  level : 0 < (caller t).0 → lamp_of word ≡ Level (task_at t.tasks (caller t).0).priority
+  level : 0 < (caller t).0 → lamp_of word ≡ Some (task_at t.tasks (caller t).0).priority
   level h =
       let c : Chosen t (caller t).0 = chosen.chosen h in
       (lamp-top word w.levels.word _).1 (record {
@@ -36,10 +36,10 @@ module _ (t : Table) (w : WellFormed t) where
         above = λ q l. unset word q (λ s. let x : Lit t q = (w.levels.bits q).0 s in omega (arith, c.highest x.task x.ready, x.priority));
       })
 
-  dark : (lamp_of word ≡ Dark) ↔ ((k : ℕ) → (task_at t.tasks k).state ≢ Ready)
+  dark : (lamp_of word ≡ None) ↔ ((k : ℕ) → (task_at t.tasks k).state ≢ Ready)
   dark = (out, λ n. lamp-dark word w.levels.word (λ p s. let x : Lit t p = (w.levels.bits p).0 s in n x.task x.ready))
     where
-      out : lamp_of word ≡ Dark → (k : ℕ) → (task_at t.tasks k).state ≢ Ready
+      out : lamp_of word ≡ None → (k : ℕ) → (task_at t.tasks k).state ≢ Ready
       out e k r =
           let p : ℕ = (task_at t.tasks k).priority in
           let s : is_set word p ≡ true = (w.levels.bits p).1 (record { task = k; ready = r; priority = refl }) in
