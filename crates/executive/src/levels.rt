@@ -29,6 +29,7 @@ pub(crate) fn cleared(levels: u16, p: u8, next: u8) -> u16
 }
 
 // The word of a line. A number that names no task counts as one of priority 0.
+#[tactic(auto, using(crate::proofs::check::Descent::descent))]
 pub(crate) fn levels_of(tasks: &[Task; 16], line: &[TaskNo]) -> u16
     ensures { result ≡ levels_of (items tasks.now line.now) }
 {

@@ -13,6 +13,7 @@ fn is_untaken(tasks: &[Task; 16], m: Message) -> bool
 }
 
 // Those that wait are in range and descend, and no addressee waits for one of them; in one pass.
+#[tactic(auto, using(crate::proofs::check::Messages::one_pass))]
 fn letters_right(tasks: &[Task; 16], waiting: &[Message], count: u8) -> bool
     ensures { result ≡ letters_right tasks.now count 15 waiting.now }
 {
@@ -34,6 +35,7 @@ fn letters_right(tasks: &[Task; 16], waiting: &[Message], count: u8) -> bool
 
 // These places are free: all their numbers, put together, and all their texts, are 0. It stops at none of them, so that
 // the compiler can take many at a time.
+#[tactic(auto, using(crate::proofs::check::PutTogether::put_together))]
 fn none_sent(places: &[Message]) -> bool
     ensures { result ≡ all_of is_no_message places.now }
 {
@@ -61,14 +63,5 @@ pub(crate) fn sent_right(tasks: &[Task; 16], messages: &[Message; 32], sent: u8,
 pub(crate) fn mail_right(tasks: &[Task; 16], mail: &[Mail; 16], count: u8) -> bool
     ensures { result ≡ mail_right tasks.now count mail.now }
 {
-    for i in 0..16 {
-        let x = mail[i];
-        if count < x.sender.0 {
-            return false;
-        }
-        if !rules::is_emptied(tasks[i].state, x) {
-            return false;
-        }
-    }
-    true
+    mail.iter().zip(tasks).all(|(x, e)| x.sender.0 <= count && rules::is_emptied(e.state, *x))
 }

@@ -28,6 +28,7 @@ pub fn entry_place(k: TaskNo) -> usize
 }
 
 // The task's entry, read where it lies; a blank one where there is no such task.
+#[tactic(auto, using(crate::proofs::places::TaskAt::entries))]
 pub(crate) fn read_at(tasks: &[Task; 16], k: TaskNo) -> Task
     ensures { result ≡ task_at tasks.now k.0 }
 {
@@ -46,6 +47,7 @@ pub fn task_at(tasks: [Task; 16], k: TaskNo) -> Task
 
 // The entries with one task's rewritten where it lies, its state and its time with the rest; a number that names no task
 // changes none.
+#[tactic(auto, using(crate::proofs::places::TaskAt::entries))]
 pub fn put_at(tasks: [Task; 16], k: TaskNo, e: Task) -> [Task; 16]
     ensures { result ≡ put_at tasks k.0 e }
 {

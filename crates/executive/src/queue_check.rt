@@ -24,6 +24,7 @@ fn is_task(k: TaskNo, count: u8) -> bool
 }
 
 // Those in a line are tasks, in descending priority, and the word of their levels is this one.
+#[tactic(auto, using(crate::proofs::check::Descent::descent))]
 fn descends(tasks: &[Task; 16], line: &[TaskNo], count: u8, levels: u16) -> bool
     ensures { result ≡ (falls tasks.now count 15 line.now and eqb levels (levels_of (items tasks.now line.now))) }
 {
@@ -73,13 +74,10 @@ fn all_exact(tasks: &[Task; 16], line: &[TaskNo], count: u8, kind: u8, number: u
     ensures { result ≡ up_to (exact_at (is_as kind number) tasks.now line.now) count }
 {
     let counts = tally(line);
-    for k in 0..count {
-        let i = k as usize;
-        if !exact_at(tasks[i].state, counts[i], kind, number) {
-            return false;
-        }
-    }
-    true
+    tasks[..count as usize]
+        .iter()
+        .zip(&counts)
+        .all(|(e, n)| exact_at(e.state, *n, kind, number))
 }
 
 // The ready queue holds exactly the ready tasks, once each, in descending priority; its free places are zero; the word

@@ -8,6 +8,7 @@ use crate::{State, Sub, Task, places, queue_check, states};
 
 // All numbers of a subprogram, put together with those before: 0 exactly where they are 0, and so it is free and nobody
 // waits. It stops at none of them, so that the compiler can take many at a time.
+#[tactic(auto, using(crate::proofs::check::PutTogether::put_together))]
 fn with_all(before: u8, s: &Sub) -> u8
     ensures { eqb result 0 ≡ (eqb before 0 and is_free_sub s.now) }
 {
@@ -19,6 +20,7 @@ fn with_all(before: u8, s: &Sub) -> u8
 }
 
 // All are free, and nobody waits for one: one pass over their bytes.
+#[tactic(auto, using(crate::proofs::check::PutTogether::one_by_one))]
 fn all_free(subs: &[Sub; 8]) -> bool
     ensures { result ≡ all_of is_free_sub subs.now }
 {
@@ -40,17 +42,12 @@ fn awaits_any(s: State) -> bool
 fn still_none(none: bool, s: State, k: u8, count: u8) -> bool
     ensures { result ≡ (none and not (ltb k count and awaits_any s)) }
 {
-    if count <= k {
-        return none;
-    }
-    if awaits_any(s) {
-        return false;
-    }
-    none
+    none && (count <= k || !awaits_any(s))
 }
 
 // None of the tasks 1 to count waits for one of them. All sixteen entries are passed, so that the compiler reads them
 // where they lie.
+#[tactic(auto, using(crate::proofs::check::Subprograms::one_by_one))]
 fn none_waits(tasks: &[Task; 16], count: u8) -> bool
     requires { count ≤ 16 }
     ensures { result ≡ up_to (waits_for_none tasks.now) count }
@@ -84,6 +81,7 @@ fn sub_right(tasks: &[Task; 16], s: &Sub, m: u8, count: u8) -> bool
 }
 
 // Each subprogram keeps its rules.
+#[tactic(auto, using(crate::proofs::check::Subprograms::one_by_one))]
 fn each_right(tasks: &[Task; 16], subs: &[Sub; 8], count: u8) -> bool
     requires { count ≤ 16 }
     ensures { result ≡ held_right tasks.now count subs.now }
@@ -97,6 +95,7 @@ fn each_right(tasks: &[Task; 16], subs: &[Sub; 8], count: u8) -> bool
 }
 
 // The subprograms keep their rules. Where all are free and nobody waits there is nothing to count.
+#[tactic(auto, using(crate::proofs::check::Subprograms::one_by_one))]
 pub(crate) fn subs_right(tasks: &[Task; 16], subs: &[Sub; 8], count: u8) -> bool
     requires { count ≤ 16 }
     ensures { result ≡ held_right tasks.now count subs.now }

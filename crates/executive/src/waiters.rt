@@ -1,10 +1,9 @@
 // The check of waiters: each is named once, in the way that it waits.
-ghost use Rattle.std.specs.Prelude.{◌≡◌, ◌≤◌, count_by, eqb};
-ghost use Rattle.executive.specs.Places.{task_at};
+ghost use Rattle.std.specs.Prelude.{◌≡◌, count_by, eqb};
 ghost use Rattle.executive.specs.Lists.{up_to};
 ghost use Rattle.executive.specs.Check.{waiters_at, is_quiet, is_lone};
 
-use crate::{Request, Task, states};
+use crate::{Request, Task, places, states};
 use records::TaskNo;
 
 // How many requests name a task as the waiter for their start.
@@ -28,11 +27,11 @@ fn runs_of(tasks: &[Task], k: TaskNo) -> usize
     tasks.iter().filter(|e| k.0 == e.end_waiter.0).count()
 }
 
-// Task k, whose entry is e, is named once in the way that it waits, else not at all; its own run does not name it.
-fn waiters_at(e: Task, tasks: &[Task; 16], asked: &[Request], k: TaskNo) -> bool
-    requires { e ≡ task_at tasks.now k.0 }
+// Task k is named once in the way that it waits, else not at all; its own run does not name it.
+fn waiters_at(tasks: &[Task; 16], asked: &[Request], k: TaskNo) -> bool
     ensures { result ≡ waiters_at tasks.now asked.now k.0 }
 {
+    let e = places::read_at(tasks, k);
     let starts = starts_of(asked, k);
     if starts != states::is_of(e.state, states::AWAIT_START) as usize {
         return false;
@@ -42,15 +41,9 @@ fn waiters_at(e: Task, tasks: &[Task; 16], asked: &[Request], k: TaskNo) -> bool
 }
 
 fn all_waiters(tasks: &[Task; 16], asked: &[Request], count: u8) -> bool
-    requires { count ≤ 16 }
     ensures { result ≡ up_to (waiters_at tasks.now asked.now) count }
 {
-    for k in 0..count {
-        if !waiters_at(tasks[k as usize], tasks, asked, TaskNo(k + 1)) {
-            return false;
-        }
-    }
-    true
+    (0..count).all(|k| waiters_at(tasks, asked, TaskNo(k + 1)))
 }
 
 // A task that waits for no start and no end, and for whose end nobody waits.
@@ -72,7 +65,6 @@ fn is_lone(q: Request) -> bool
 // Each task is named once in the way that it waits, else not at all. Where nobody waits and nobody is named there
 // is nothing to count.
 pub(crate) fn waiters_right(tasks: &[Task; 16], asked: &[Request], count: u8) -> bool
-    requires { count ≤ 16 }
     ensures { result ≡ up_to (waiters_at tasks.now asked.now) count }
 {
     if tasks.iter().all(|e| is_quiet(*e)) && asked.iter().all(|q| is_lone(*q)) {

@@ -8,7 +8,7 @@ use native.Mathlib.Omega.{arith}
 use native.Mathlib.Numerals.{add-one}
 use borrow.Author.Tests.{lt-ltb, le-ltb, le-leb, lt-leb, leb-true, ltb-false, eq-eqb}
 use lib.Dec.{leb, ltb, eqb}
-use lib.Bits.{bit_or, or_zero_r}
+use lib.Bits.{bit_or, or_zero_l, or_zero_r}
 use lib.ListN.{length, take, drop, get_or, drop_of_length-le}
 use lib.Seq.{length-take-le, get_or-take, drop-cons}
 use Rattle.records.specs.declared.TaskNo.{TaskNo}
@@ -20,6 +20,7 @@ use Rattle.executive.specs.Table.{items, level_bit, levels_of}
 use Rattle.executive.specs.Check.{is_task, falls}
 use Rattle.executive.proofs.places.TaskAt.{at_place}
 use Rattle.executive.proofs.Lists.Loops.{both}
+use Rattle.executive.proofs.Lists.Tests.{and_false_left}
 use Rattle.executive.proofs.flags.Bits.{or_assoc}
 
 -- a number names one of n tasks where its place is one of theirs
@@ -164,3 +165,6 @@ module _ (ts : List Task) (n : ℕ) where
   all-tasks (x ∷ xs) h =
       let z : one (eqb x.0 x.0) ≡ 1 = ap one (eq-eqb x.0 x.0 refl) in
       rw (h x (omega arith)) (all-tasks xs (λ k g. h k (omega arith)))
+
+-- for the code: these, taken together
+pub ruleset descent = (line-off, line-over, line-turn, line-end, word-turn, word-end, or_zero_l, and_false_left)

@@ -305,3 +305,6 @@ unfolding mail_right_at
 mail-join ts n ml a b =
     all_make (mail_right_at ts n ml) most_tasks
     (λ k g h. true_and (mail_in_range n (mail_at ml k)) _ (le-leb _ _ (senders-get n ml a k)) (all-get (emptied_at ts ml) most_tasks k b g h))
+
+-- for the code: these, taken together
+pub ruleset one_pass = (letters-over, letters-out, letters-high, letters-taken, letters-on)

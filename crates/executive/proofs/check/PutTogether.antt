@@ -11,10 +11,13 @@ use lib.Bits.{bit_or, or_zero_l, or_add_and, and_le_r}
 use lib.Dec.{eqb}
 use lib.ListN.{length, drop, get_or, drop_of_length-le}
 use lib.Seq.{drop-cons}
+use Rattle.records.specs.declared.TaskNo.{TaskNo}
 use Rattle.executive.specs.declared.Sub.{Sub}
 use Rattle.executive.specs.declared.Message.{Message}
 use Rattle.executive.specs.declared.Request.{Request}
 use Rattle.executive.specs.Numbers.{most_tasks}
+use Rattle.executive.specs.Places.{nobody, no_request}
+use Rattle.executive.specs.Messages.{no_message}
 use Rattle.executive.specs.Lists.{all_of, ◌and◌}
 use Rattle.executive.specs.Check.{is_nobody, is_free_sub, is_no_message, is_free}
 
@@ -105,3 +108,22 @@ request_put n t q =
     go true true true true true true true = refl
     go true true true true true true false = refl
     go true true true true true false f = refl
+
+-- ---- the turn of each pass, and its end, for the code
+pub messages-turn : (n t : ℕ) (xs : List Message) (i : ℕ) → i < length xs
+    → ((eqb (bit_or n (bit_or (bit_or (get_or xs i no_message).to.0 (get_or xs i no_message).sender.0) (get_or xs i no_message).priority)) 0 and eqb (bit_or t (get_or xs i no_message).text.0) 0) and all_of is_no_message (drop (i + 1) xs))
+    ≡ ((eqb n 0 and eqb t 0) and all_of is_no_message (drop i xs))
+messages-turn n t xs i h = every_put is_no_message no_message xs i (eqb n 0 and eqb t 0) _ h (message_put n t (get_or xs i no_message))
+
+pub requests-turn : (n t : ℕ) (xs : List Request) (i : ℕ) → i < length xs
+    → ((eqb (bit_or n (bit_or (bit_or (bit_or (get_or xs i no_request).target.0 (get_or xs i no_request).priority) (get_or xs i no_request).start_waiter.0) (get_or xs i no_request).end_waiter.0)) 0 and eqb (bit_or t (get_or xs i no_request).argument) 0) and all_of is_free (drop (i + 1) xs))
+    ≡ ((eqb n 0 and eqb t 0) and all_of is_free (drop i xs))
+requests-turn n t xs i h = every_put is_free no_request xs i (eqb n 0 and eqb t 0) _ h (request_put n t (get_or xs i no_request))
+
+pub places-turn : (n : ℕ) (xs : List TaskNo) (i : ℕ) → i < length xs
+    → (eqb (bit_or n (get_or xs i nobody).0) 0 and all_of is_nobody (drop (i + 1) xs)) ≡ (eqb n 0 and all_of is_nobody (drop i xs))
+places-turn n xs i h = every_put is_nobody nobody xs i (eqb n 0) _ h (or-none n (get_or xs i nobody).0)
+
+pub ruleset put_together = (every-done, messages-turn, requests-turn, places-turn, none-begun)
+
+pub ruleset one_by_one = (every_put, every-done)

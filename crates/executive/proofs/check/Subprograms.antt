@@ -274,3 +274,6 @@ module _ (ts : List Task) (n : ℕ) (hn : n ≤ 16) where
         let y : m < length ss = omega (arith, leb-true m last_sub z) in
         let x : 0 + m ≡ m = omega arith in
         none-waits m k (get_or ss m no_subprogram) (free-at m) (rw x at (subs-at ts n 0 ss (and_true (all_of (sub_in_range n) ss) _ e).1 m y)) g h)))
+
+-- for the code: these, taken together
+pub ruleset one_by_one = (held_first, held-turn, held-not, held-end, among_none, among-turn, among-all, free-right)

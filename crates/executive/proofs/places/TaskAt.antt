@@ -122,3 +122,6 @@ put-at f ts j k e n = go (eqb k j) refl
     go : (b : Bool) → eqb k j ≡ b → f (task_at (put_at ts j e) k) ≡ cond b (f e) (f (task_at ts k))
     go true h = rw (eqb→eq k j (So-of_true (eqb k j) h), at_same ts j e n)
     go false h = rw (at_other ts j k e h)
+
+-- for the code: these, taken together
+pub ruleset entries = (at_place, at-no-place, put_place, put_no-place)

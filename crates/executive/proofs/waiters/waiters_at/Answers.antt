@@ -52,15 +52,15 @@ module _ (ts : List Task) (p : List Request) (k : ℕ) (e : Task) (h : e ≡ tas
 pub returns-then-starts-is_of : goal.returns-then-starts-is_of
 returns-then-starts-is_of c =
     and_false_left _ _ (ne_eqb _ _ c.if-starts-is_of.true)
-    ∙ counted c.args.tasks.now c.args.asked.now c.args.k.0 c.args.e c.requires _ _ _ _ _ c.starts_of-starts.ensures refl refl c.is_of.ensures refl
+    ∙ counted c.args.tasks.now c.args.asked.now c.args.k.0 c.read_at-e.result c.read_at-e.ensures _ _ _ _ _ c.starts_of-starts.ensures refl refl c.is_of.ensures refl
 
 pub returns-then-ends-is_of : goal.returns-then-ends-is_of
 returns-then-ends-is_of c =
     and_true_left _ _ _ (eq-eqb _ _ c.if-starts-is_of.false) (and_true_left _ _ _ (eq-eqb _ _ c.if-ends-is_of.true) refl)
-    ∙ counted c.args.tasks.now c.args.asked.now c.args.k.0 c.args.e c.requires _ _ _ _ _ c.starts_of-starts.ensures c.ends_of.ensures c.runs_of.ensures c.is_of.ensures c.is_of-2.ensures
+    ∙ counted c.args.tasks.now c.args.asked.now c.args.k.0 c.read_at-e.result c.read_at-e.ensures _ _ _ _ _ c.starts_of-starts.ensures c.ends_of.ensures c.runs_of.ensures c.is_of.ensures c.is_of-2.ensures
 
 pub returns-else-ends-is_of : goal.returns-else-ends-is_of
 returns-else-ends-is_of c =
     ne_eqb _ _ c.if-ends-is_of.false
     ∙ and_true_left _ _ _ (eq-eqb _ _ c.if-starts-is_of.false) (and_false_left _ _ (ne_eqb _ _ c.if-ends-is_of.false))
-    ∙ counted c.args.tasks.now c.args.asked.now c.args.k.0 c.args.e c.requires _ _ _ _ _ c.starts_of-starts.ensures c.ends_of.ensures c.runs_of.ensures c.is_of.ensures c.is_of-2.ensures
+    ∙ counted c.args.tasks.now c.args.asked.now c.args.k.0 c.read_at-e.result c.read_at-e.ensures _ _ _ _ _ c.starts_of-starts.ensures c.ends_of.ensures c.runs_of.ensures c.is_of.ensures c.is_of-2.ensures
