@@ -61,6 +61,7 @@ impl Table {
     }
 
     // The table keeps every rule.
+    #[tactic(auto, unfolding(crate::specs::Check::is_well_formed))]
     pub(crate) fn is_well_formed(self) -> bool
         ensures { result ≡ is_well_formed self }
     {

@@ -29,7 +29,7 @@ pub(crate) fn cleared(levels: u16, p: u8, next: u8) -> u16
 }
 
 // The word of a line. A number that names no task counts as one of priority 0.
-#[tactic(auto, using(crate::proofs::check::Descent::descent))]
+#[tactic(auto, using(crate::proofs::check::Descent::words))]
 pub(crate) fn levels_of(tasks: &[Task; 16], line: &[TaskNo]) -> u16
     ensures { result ≡ levels_of (items tasks.now line.now) }
 {
@@ -51,6 +51,7 @@ pub fn word_of(tasks: [Task; 16], line: [TaskNo; 16], taken: u8) -> u16
 }
 
 // What the lamp shows of a word: the place of its highest bit, nothing where it has none.
+#[tactic(auto, using(crate::proofs::levels::Turns::searched), unfolding(crate::specs::Lamp::lamp_below))]
 pub fn lamp(levels: u16) -> Option<u8>
     ensures { result ≡ lamp_of levels }
 {

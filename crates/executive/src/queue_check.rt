@@ -3,7 +3,6 @@
 ghost use Rattle.std.specs.Prelude.{◌≡◌, ◌≤◌, eqb, length};
 ghost use Rattle.executive.specs.Lists.{one, up_to, all_of, ◌and◌};
 ghost use Rattle.executive.specs.States.{is_as, waits_for};
-ghost use Rattle.executive.specs.Table.{items, levels_of};
 ghost use Rattle.executive.specs.Check.{is_nobody, is_task, falls, exact_at, line_right, line_lit, Tallies};
 
 use crate::{State, Task, levels, places, states};
@@ -23,13 +22,12 @@ fn is_task(k: TaskNo, count: u8) -> bool
     0 < k.0 && k.0 <= count
 }
 
-// Those in a line are tasks, in descending priority, and the word of their levels is this one.
+// Those in a line are tasks, in descending priority.
 #[tactic(auto, using(crate::proofs::check::Descent::descent))]
-fn descends(tasks: &[Task; 16], line: &[TaskNo], count: u8, levels: u16) -> bool
-    ensures { result ≡ (falls tasks.now count 15 line.now and eqb levels (levels_of (items tasks.now line.now))) }
+fn descends(tasks: &[Task; 16], line: &[TaskNo], count: u8) -> bool
+    ensures { result ≡ falls tasks.now count 15 line.now }
 {
     let mut p: u8 = 15;
-    let mut word: u16 = 0;
     for k in line {
         if !is_task(*k, count) {
             return false;
@@ -39,13 +37,13 @@ fn descends(tasks: &[Task; 16], line: &[TaskNo], count: u8, levels: u16) -> bool
             return false;
         }
         p = e.priority;
-        word |= levels::level_bit(p);
     }
-    levels == word
+    true
 }
 
 // How often each number from 1 to 16 stands in a line: that of k at place k - 1. Place 16 is for the numbers that no task
 // can have.
+#[tactic(auto, using(crate::proofs::check::Passes::tallies))]
 fn tally(line: &[TaskNo]) -> [u8; 17]
     requires { length line.now ≤ 16 }
     ensures { Tallies result line.now }
@@ -59,13 +57,11 @@ fn tally(line: &[TaskNo]) -> [u8; 17]
 
 // Whether a task that stands n times in a line stands there as often as its state says: once if it is of the line's
 // kind and waits for its number, else never.
+#[tactic(auto, using(crate::proofs::Lists::Tests::bytes))]
 fn exact_at(s: State, n: u8, kind: u8, number: u8) -> bool
     ensures { result ≡ eqb n (one (is_as kind number s)) }
 {
-    if states::is_as(s, kind, number) {
-        return n == 1;
-    }
-    n == 0
+    n == states::is_as(s, kind, number) as u8
 }
 
 // The line holds exactly those whose state is of a kind and waits for a number, once each.
@@ -91,21 +87,19 @@ pub(crate) fn line_right(
 ) -> bool
     ensures { result ≡ line_lit tasks.now count ready queue.now levels }
 {
-    if 16 < count {
-        return false;
-    }
-    if 16 < ready {
+    if 16 < count || 16 < ready {
         return false;
     }
     let n = ready as usize;
     let taken = &queue[..n];
-    descends(tasks, taken, count, levels)
+    descends(tasks, taken, count)
+        && levels == levels::levels_of(tasks, taken)
         && all_exact(tasks, taken, count, states::READY, 0)
         && all_nobody(&queue[n..])
 }
 
 // The line of subprogram m holds exactly those who wait for it, once each, in descending priority; its free places are
-// zero. No word of its levels is kept, so its own is given.
+// zero. No word of its levels is kept.
 pub(crate) fn waiting_right(
     tasks: &[Task; 16],
     line: &[TaskNo; 16],
@@ -117,8 +111,7 @@ pub(crate) fn waiting_right(
     ensures { result ≡ line_right (waits_for m) tasks.now count waiting line.now }
 {
     let taken = &line[..waiting];
-    let word = levels::levels_of(tasks, taken);
-    descends(tasks, taken, count, word)
+    descends(tasks, taken, count)
         && all_exact(tasks, taken, count, states::AWAIT_SUB, m)
         && all_nobody(&line[waiting..])
 }

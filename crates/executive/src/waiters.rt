@@ -50,9 +50,9 @@ fn all_waiters(tasks: &[Task; 16], asked: &[Request], count: u8) -> bool
 fn is_quiet(e: Task) -> bool
     ensures { result ≡ is_quiet e }
 {
-    let s = e.state;
-    let kind = states::kind_of(s);
-    states::AWAIT_START != kind && states::AWAIT_END != kind && e.end_waiter.0 == 0
+    !states::is_of(e.state, states::AWAIT_START)
+        && !states::is_of(e.state, states::AWAIT_END)
+        && e.end_waiter.0 == 0
 }
 
 // A request that names no waiter.

@@ -164,6 +164,3 @@ module _ {A : Type 0} (f : A → ℕ → A) (e k : ℕ) (a : A) where
   pub each-end : e ≤ k → each f (e - k) k a ≡ a
   unfolding each
   each-end h = let z : e - k ≡ 0 = omega arith in rw z refl
-
--- for the code: these, taken together
-pub ruleset each_number = (all_none, all_more, all-not)

@@ -5,6 +5,7 @@ use mathlib.Core.Bool.{Bool, true, false, not}
 use mathlib.Core.List.{List, [], ◌∷◌}
 use Prim.Native.Nat.{ℕ, zero, suc, ◌≤◌, ◌<◌}
 use native.Mathlib.Omega.{arith}
+use mir.Val.{bool_byte}
 use lib.Dec.{T, leb, ltb, eqb, leb→le, nleb→lt, ltb→lt, nltb→le, eqb→eq, eqb_refl, eqb-suc-zero}
 use Rattle.executive.specs.Lists.{one, sum_of, ◌and◌, all_of}
 use mathlib.Core.Logic.{◌≢◌}
@@ -71,6 +72,13 @@ one-lt-leb m n h = go (leb m n) (leb-is m n)
     go : (b : Bool) → Le m n b → one b ≡ 0
     go true (le_yes g) = omega arith
     go false r = refl
+
+-- a test as a byte
+pub byte-is : (b : Bool) → bool_byte b ≡ one b
+byte-is true = refl
+byte-is false = refl
+
+pub ruleset bytes = (byte-is)
 
 pub eqb_self : (k : ℕ) → eqb k k ≡ true
 eqb_self k = go (eqb k k) (eqb_refl k)

@@ -20,7 +20,6 @@ use Rattle.executive.specs.Table.{items, level_bit, levels_of}
 use Rattle.executive.specs.Check.{is_task, falls}
 use Rattle.executive.proofs.places.TaskAt.{at_place}
 use Rattle.executive.proofs.Lists.Loops.{both}
-use Rattle.executive.proofs.Lists.Tests.{and_false_left}
 use Rattle.executive.proofs.flags.Bits.{or_assoc}
 
 -- a number names one of n tasks where its place is one of theirs
@@ -167,4 +166,6 @@ module _ (ts : List Task) (n : ℕ) where
       rw (h x (omega arith)) (all-tasks xs (λ k g. h k (omega arith)))
 
 -- for the code: these, taken together
-pub ruleset descent = (line-off, line-over, line-turn, line-end, word-turn, word-end, or_zero_l, and_false_left)
+pub ruleset descent = (line-off, line-over, line-turn, line-end)
+
+pub ruleset words = (word-turn, word-end, or_zero_l)

@@ -15,9 +15,9 @@ use Rattle.executive.specs.declared.Request.{Request}
 use Rattle.executive.specs.declared.Rest.{Rest}
 use Rattle.executive.specs.declared.State.{State}
 use Rattle.executive.specs.Lists.{one, ◌and◌, up_to, all_of}
-use Rattle.executive.specs.Places.{no_task, task_at, entry_place}
+use Rattle.executive.specs.Places.{no_task, task_at}
 use Rattle.executive.specs.Pool.{requests}
-use Rattle.executive.specs.States.{ready, await_start, await_end, is_of, is, is_as, is_dormant, is_ready}
+use Rattle.executive.specs.States.{await_start, await_end, is_of, is}
 use Rattle.executive.specs.WellFormed.{starts_of, ends_of, runs_of}
 use Rattle.executive.specs.Check.{entry_in_range, request_in_range, sub_in_range, is_blank, sizes_right, in_bounds, numbers_right, stands_in, exact_at, alarm_right, task_timely, times_right, is_started, started_right, task_unmet, masks_right, target_busy, busy_right, waiters_at, names_others, waiters_right, dormant_entry_right, dormant_right, pool_right, subs_right, all_but_queue, entry_right, request_fits, request_right, is_quiet, is_lone, asked_right, in_passes, Tallies}
 use Rattle.executive.specs.declared.Message.{Message}
@@ -25,10 +25,9 @@ use Rattle.executive.specs.Numbers.{most_tasks, most_sent, highest}
 use Rattle.executive.specs.Messages.{letters}
 use Rattle.executive.specs.Check.{held_right, message_in_range, is_untaken, letters_fall, messages_right, letters_right, sent_right}
 use Rattle.executive.proofs.check.Messages.{in_one-pass, mail_split, mail-join}
-use Rattle.executive.proofs.places.TaskAt.{at_place, at-no-place}
-use Rattle.executive.proofs.states.Laws.{ready_as}
-use Rattle.executive.proofs.Lists.Loops.{both, all_make}
-use Rattle.executive.proofs.Lists.Tests.{and_true, true_and, and_false_right, none-one, of-not, sum-none}
+use Rattle.executive.proofs.places.TaskAt.{at_place, at-no-place, place-low}
+use Rattle.executive.proofs.Lists.Loops.{both, all_make, tally-none, tally-next}
+use Rattle.executive.proofs.Lists.Tests.{and_true, true_and, none-one, of-not, sum-none}
 use Rattle.executive.proofs.check.Blanks.{tasks-get}
 
 -- two tests are one if each passes where the other does
@@ -84,12 +83,10 @@ tallied_exact f c ts xs n l t = same_up (tallied_at f c ts) (exact_at f ts xs) n
         let z : suc (k - 1) ≡ k = omega arith in
         ap (λ (m : ℕ). eqb m (one (f (task_at ts k).state))) (t.counts (k - 1) (omega arith) ∙ ap (λ (m : ℕ). stands_in m xs) z)
 
--- the ready queue's line, by its kind of state and its number
-pub ready-exact : (ts : List Task) (xs : List TaskNo) (n : ℕ) → up_to (exact_at (is_as ready 0) ts xs) n ≡ up_to (exact_at is_ready ts xs) n
-unfolding exact_at
-ready-exact ts xs n = same_up (exact_at (is_as ready 0) ts xs) (exact_at is_ready ts xs) n (λ k a b. ap (λ (x : Bool). eqb (stands_in k xs) (one x)) (ready_as (task_at ts k).state))
+-- for the tally of a line, which the code makes
+pub ruleset tallies = (tally-none, tally-next, place-low)
 
--- the rules on a request, with its target's entry read where it lies
+-- the rules on a request
 module _ (ts : List Task) (n : ℕ) (r : Request) where
   pub fits_not : request_fits n r ≡ false → request_right ts n r ≡ false
   fits_not e = go (request_in_range n r) (names_others r) e
@@ -97,15 +94,6 @@ module _ (ts : List Task) (n : ℕ) (r : Request) where
       go : (a b : Bool) → (a and b) ≡ false → (a and b and target_busy ts r) ≡ false
       go false b f = refl
       go true b f = rw f refl
-
-  module _ (l : length ts ≡ 16) (k : ℕ) (e : k ≡ entry_place r.target.0) where
-    pub fits-busy : (b : Bool) → request_fits n r ≡ true → is_dormant (get_or ts k no_task).state ≡ b → request_right ts n r ≡ not b
-    fits-busy b f h =
-        let a = and_true (request_in_range n r) _ f in
-        rw (a.0, a.1, at_place ts l r.target.0, ← e, h) refl
-
-    pub fits-nobody : 15 < k → request_right ts n r ≡ false
-    fits-nobody h = sym (and_false_right (request_in_range n r) _ (and_false_right (names_others r) _ (sym (rw (at-no-place ts l r.target.0 k e h) refl))))
 
 -- ---- where nobody waits and nobody is named there is nothing to count
 module _ (ts : List Task) (p : List Request) (q : all_of is_quiet ts ≡ true) (l : all_of is_lone p ≡ true) where

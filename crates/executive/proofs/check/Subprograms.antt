@@ -6,7 +6,7 @@ use mathlib.Core.Bool.{Bool, true, false, not, cond, ◌&&◌}
 use mathlib.Core.List.{List, [], ◌∷◌}
 use native.Mathlib.Omega.{arith}
 use native.Mathlib.Numerals.{add-one}
-use borrow.Author.Tests.{eqb-true, eq-eqb, eqb-false, leb-true, le-leb, leb-false, ltb-true, ltb-false, lt-ltb, le-ltb}
+use borrow.Author.Tests.{eqb-true, eq-eqb, eqb-false, leb-true, le-leb, leb-false, ltb-true, ltb-false, le-ltb}
 use lib.Dec.{eqb, leb, ltb}
 use lib.ListN.{length, drop, get_or, drop_of_length-le, get_or-eq_default}
 use lib.Seq.{drop-cons}
@@ -158,20 +158,6 @@ and_yes false = refl
 and_is : (a b : Bool) → (a and b) ≡ cond a b false
 and_is true b = refl
 and_is false b = refl
-
-and_no : (a : Bool) → false ≡ (a and false)
-and_no true = refl
-and_no false = refl
-
-module _ (none x : Bool) (k n : ℕ) where
-  pub still-waits : k < n → x ≡ true → false ≡ (none and not (ltb k n and x))
-  still-waits h e = rw (lt-ltb k n h, e) (and_no none)
-
-  pub still-free : k < n → x ≡ false → none ≡ (none and not (ltb k n and x))
-  still-free h e = rw (lt-ltb k n h, e) (and_yes none)
-
-  pub still-past : n ≤ k → none ≡ (none and not (ltb k n and x))
-  still-past h = rw (le-ltb k n h) (and_yes none)
 
 module _ (ts : List Task) (n : ℕ) where
   pub among_none : true ≡ up_to (waits_for_none ts) (among 0 n)

@@ -23,3 +23,6 @@ module _ (w : ℕ) where
   unfolding lamp_below is_set
   lamp-clear zero h l e = absurd (omega arith)
   lamp-clear (suc q) h l e = let z : suc q - 1 ≡ q = omega arith in rw (z, eq-eqb (bit_and w (2 ^ q)) 0 (sym (ap (bit_and w) (bit_is q l)) ∙ e)) refl
+
+-- for the code: these, taken together
+pub ruleset searched = (lamp-set, lamp-clear)

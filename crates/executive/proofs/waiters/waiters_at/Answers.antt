@@ -1,6 +1,6 @@
 use Prim.Native.Nat.{ℕ, ◌+◌}
 use mathlib.Core.Path.{◌≡◌, refl, ◌∙◌}
-use mathlib.Core.Bool.{Bool, true, false, not}
+use mathlib.Core.Bool.{Bool, not}
 use mathlib.Core.List.{List}
 use borrow.Author.Tests.{eq-eqb, ne_eqb}
 use lib.Dec.{eqb}
@@ -8,17 +8,13 @@ use mir.Val.{bool_byte}
 use Rattle.std.specs.List.{count_by}
 use Rattle.executive.specs.declared.Task.{Task}
 use Rattle.executive.specs.declared.Request.{Request}
-use Rattle.executive.specs.Lists.{one, ◌and◌}
+use Rattle.executive.specs.Lists.{◌and◌}
 use Rattle.executive.specs.Places.{task_at}
 use Rattle.executive.specs.States.{await_start, await_end, is_of}
 use Rattle.executive.specs.Check.{waiters_at}
 use Rattle.executive.proofs.Lists.Chains.{count_of-is}
-use Rattle.executive.proofs.Lists.Tests.{and_false_left, and_true_left}
+use Rattle.executive.proofs.Lists.Tests.{and_false_left, and_true_left, byte-is}
 use Rattle.executive.proofs.waiters.waiters_at.Goals as goal
-
-byte-is : (b : Bool) → bool_byte b ≡ one b
-byte-is true = refl
-byte-is false = refl
 
 -- the rule, as it is counted: the requests that name task k as either waiter, the runs that do, and the task's entry
 module _ (ts : List Task) (p : List Request) (k : ℕ) (e : Task) (h : e ≡ task_at ts k) where
