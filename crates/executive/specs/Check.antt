@@ -15,7 +15,7 @@ use Rattle.executive.specs.Numbers.{most_tasks, most_queued, most_sent, flag_cou
 use Rattle.executive.specs.Lists.{one, sum_of, ◌and◌, up_to, all_of}
 use Rattle.executive.specs.Pool.{requests}
 use Rattle.executive.specs.Places.{task_at}
-use Rattle.executive.specs.Table.{items, view, levels_of}
+use Rattle.executive.specs.Table.{view, levels_of}
 use Rattle.executive.specs.Messages.{letters, mail_at}
 use Rattle.executive.specs.States.{await_start, await_end, await_sub, await_message, takes, time_of, mask_of, awaited_of, is_of, is, is_dormant, has_time, has_mask, wait_mode, is_ready, waits_for}
 use Rattle.executive.specs.Flags.{met}
@@ -117,15 +117,6 @@ order_right t = eqb (length t.queue) most_tasks and line_right is_ready t.tasks 
 -- the word of the ready levels is the queue's
 abbrev pub levels_right : Table → Bool
 levels_right t = eqb t.levels (levels_of (view t))
-
--- the same as the code takes it, with the word w of the ready levels: it is met in the pass over the queue
-abbrev pub line_lit : List Task → ℕ → ℕ → List TaskNo → ℕ → Bool
-line_lit ts n r q w =
-    leb n most_tasks
-    and leb r most_tasks
-    and (falls ts n highest (take r q) and eqb w (levels_of (items ts (take r q))))
-    and up_to (exact_at is_ready ts (take r q)) n
-    and all_of is_nobody (drop r q)
 
 unfoldable pub queue_right : Table → Bool
 queue_right t = order_right t and levels_right t

@@ -11,7 +11,7 @@ use crate::{
 
 // The requests, their waiters and those of the runs; the pool's free places are last and zero.
 fn pool_right(tasks: &[Task; 16], pool: &[Request; 32], queued: usize, count: u8) -> bool
-    requires { (queued ≤ 32) × (count ≤ 16) }
+    requires { queued ≤ 32 }
     ensures { result ≡ asked_right tasks.now count queued pool.now }
 {
     let asked = &pool[..queued];
@@ -51,7 +51,7 @@ impl Table {
     pub(crate) fn queue_right(self) -> bool
         ensures { result ≡ queue_right self }
     {
-        queue_check::line_right(
+        queue_check::queue_right(
             &self.tasks,
             &self.queue,
             self.ready,
@@ -68,7 +68,7 @@ impl Table {
         self.queue_right() && all_but_queue(self.tasks, self.rest)
     }
 
-    // The check of a table: 0 if it is well formed, 1 if it is not.
+    // The check of a table: 0 if it is well formed, 1 if it is not. Numbers, since `Checked` is stated of them.
     pub fn check(self) -> u8
         ensures { Checked self result }
     {

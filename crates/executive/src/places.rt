@@ -16,7 +16,7 @@ pub const NO_TASK: Task = Task {
 };
 
 // The place of a task's entry; 16, which is no place, for a number that no task can have. Whoever reads or writes
-// by a number that the table holds asks here.
+// by a number that the table holds asks here. No Option: what engines promise rests on `entry_place` as it is stated.
 #[tactic(auto, using(crate::proofs::places::TaskAt::places))]
 pub fn entry_place(k: TaskNo) -> usize
     ensures { result ≡ entry_place k.0 }

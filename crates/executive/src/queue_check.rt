@@ -1,9 +1,10 @@
 // The check of a line, the ready queue's or a subprogram's: exactly the tasks in its state, once each, in descending
 // priority.
-ghost use Rattle.std.specs.Prelude.{◌≡◌, ◌≤◌, eqb, length};
+ghost use Rattle.std.specs.Prelude.{◌≡◌, ◌≤◌, eqb, length, take};
 ghost use Rattle.executive.specs.Lists.{one, up_to, all_of, ◌and◌};
-ghost use Rattle.executive.specs.States.{is_as, waits_for};
-ghost use Rattle.executive.specs.Check.{is_nobody, is_task, falls, exact_at, line_right, line_lit, Tallies};
+ghost use Rattle.executive.specs.States.{is_as, is_ready};
+ghost use Rattle.executive.specs.Table.{items, levels_of};
+ghost use Rattle.executive.specs.Check.{is_nobody, is_task, falls, exact_at, line_right, Tallies};
 
 use crate::{State, Task, levels, places, states};
 use records::TaskNo;
@@ -76,42 +77,39 @@ fn all_exact(tasks: &[Task; 16], line: &[TaskNo], count: u8, kind: u8, number: u
         .all(|(e, n)| exact_at(e.state, *n, kind, number))
 }
 
-// The ready queue holds exactly the ready tasks, once each, in descending priority; its free places are zero; the word
-// of the ready levels is theirs.
+// The line holds exactly those whose state is of a kind and waits for a number, once each, in descending priority; its
+// free places are zero.
 pub(crate) fn line_right(
+    tasks: &[Task; 16],
+    line: &[TaskNo; 16],
+    taken: u8,
+    count: u8,
+    kind: u8,
+    number: u8,
+) -> bool
+    ensures { result ≡ line_right (is_as kind number) tasks.now count taken line.now }
+{
+    if 16 < count || 16 < taken {
+        return false;
+    }
+    let n = taken as usize;
+    let held = &line[..n];
+    descends(tasks, held, count)
+        && all_exact(tasks, held, count, kind, number)
+        && all_nobody(&line[n..])
+}
+
+// The ready queue is the line of the ready, and the word of the ready levels is theirs.
+pub(crate) fn queue_right(
     tasks: &[Task; 16],
     queue: &[TaskNo; 16],
     ready: u8,
     count: u8,
     levels: u16,
 ) -> bool
-    ensures { result ≡ line_lit tasks.now count ready queue.now levels }
+    ensures { result ≡ (line_right is_ready tasks.now count ready queue.now
+        and eqb levels (levels_of (items tasks.now (take ready queue.now)))) }
 {
-    if 16 < count || 16 < ready {
-        return false;
-    }
-    let n = ready as usize;
-    let taken = &queue[..n];
-    descends(tasks, taken, count)
-        && levels == levels::levels_of(tasks, taken)
-        && all_exact(tasks, taken, count, states::READY, 0)
-        && all_nobody(&queue[n..])
-}
-
-// The line of subprogram m holds exactly those who wait for it, once each, in descending priority; its free places are
-// zero. No word of its levels is kept.
-pub(crate) fn waiting_right(
-    tasks: &[Task; 16],
-    line: &[TaskNo; 16],
-    waiting: usize,
-    count: u8,
-    m: u8,
-) -> bool
-    requires { (waiting ≤ 16) × (count ≤ 16) }
-    ensures { result ≡ line_right (waits_for m) tasks.now count waiting line.now }
-{
-    let taken = &line[..waiting];
-    descends(tasks, taken, count)
-        && all_exact(tasks, taken, count, states::AWAIT_SUB, m)
-        && all_nobody(&line[waiting..])
+    line_right(tasks, queue, ready, count, states::READY, 0)
+        && levels == levels::levels_of(tasks, &queue[..ready as usize])
 }

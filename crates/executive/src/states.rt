@@ -5,7 +5,7 @@ ghost use Rattle.executive.specs.States.{KindIs, TimeIs, MaskIs, AwaitedIs, is_a
 
 use crate::{Millis, Mode, State};
 
-// The kinds of state. The check goes by these numbers, and a table's image holds them.
+// The kinds of state. Numbers and no enum: `KindIs` and the check are stated of them, and a table's image holds them.
 const DORMANT: u8 = 0;
 
 pub const READY: u8 = 1;

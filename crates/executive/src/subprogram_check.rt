@@ -71,19 +71,17 @@ fn holder_right(tasks: &[Task; 16], s: &Sub) -> bool
 
 // Subprogram m: its numbers are in range, and it keeps the rule.
 fn sub_right(tasks: &[Task; 16], s: &Sub, m: u8, count: u8) -> bool
-    requires { count ≤ 16 }
     ensures { result ≡ (sub_in_range count s.now and sub_right tasks.now count m s.now) }
 {
     s.holder.0 <= count
         && s.waiting <= 16
         && holder_right(tasks, s)
-        && queue_check::waiting_right(tasks, &s.line, s.waiting as usize, count, m)
+        && queue_check::line_right(tasks, &s.line, s.waiting, count, states::AWAIT_SUB, m)
 }
 
 // Each subprogram keeps its rules.
 #[tactic(auto, using(crate::proofs::check::Subprograms::one_by_one))]
 fn each_right(tasks: &[Task; 16], subs: &[Sub; 8], count: u8) -> bool
-    requires { count ≤ 16 }
     ensures { result ≡ held_right tasks.now count subs.now }
 {
     for m in 0..8 {
