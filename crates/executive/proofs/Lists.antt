@@ -8,3 +8,5 @@ pub mod ClosedUp
 pub mod Chains
 pub mod Loops
 pub mod Search
+pub mod Chains
+pub mod Positions

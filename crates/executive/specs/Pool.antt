@@ -1,12 +1,10 @@
 -- The pool of queued start requests, in the order of asking, and what a step makes of it.
-use Rattle.std.specs.Prelude.{cond, ◌≡◌, List, [], ◌∷◌, ◌++◌, ℕ, suc, ◌≤◌, ltb, eqb, length, take, drop}
+use Rattle.std.specs.Prelude.{cond, ◌≡◌, List, [], ◌∷◌, ◌++◌, Option, Some, None, ℕ, suc, ◌≤◌, ltb, eqb, length, take, drop}
 use Rattle.executive.specs.declared.Request.{Request}
 use Rattle.executive.specs.declared.Rest.{Rest}
 use Rattle.executive.specs.Numbers.{most_queued}
 use Rattle.executive.specs.Lists.{pad}
 use Rattle.executive.specs.Places.{no_request}
-use Rattle.executive.specs.declared.pool.Found.{Found}
-use Rattle.executive.specs.declared.pool.Found.TheVariants.{At, Nothing}
 use Rattle.executive.specs.Rest.{remade}
 
 abbrev pub requests : Rest → List Request
@@ -30,5 +28,6 @@ place_of k (r ∷ rs) = cond (eqb k r.target.0) 0 (suc (place_of k rs))
 abbrev pub removed : {A : Type 0} → ℕ → List A → List A
 removed i rs = take i rs ++ drop (suc i) rs
 
-unfoldable pub found_at : ℕ → ℕ → Found
-found_at i n = cond (ltb i n) (At i) Nothing
+-- place i of n, if there is such a place
+unfoldable pub found_at : ℕ → ℕ → Option ℕ
+found_at i n = cond (ltb i n) (Some i) None

@@ -63,13 +63,7 @@ pub(crate) fn flag_marks(operation: u8, old: bool) -> Marks
 pub fn has_v(number: u8) -> bool
     ensures { result ≡ has_v number }
 {
-    if number == 4 {
-        return true;
-    }
-    if number == 6 {
-        return true;
-    }
-    number == 7
+    number == 4 || number == 6 || number == 7
 }
 
 // Kind 01: V where there is no such unit, and the grid times that are passed over.

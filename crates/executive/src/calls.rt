@@ -6,7 +6,6 @@ ghost use Rattle.executive.specs.Decisions.{AllUnmet, AllRests, anew_deed, sleep
 ghost use Rattle.executive.specs.Sheet.{only_z, restart_marks};
 
 use crate::decisions::{Change, Decision, Deed, How, Leave};
-use crate::pool::Found;
 use crate::{
     Millis, Request, State, Task, answers, clock, decisions, places, pool, refusals, states, waking,
 };
@@ -63,12 +62,10 @@ pub(crate) fn terminate(
     }
     let old = places::task_at(tasks, c);
     let w = old.end_waiter;
-    match pool::first_for(pool, queued as usize, c) {
-        Found::At(i) => {
-            let q = pool[i];
-            begins_anew(w, c, q, i)
-        }
-        Found::Nothing => sleeps(w, c),
+    let requests = &pool[..queued as usize];
+    match pool::first_for(requests, c) {
+        Some(i) => begins_anew(w, c, requests[i], i),
+        None => sleeps(w, c),
     }
 }
 
@@ -172,7 +169,7 @@ pub(crate) fn tick(
     if clock::END_OF_TIME < now.0 {
         return decisions::refused(10);
     }
-    let first = clock::next_due(alarms, 0, now);
+    let first = clock::first_due(&alarms, now);
     let more = clock::rings(alarms, flags, first, now);
     let marks = answers::only_z(false);
     let entrants = waking::woken(tasks, now, flags, more);

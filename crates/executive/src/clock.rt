@@ -1,6 +1,6 @@
 // Time: the milliseconds of an interval, the time that a restart aims at, the clock's advance with the alarms that
 // are due.
-ghost use Rattle.std.specs.Prelude.{◌≡◌, ◌<◌, ◌≤◌, ◌+◌, ◌*◌, ◌/◌, ◌%◌, ◌^◌, drop, get_or};
+ghost use Rattle.std.specs.Prelude.{◌≡◌, ◌<◌, ◌≤◌, ◌+◌, ◌*◌, ◌/◌, ◌%◌, ◌^◌, get_or};
 ghost use Rattle.executive.specs.Numbers.{end_of_time, longest};
 ghost use Rattle.executive.specs.Clock.{units, interval, missed, next_on_grid, skips_missed, aim_at, skipped_of, is_due, advanced};
 ghost use Rattle.executive.specs.Lists.{next_of, each};
@@ -108,10 +108,7 @@ fn split(length: Millis, every: Millis) -> Parts
 fn skips_missed(param: u8, count: u8) -> bool
     ensures { result ≡ skips_missed param count }
 {
-    if param / 64 % 4 == 1 {
-        return 0 < count;
-    }
-    false
+    param / 64 % 4 == 1 && 0 < count
 }
 
 // The time that a restart aims at, and how many grid times it passes over.
@@ -165,26 +162,17 @@ pub(crate) fn aim_of(start: Millis, now: Millis, param: u8, count: u8) -> Aim
 fn is_due(alarm: Millis, now: Millis) -> bool
     ensures { result ≡ is_due now.0 alarm }
 {
-    if alarm.0 == 0 {
-        return false;
-    }
-    alarm.0 <= now.0
+    alarm.0 != 0 && alarm.0 <= now.0
 }
 
-// The place of the next alarm that is due, from a place on; 32 where there is none.
-pub(crate) fn next_due(alarms: [Millis; 32], from: usize, now: Millis) -> usize
-    requires { from ≤ 32 }
-    ensures { result ≡ next_of (is_due now.0) from (drop from alarms) }
+// The place of the first alarm that is due; the number of alarms where there is none.
+pub(crate) fn first_due(alarms: &[Millis], now: Millis) -> usize
+    ensures { result ≡ next_of (is_due now.0) 0 alarms.now }
 {
-    let mut i = from;
-    while i < 32 {
-        let alarm = alarms[i];
-        if is_due(alarm, now) {
-            return i;
-        }
-        i += 1;
-    }
-    i
+    alarms
+        .iter()
+        .position(|alarm| is_due(*alarm, now))
+        .unwrap_or(alarms.len())
 }
 
 // The flags once the due alarms have rung, from the first of them on.
@@ -193,10 +181,10 @@ pub(crate) fn rings(alarms: [Millis; 32], flags: u32, first: usize, now: Millis)
     ensures { result ≡ each (rung_in now.0 alarms) 32 0 flags }
 {
     let mut more = flags;
-    let mut i = first;
-    while i < 32 {
-        more = more | bit_of(FlagNo(i as u8));
-        i = next_due(alarms, i + 1, now);
+    for i in first..32 {
+        if is_due(alarms[i], now) {
+            more |= bit_of(FlagNo(i as u8));
+        }
     }
     more
 }
@@ -208,19 +196,13 @@ impl Rest {
         requires { (self.clock.0 + self.granule ≤ end_of_time) × (first ≡ first_due self) }
         ensures { result ≡ advanced self }
     {
-        let granule = granule_of(self.granule);
-        let now = Millis(self.clock.0 + granule.0);
-        let mut alarms = self.alarms;
-        let mut flags = self.flags;
-        let mut i = first;
-        while i < 32 {
-            alarms[i] = Millis(0);
-            flags = flags | bit_of(FlagNo(i as u8));
-            i = next_due(alarms, i + 1, now);
+        self.clock = Millis(self.clock.0 + granule_of(self.granule).0);
+        for i in first..32 {
+            if is_due(self.alarms[i], self.clock) {
+                self.alarms[i] = Millis(0);
+                self.flags |= bit_of(FlagNo(i as u8));
+            }
         }
-        self.clock = now;
-        self.alarms = alarms;
-        self.flags = flags;
         self
     }
 }

@@ -44,14 +44,12 @@ fn mark_in(s: &[u8], k: TaskNo) -> u8
 pub fn tasks_in(s: &[u8]) -> u8
     ensures { (result ≡ tasks_in s.now) × (result ≤ 16) }
 {
-    let mut n: u8 = 0;
-    while n < 16 {
+    for n in 0..16 {
         if byte_at(s, place_in(TaskNo(n + 1))) != 0x41 {
             return n;
         }
-        n += 1;
     }
-    n
+    16
 }
 
 // The length of the configuration that the bytes begin with, up to its 42; 0 where they begin with none.
@@ -73,10 +71,7 @@ fn task_right(s: &[u8], k: TaskNo) -> bool
     requires { 0 < k.0 }
     ensures { result ≡ task_right s.now k.0 }
 {
-    if own_in(s, k) > 15 {
-        return false;
-    }
-    mark_in(s, k) <= 1
+    own_in(s, k) <= 15 && mark_in(s, k) <= 1
 }
 
 // Whether the records of the tasks 1 to n have.
@@ -84,12 +79,10 @@ fn tasks_right(s: &[u8], n: u8) -> bool
     requires { n ≤ 16 }
     ensures { result ≡ up_to (task_right s.now) n }
 {
-    let mut k: u8 = 0;
-    while k < n {
+    for k in 0..n {
         if !task_right(s, TaskNo(k + 1)) {
             return false;
         }
-        k += 1;
     }
     true
 }
@@ -99,16 +92,7 @@ pub fn is_configuration(s: &[u8]) -> bool
     ensures { result ≡ is_configuration s.now }
 {
     let n = tasks_in(s);
-    if n < 1 {
-        return false;
-    }
-    if s.len() != length_in(s) {
-        return false;
-    }
-    if byte_at(s, 1) < 1 {
-        return false;
-    }
-    tasks_right(s, n)
+    1 <= n && s.len() == length_in(s) && 1 <= byte_at(s, 1) && tasks_right(s, n)
 }
 
 // The entry of a dormant task.
@@ -126,11 +110,8 @@ fn all_dormant(s: &[u8], n: u8) -> [Task; 16]
     ensures { result ≡ pad 16 no_task (sleepers s.now n 1) }
 {
     let mut tasks = [NO_TASK; 16];
-    let mut i: usize = 0;
-    while i < n as usize {
-        let own = own_in(s, TaskNo(i as u8 + 1));
-        tasks[i] = dormant(own);
-        i += 1;
+    for k in 0..n {
+        tasks[k as usize] = dormant(own_in(s, TaskNo(k + 1)));
     }
     tasks
 }
@@ -188,10 +169,8 @@ fn start_marked(w: Work, s: &[u8], n: u8) -> Work
     ensures { result ≡ lit_in_flight (enter_all_in_flight (starters s.now n 1) w) }
 {
     let mut v = w;
-    let mut k: u8 = 0;
-    while k < n {
+    for k in 0..n {
         v = start_at(v, s, TaskNo(k + 1));
-        k += 1;
     }
     v
 }

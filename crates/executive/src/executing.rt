@@ -18,9 +18,7 @@ pub fn leaves(how: Leave) -> bool
 {
     match how {
         Leave::Stays => false,
-        Leave::Sleeps => true,
-        Leave::DueAt(_) => true,
-        Leave::As(_) => true,
+        _ => true,
     }
 }
 
@@ -30,17 +28,7 @@ fn alters(change: Change) -> bool
 {
     match change {
         Change::Same => false,
-        Change::Flags(_) => true,
-        Change::Alarm(_, _) => true,
-        Change::Put => true,
-        Change::Taken(_) => true,
-        Change::Clock(_) => true,
-        Change::Held(_, _) => true,
-        Change::Lined(_, _, _) => true,
-        Change::HandedOn(_) => true,
-        Change::Posted(_, _) => true,
-        Change::Delivered(_, _) => true,
-        Change::HandedOut(_) => true,
+        _ => true,
     }
 }
 
@@ -73,18 +61,8 @@ impl Work {
         requires { InFlight list.count self × FindsRoom (joins_for q now (named list)) self.table }
         ensures { result ≡ lit_in_flight (enter_all_in_flight (joins_for q now (named list)) self) }
     {
-        if list.count == 0 {
-            return self;
-        }
-        let entrants = list.places;
-        let n = list.count as usize;
-        let mut i: usize = 0;
-        while i < n {
-            let x = entrants[i];
-            let k = x.who;
-            let how = x.how;
-            self = self.enter(k, how, q, now);
-            i += 1;
+        for x in &list.places[..list.count as usize] {
+            self = self.enter(x.who, x.how, q, now);
         }
         self
     }
@@ -95,12 +73,9 @@ impl Table {
     fn emptied(mut self, k: TaskNo) -> Table
         ensures { result ≡ with_rest (with_mail k.0 no_mail self.rest) self }
     {
-        if k.0 == 0 {
-            return self;
+        if k.0 != 0 {
+            self.rest = self.rest.with_mail(k, messages::NO_MAIL);
         }
-        let old = self.rest;
-        let rest = old.with_mail(k, messages::NO_MAIL);
-        self.rest = rest;
         self
     }
 
@@ -110,15 +85,7 @@ impl Table {
         ensures { result ≡ with_rest (with_mail k.0 no_mail (changed change q self.rest)) self }
     {
         if alters(change) {
-            let old = self.rest;
-            let rest = old.changed(change, q);
-            if k.0 == 0 {
-                self.rest = rest;
-                return self;
-            }
-            let after = rest.with_mail(k, messages::NO_MAIL);
-            self.rest = after;
-            return self;
+            self.rest = self.rest.changed(change, q);
         }
         self.emptied(k)
     }
@@ -129,22 +96,15 @@ impl Table {
             × (self.levels ≡ levels_of (view self)) }
         ensures { result ≡ relit (depart (out_for how) self) }
     {
-        if leaves(how) {
-            return self.depart(how);
-        }
-        self
+        if leaves(how) { self.depart(how) } else { self }
     }
 
-    // Those who are listed enter, in order. Where nobody is listed the table is handed on as it stands.
+    // Those who are listed enter, in order.
     fn entered_by(self, list: Entrants, q: Request, now: Millis) -> Work
         requires { InFlight list.count (begin self) × FindsRoom (joins_for q now (named list)) self }
         ensures { result ≡ lit_in_flight (enter_all_in_flight (joins_for q now (named list)) (begin self)) }
     {
-        if list.count == 0 {
-            return self.begin();
-        }
-        let w = self.begin();
-        w.enter_all(list, q, now)
+        self.begin().enter_all(list, q, now)
     }
 
     // What is to be done is done. The rest changes before anybody enters, while no count is carried beside the table:
@@ -153,14 +113,8 @@ impl Table {
         requires { Doable d self }
         ensures { result ≡ apply_in_flight (meant d self) self }
     {
-        let leave = d.leave;
         let now = self.rest.clock;
-        let q = d.request;
-        let t = self.left(leave);
-        let change = d.change;
-        let k = d.empties;
-        let t1 = t.changed(change, q, k);
-        let list = d.entrants;
-        t1.entered_by(list, q, now)
+        let t = self.left(d.leave).changed(d.change, d.request, d.empties);
+        t.entered_by(d.entrants, d.request, now)
     }
 }

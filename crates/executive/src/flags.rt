@@ -36,8 +36,7 @@ pub(crate) fn is_set(flags: u32, f: FlagNo) -> bool
     requires { f.0 < 32 }
     ensures { result ≡ is_set flags f.0 }
 {
-    let bit = clock::bit_of(f);
-    flags & bit != 0
+    flags & clock::bit_of(f) != 0
 }
 
 // The flags with one set, and with one reset and every other as it was.
@@ -45,16 +44,14 @@ fn flag_set(flags: u32, f: FlagNo) -> u32
     requires { f.0 < 32 }
     ensures { result ≡ flag_set flags f.0 }
 {
-    let bit = clock::bit_of(f);
-    flags | bit
+    flags | clock::bit_of(f)
 }
 
 fn flag_reset(flags: u32, f: FlagNo) -> u32
     requires { f.0 < 32 }
     ensures { result ≡ flag_reset flags f.0 }
 {
-    let bit = clock::bit_of(f);
-    flags & (4294967295 - bit)
+    flags & !clock::bit_of(f)
 }
 
 impl Rest {
@@ -71,10 +68,7 @@ impl Rest {
         requires { f.0 < 32 }
         ensures { result ≡ with_alarm f.0 at self }
     {
-        let mut alarms = self.alarms;
-        let i = f.0 as usize;
-        alarms[i] = at;
-        self.alarms = alarms;
+        self.alarms[f.0 as usize] = at;
         self
     }
 }

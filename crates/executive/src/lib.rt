@@ -14,6 +14,7 @@ pub mod entries;
 pub mod executing;
 pub mod flags;
 pub mod levels;
+mod lines;
 mod message_check;
 pub mod messages;
 mod methods;

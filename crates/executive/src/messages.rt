@@ -1,17 +1,16 @@
 // The messages: kinds 14 and 15, a function for each, and what a call makes of those that wait and of a task's mail.
 ghost use Rattle.std.specs.Prelude.{◌≡◌, false, not, cond, ◌||◌, ◌<◌, ◌≤◌, eqb, ltb, leb, get_or, set, take};
 ghost use Rattle.executive.specs.Numbers.{most_sent};
-ghost use Rattle.executive.specs.Lists.{closed_at, ◌and◌};
+ghost use Rattle.executive.specs.Lists.{◌and◌};
 ghost use Rattle.executive.specs.Pool.{removed};
 ghost use Rattle.executive.specs.States.{takes, takes_from};
-ghost use Rattle.executive.specs.Table.{slid_of};
 ghost use Rattle.executive.specs.Messages.{no_message, letters, LettersInOrder, with_letters, fits, first_fit, stay_ahead, put_in_at, urgency, post_in, with_mail};
 ghost use Rattle.executive.specs.Decisions.{send_deed, receive_deed, receive_deed_by, refusing, doing};
 ghost use Rattle.executive.specs.Sheet.{only_z, hands_out};
 
 use crate::decisions::{Change, Decision, Deed, Leave};
 use crate::{
-    Mail, Marks, Message, Rest, State, answers, decisions, places, pool, refusals, states,
+    Mail, Marks, Message, Rest, State, answers, decisions, lines, places, pool, refusals, states,
 };
 use records::{TaskNo, Text};
 
@@ -51,67 +50,23 @@ pub fn is_fit(m: Message, k: TaskNo, s: TaskNo) -> bool
 }
 
 // The place of the first waiting message that fits; the number of those that wait where there is none.
-fn first_fit(messages: [Message; 32], sent: usize, k: TaskNo, s: TaskNo) -> usize
-    requires { sent ≤ 32 }
-    ensures { result ≡ first_fit k.0 s.0 (take sent messages) }
+fn first_fit(letters: &[Message], k: TaskNo, s: TaskNo) -> usize
+    ensures { result ≡ first_fit k.0 s.0 letters.now }
 {
-    let mut i: usize = 0;
-    while i < sent {
-        let m = messages[i];
-        if is_fit(m, k, s) {
-            return i;
-        }
-        i += 1;
-    }
-    i
+    letters
+        .iter()
+        .position(|m| is_fit(*m, k, s))
+        .unwrap_or(letters.len())
 }
 
 // How many of those that wait stay ahead of one of priority p.
-fn ahead(messages: [Message; 32], sent: usize, p: u8) -> usize
-    requires { sent ≤ 32 }
-    ensures { result ≡ stay_ahead urgency p (take sent messages) }
+fn ahead(letters: &[Message], p: u8) -> usize
+    ensures { result ≡ stay_ahead urgency p letters.now }
 {
-    let mut i: usize = 0;
-    while i < sent {
-        let m = messages[i];
-        if m.priority < p {
-            return i;
-        }
-        i += 1;
-    }
-    i
-}
-
-// The places with one more message at `at`: those from there on move down by one.
-fn slid(messages: [Message; 32], at: usize, sent: usize, m: Message) -> [Message; 32]
-    requires { (at ≤ sent) × (sent < 32) }
-    ensures { result ≡ slid_of messages at sent m }
-{
-    let mut ms = messages;
-    let mut moving = m;
-    let mut i = at;
-    while i <= sent {
-        let next = ms[i];
-        ms[i] = moving;
-        moving = next;
-        i += 1;
-    }
-    ms
-}
-
-// The places with one closed up and the last one free.
-fn dropped_at(messages: [Message; 32], at: usize) -> [Message; 32]
-    requires { at < 32 }
-    ensures { result ≡ closed_at no_message messages at }
-{
-    let mut ms = messages;
-    let mut i = at;
-    while i < 31 {
-        ms[i] = messages[i + 1];
-        i += 1;
-    }
-    ms[31] = NO_MESSAGE;
-    ms
+    letters
+        .iter()
+        .position(|m| m.priority < p)
+        .unwrap_or(letters.len())
 }
 
 // Kind 14: a task that waits for it gets it and enters; else it waits, behind all of equal or higher priority. The
@@ -149,7 +104,7 @@ pub(crate) fn send(
     if 32 <= sent {
         return decisions::refused(16);
     }
-    let at = ahead(messages, sent as usize, p);
+    let at = ahead(&messages[..sent as usize], p);
     let m = Message {
         to: k,
         sender: c,
@@ -199,15 +154,15 @@ pub fn receiving(c: TaskNo, s: TaskNo, i: usize, n: usize) -> Deed
     }
 }
 
-// The message at place i of n; a blank one past the last.
-fn message_at(messages: [Message; 32], i: usize, n: usize) -> Message
-    requires { n ≤ 32 }
-    ensures { result ≡ get_or (take n messages) i no_message }
+// The message at a place; a blank one past the last.
+fn message_at(letters: &[Message], i: usize) -> Message
+    ensures { result ≡ get_or letters.now i no_message }
 {
-    if i < n {
-        return messages[i];
+    if i < letters.len() {
+        letters[i]
+    } else {
+        NO_MESSAGE
     }
-    NO_MESSAGE
 }
 
 // Kind 15: the first waiting message that fits is handed out; where there is none, the caller departs and waits.
@@ -226,22 +181,12 @@ pub(crate) fn receive(
     if count < s.0 {
         return decisions::refused(6);
     }
-    let n = sent as usize;
-    let i = first_fit(messages, n, c, s);
-    let m = message_at(messages, i, n);
+    let letters = &messages[..sent as usize];
+    let i = first_fit(letters, c, s);
+    let m = message_at(letters, i);
     let marks = handing(m);
-    let deed = receiving(c, s, i, n);
+    let deed = receiving(c, s, i, letters.len());
     decisions::accepted(marks, deed)
-}
-
-// The mail with one place rewritten.
-fn mail_put(mail: [Mail; 16], i: usize, x: Mail) -> [Mail; 16]
-    requires { i < 16 }
-    ensures { result ≡ set mail i x }
-{
-    let mut out = mail;
-    out[i] = x;
-    out
 }
 
 impl Rest {
@@ -250,11 +195,8 @@ impl Rest {
         requires { LettersInOrder self × (at ≤ self.sent) × (self.sent < 32) }
         ensures { result ≡ with_letters (put_in_at at m (letters self)) self }
     {
-        let messages = self.messages;
-        let n = self.sent;
-        let put = slid(messages, at, n as usize, m);
-        self.messages = put;
-        self.sent = n + 1;
+        self.messages = lines::slid(self.messages, at, self.sent as usize, m);
+        self.sent += 1;
         self
     }
 
@@ -266,11 +208,9 @@ impl Rest {
         if 31 < n {
             return self;
         }
-        let messages = self.messages;
-        let at = ahead(messages, n, m.priority);
-        let put = slid(messages, at, n, m);
-        self.messages = put;
-        self.sent = self.sent + 1;
+        let at = ahead(&self.messages[..n], m.priority);
+        self.messages = lines::slid(self.messages, at, n, m);
+        self.sent += 1;
         self
     }
 
@@ -279,10 +219,8 @@ impl Rest {
         requires { LettersInOrder self × (i < self.sent) }
         ensures { result ≡ with_letters (removed i (letters self)) self }
     {
-        let messages = self.messages;
-        let left = dropped_at(messages, i);
-        self.messages = left;
-        self.sent = self.sent - 1;
+        self.messages = lines::closed_at(self.messages, NO_MESSAGE, i);
+        self.sent -= 1;
         self
     }
 
@@ -291,12 +229,9 @@ impl Rest {
         ensures { result ≡ with_mail k.0 x self }
     {
         let i = places::entry_place(k);
-        if 15 < i {
-            return self;
+        if i < 16 {
+            self.mail[i] = x;
         }
-        let mail = self.mail;
-        let put = mail_put(mail, i, x);
-        self.mail = put;
         self
     }
 }

@@ -1,10 +1,8 @@
 // The pool of queued start requests, in the order of asking.
-ghost use Rattle.std.specs.Prelude.{◌≡◌, ◌<◌, ◌≤◌, take, ◌∷◌, [], ◌++◌};
+ghost use Rattle.std.specs.Prelude.{◌≡◌, ◌<◌, ◌∷◌, [], ◌++◌, length};
 ghost use Rattle.executive.specs.Pool.{PoolInOrder, requests, found_at, place_of, removed, with_requests};
-ghost use Rattle.executive.specs.Places.{no_request};
-ghost use Rattle.executive.specs.Lists.{closed_at};
 
-use crate::{Request, Rest};
+use crate::{Request, Rest, lines};
 use records::TaskNo;
 
 // The blank request.
@@ -16,41 +14,11 @@ pub const NO_REQUEST: Request = Request {
     end_waiter: TaskNo(0),
 };
 
-// Where a request stands in the pool.
-#[derive(Clone, Copy)]
-pub(crate) enum Found {
-    At(usize),
-    Nothing,
-}
-
 // The place of the earliest request for a task.
-pub(crate) fn first_for(pool: [Request; 32], queued: usize, k: TaskNo) -> Found
-    requires { queued ≤ 32 }
-    ensures { result ≡ found_at (place_of k.0 (take queued pool)) queued }
+pub(crate) fn first_for(requests: &[Request], k: TaskNo) -> Option<usize>
+    ensures { result ≡ found_at (place_of k.0 requests.now) (length requests.now) }
 {
-    let mut i: usize = 0;
-    while i < queued {
-        if k.0 == pool[i].target.0 {
-            return Found::At(i);
-        }
-        i += 1;
-    }
-    Found::Nothing
-}
-
-// The pool with one place closed up and the last one free.
-pub(crate) fn dropped_at(pool: [Request; 32], at: usize) -> [Request; 32]
-    requires { at < 32 }
-    ensures { result ≡ closed_at no_request pool at }
-{
-    let mut p = pool;
-    let mut i = at;
-    while i < 31 {
-        p[i] = pool[i + 1];
-        i += 1;
-    }
-    p[31] = NO_REQUEST;
-    p
+    requests.iter().position(|q| k.0 == q.target.0)
 }
 
 impl Rest {
@@ -59,10 +27,8 @@ impl Rest {
         requires { PoolInOrder self × (i < self.queued) }
         ensures { result ≡ with_requests (removed i (requests self)) self }
     {
-        let pool = self.pool;
-        let left = dropped_at(pool, i);
-        self.pool = left;
-        self.queued = self.queued - 1;
+        self.pool = lines::closed_at(self.pool, NO_REQUEST, i);
+        self.queued -= 1;
         self
     }
 
@@ -71,11 +37,8 @@ impl Rest {
         requires { PoolInOrder self × (self.queued < 32) }
         ensures { result ≡ with_requests (requests self ++ (q ∷ [])) self }
     {
-        let mut pool = self.pool;
-        let n = self.queued as usize;
-        pool[n] = q;
-        self.pool = pool;
-        self.queued = self.queued + 1;
+        self.pool[self.queued as usize] = q;
+        self.queued += 1;
         self
     }
 }

@@ -8,7 +8,7 @@ ghost use Rattle.executive.specs.Decisions.{enter_deed, exit_deed, refusing, doi
 ghost use Rattle.executive.specs.Sheet.{only_z};
 
 use crate::decisions::{Change, Decision, Deed, Leave};
-use crate::{Rest, State, Sub, Task, answers, decisions, places, pool, queue};
+use crate::{Rest, State, Sub, Task, answers, decisions, lines, places, pool, queue};
 use records::{SubNo, TaskNo};
 
 // A free one, for which nobody waits.
@@ -22,24 +22,14 @@ pub(crate) const NO_SUB: Sub = Sub {
 pub(crate) fn holds_any(subs: [Sub; 8], k: TaskNo) -> bool
     ensures { result ≡ holds_any_of k subs }
 {
-    let mut i: usize = 0;
-    while i < 8 {
-        if k.0 == subs[i].holder.0 {
-            return true;
-        }
-        i += 1;
-    }
-    false
+    subs.iter().any(|s| k.0 == s.holder.0)
 }
 
 // Subprogram m; past the last there is a free one.
 pub(crate) fn sub_at(subs: [Sub; 8], m: SubNo) -> Sub
     ensures { result ≡ get_or subs m.0 no_subprogram }
 {
-    if 7 < m.0 {
-        return NO_SUB;
-    }
-    subs[m.0 as usize]
+    if m.0 < 8 { subs[m.0 as usize] } else { NO_SUB }
 }
 
 // Kind 06: the caller gets in, or departs and waits behind all of equal or higher priority.
@@ -62,7 +52,7 @@ pub(crate) fn enter(tasks: [Task; 16], s: Sub, c: TaskNo, m: SubNo) -> Decision
     }
     let e = places::task_at(tasks, c);
     let line = s.line;
-    let at = queue::ahead(tasks, line, s.waiting as usize, e.priority);
+    let at = queue::ahead(&tasks, &line[..s.waiting as usize], e.priority);
     let waits = decisions::alone(Leave::As(State::AwaitSub(m)), Change::Lined(m, c, at));
     decisions::accepted(marks, waits)
 }
@@ -98,11 +88,8 @@ impl Sub {
         requires { LineInOrder self × (at ≤ self.waiting) × (self.waiting < 16) }
         ensures { result ≡ joins_line at k self }
     {
-        let line = self.line;
-        let n = self.waiting;
-        let put = queue::slid(line, at, n as usize, k);
-        self.line = put;
-        self.waiting = n + 1;
+        self.line = lines::slid(self.line, at, self.waiting as usize, k);
+        self.waiting += 1;
         self
     }
 
@@ -111,16 +98,10 @@ impl Sub {
         ensures { result ≡ put_in at k self }
     {
         let n = self.waiting as usize;
-        if 15 < n {
-            return self;
+        if n < 16 && at <= n {
+            self.line = lines::slid(self.line, at, n, k);
+            self.waiting += 1;
         }
-        if n < at {
-            return self;
-        }
-        let line = self.line;
-        let put = queue::slid(line, at, n, k);
-        self.line = put;
-        self.waiting = self.waiting + 1;
         self
     }
 
@@ -129,16 +110,13 @@ impl Sub {
         requires { LineInOrder self }
         ensures { result ≡ handed_on self }
     {
-        let line = self.line;
         let n = self.waiting;
-        let w = queue::first(line, n);
+        let w = queue::first(self.line, n);
         self.holder = w;
-        if n == 0 {
-            return self;
+        if n != 0 {
+            self.line = lines::closed_at(self.line, TaskNo(0), 0);
+            self.waiting = n - 1;
         }
-        let moved_up = queue::closed_up(line);
-        self.line = moved_up;
-        self.waiting = n - 1;
         self
     }
 }
@@ -149,9 +127,7 @@ impl Rest {
         requires { m.0 < sub_count }
         ensures { result ≡ with_sub m.0 s self }
     {
-        let mut subs = self.subs;
-        subs[m.0 as usize] = s;
-        self.subs = subs;
+        self.subs[m.0 as usize] = s;
         self
     }
 
@@ -160,8 +136,7 @@ impl Rest {
         requires { m.0 < sub_count }
         ensures { result ≡ with_sub m.0 (enters_it k (sub_at self m.0)) self }
     {
-        let subs = self.subs;
-        let mut s = sub_at(subs, m);
+        let mut s = sub_at(self.subs, m);
         s.holder = k;
         self.with_sub(m, s)
     }
@@ -172,10 +147,8 @@ impl Rest {
             × ((sub_at self m.0).waiting < most_tasks) }
         ensures { result ≡ with_sub m.0 (joins_line at k (sub_at self m.0)) self }
     {
-        let subs = self.subs;
-        let s = sub_at(subs, m);
-        let longer = s.joined(k, at);
-        self.with_sub(m, longer)
+        let s = sub_at(self.subs, m);
+        self.with_sub(m, s.joined(k, at))
     }
 
     // Its holder gets out.
@@ -183,9 +156,7 @@ impl Rest {
         requires { (m.0 < sub_count) × LineInOrder (sub_at self m.0) }
         ensures { result ≡ with_sub m.0 (handed_on (sub_at self m.0)) self }
     {
-        let subs = self.subs;
-        let s = sub_at(subs, m);
-        let next = s.passed_on();
-        self.with_sub(m, next)
+        let s = sub_at(self.subs, m);
+        self.with_sub(m, s.passed_on())
     }
 }

@@ -4,9 +4,8 @@ use mathlib.Core.Path.{◌≡◌, refl, ap, ◌∙◌}
 use mathlib.Core.List.{List, [], ◌∷◌, ◌++◌, append-nil}
 use native.Mathlib.Nat.{le_of_suc-le-suc, not-suc-le-zero}
 use native.Mathlib.Numerals.{add-one}
-use native.Mathlib.Omega.{arith}
 use lib.ListN.{length, take, drop, set, get_or, drop_of_length-le}
-use lib.Seq.{take_all, length-take-le, get_or-append-add, get_or-drop}
+use lib.Seq.{take_all}
 
 module _ {ℓ} {A : Type ℓ} where
   -- a list that is filled from the front: the first i of x over y
@@ -24,14 +23,6 @@ module _ {ℓ} {A : Type ℓ} where
   -- the end of such a loop
   pub fill_end : (x y q : List A) (n : ℕ) → q ≡ take n x ++ drop n y → length x ≤ n → length y ≤ n → q ≡ x
   fill_end x y q n e hx hy = e ∙ simp (take_all n x hx, drop_of_length-le y hy, append-nil)
-
-  -- what stands at i is still y's
-  pub get_d_over : (x y : List A) (i : ℕ) (d : A) → i ≤ length x → get_or (take i x ++ drop i y) i d ≡ get_or y i d
-  get_d_over x y i d h =
-      let e : length (take i x) ≡ i = length-take-le i x h in
-      let f : i ≡ length (take i x) + 0 = omega arith in
-      ap (λ (n : ℕ). get_or (take i x ++ drop i y) n d) f ∙ get_or-append-add (take i x) (drop i y) 0 d ∙ get_or-drop i y 0 d
-      ∙ ap (λ (n : ℕ). get_or y n d) (omega arith)
 
   -- what stands within a list does not depend on what is read past its end
   pub get_d_within : (xs : List A) (i : ℕ) (d e : A) → i < length xs → get_or xs i d ≡ get_or xs i e

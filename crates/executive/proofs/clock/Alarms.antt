@@ -54,6 +54,10 @@ module _ (b : Rest) (now : Millis) (alarms : List Millis) (flags : ℕ) where
       → each rung (32 - i) i (ringing b now alarms flags) ≡ each rung (32 - (i + 1)) (i + 1) (ringing b now (set alarms i never) (bit_or flags (2 ^ i)))
   ring-turn i h e = each_turn rung 32 i (ringing b now alarms flags) h ∙ ap (each rung (32 - (i + 1)) (i + 1)) (rung-due i e)
 
+  pub ring-pass : (i : ℕ) → i < 32 → is_due now.0 (get_or alarms i never) ≡ false
+      → each rung (32 - i) i (ringing b now alarms flags) ≡ each rung (32 - (i + 1)) (i + 1) (ringing b now alarms flags)
+  ring-pass i h e = each_turn rung 32 i (ringing b now alarms flags) h ∙ ap (each rung (32 - (i + 1)) (i + 1)) (rung-not i e)
+
 -- the flags alone: a step looks at no alarm before it
 module _ (now : Millis) (alarms : List Millis) where
   in_not : (fs i : ℕ) → is_due now.0 (get_or alarms i never) ≡ false → rung_in now.0 alarms fs i ≡ fs
@@ -69,6 +73,10 @@ module _ (now : Millis) (alarms : List Millis) where
       → each (rung_in now.0 alarms) (32 - i) i fs ≡ each (rung_in now.0 alarms) (32 - (i + 1)) (i + 1) (bit_or fs (2 ^ i))
   unfolding rung_in
   in_turn fs i h e = each_turn (rung_in now.0 alarms) 32 i fs h ∙ rw e refl
+
+  pub in_pass : (fs i : ℕ) → i < 32 → is_due now.0 (get_or alarms i never) ≡ false
+      → each (rung_in now.0 alarms) (32 - i) i fs ≡ each (rung_in now.0 alarms) (32 - (i + 1)) (i + 1) fs
+  in_pass fs i h e = each_turn (rung_in now.0 alarms) 32 i fs h ∙ ap (each (rung_in now.0 alarms) (32 - (i + 1)) (i + 1)) (in_not fs i e)
 
   -- the same flags as of the whole rest, whose alarms are cleared on the way
   pub flags-rung : (n k : ℕ) (b : Rest) (al : List Millis) (fs : ℕ) → ((j : ℕ) → k ≤ j → get_or al j never ≡ get_or alarms j never)

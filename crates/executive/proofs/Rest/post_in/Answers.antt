@@ -11,12 +11,12 @@ pub returns-then-n-gt31 : goal.returns-then-n-gt31
 unfolding post_in
 returns-then-n-gt31 c = rw (le-ltb c.args.self.sent 32 (omega (arith, c.if-n-gt31.true))) refl
 
-pub slid-put-requires : goal.slid-put-requires
-slid-put-requires c =
+pub slid-self-requires : goal.slid-self-requires
+slid-self-requires c =
     let r = c.args in
-    (omega (arith, c.ahead-at.ensures, stay-le urgency r.m.priority (take r.self.sent r.self.messages), take-le r.self.sent r.self.messages), omega (arith, c.if-n-gt31.false))
+    (omega arith, (omega (arith, c.ahead-at.ensures, stay-le urgency r.m.priority (take r.self.sent r.self.messages), take-le r.self.sent r.self.messages), omega (arith, c.if-n-gt31.false)))
 
 pub returns : goal.returns
 unfolding post_in
 returns c =
-    rw (c.slid-put.ensures, c.ahead-at.ensures) (rw (lt-ltb c.args.self.sent 32 (omega (arith, c.if-n-gt31.false))) refl)
+    rw (c.slid-self.ensures, c.ahead-at.ensures) (rw (lt-ltb c.args.self.sent 32 (omega (arith, c.if-n-gt31.false))) refl)

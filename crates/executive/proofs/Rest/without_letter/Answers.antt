@@ -3,4 +3,4 @@ use Rattle.executive.proofs.Rest.without_letter.Goals as goal
 
 pub returns : goal.returns
 returns c =
-    rw c.dropped_at-left.ensures (made-without c.args.self c.requires.0 c.args.i c.requires.1)
+    rw c.closed_at-self.ensures (made-without c.args.self c.requires.0 c.args.i c.requires.1)

@@ -9,18 +9,15 @@ use Rattle.executive.proofs.queue.InFlight.{begin-flying, depart-fit, finds-besi
 use Rattle.executive.proofs.executing.Leaving.{depart-rest, changed-neat, done-is}
 use Rattle.executive.proofs.Table.execute.Goals as goal
 
-pub left-t-requires : goal.left-t-requires
-left-t-requires c = (c.requires.fit, c.requires.queue, c.requires.lit)
-
-pub changed-t1-requires : goal.changed-t1-requires
-changed-t1-requires c =
-    rw (c.left-t.ensures, depart-rest _ c.args.self) (c.requires.fit.neat, c.requires.able)
+pub changed-t-requires : goal.changed-t-requires
+changed-t-requires c =
+    rw (c.left.ensures, depart-rest _ c.args.self) (c.requires.fit.neat, c.requires.able)
 
 pub entered_by-requires : goal.entered_by-requires
 entered_by-requires c =
     let n = changed-neat c.args.d.change c.args.d.request c.args.self.rest c.requires.fit.neat c.requires.able in
     let f = depart-fit (out_for c.args.d.leave) c.args.self c.requires.fit in
-    rw (c.changed-t1.ensures, c.left-t.ensures, depart-rest _ c.args.self) (
+    rw (c.changed-t.ensures, c.left.ensures, depart-rest _ c.args.self) (
       begin-flying _ _ (record { all = f.all; few = f.few; tidy = f.tidy; neat = record { room = n.room; clear = n.clear } }) c.requires.room refl,
       finds-beside (joins_for c.args.d.request c.args.self.rest.clock (named c.args.d.entrants))
           (levels_of (view (depart (out_for c.args.d.leave) c.args.self)))
@@ -36,7 +33,7 @@ returns c =
     let r : Rest → Rest = λ (x : Rest). with_mail c.args.d.empties.0 no_mail (changed c.args.d.change c.args.d.request x) in
     c.entered_by.ensures
     ∙ ap (λ (u : Table). lit_in_flight (enter_all_in_flight js (begin u)))
-    (c.changed-t1.ensures
-    ∙ ap (λ (u : Table). with_rest (r u.rest) u) c.left-t.ensures)
+    (c.changed-t.ensures
+    ∙ ap (λ (u : Table). with_rest (r u.rest) u) c.left.ensures)
     ∙ ap (λ (x : Rest). lit_in_flight (enter_all_in_flight js (begin (with_rest (r x) (relit (depart o c.args.self)))))) (depart-rest o c.args.self)
     ∙ done-is o js (r c.args.self.rest) c.args.self

@@ -1,10 +1,10 @@
 use mathlib.Core.Path.{refl, ap, sym, ◌∙◌}
-use native.Mathlib.Omega.{arith}
-use Prim.Native.Nat.{◌≤◌}
 use mathlib.Core.Bool.{false}
-use lib.ListN.{length}
+use native.Mathlib.Omega.{arith}
+use lib.ListN.{take}
 use Rattle.executive.specs.Sheet.{only_z}
 use Rattle.executive.specs.Decisions.{doing}
+use Rattle.executive.proofs.queue.ArraysAreLists.{take-le}
 use Rattle.executive.proofs.pool.FoundAt.{found-is}
 use Rattle.executive.proofs.calls.Ending.{ends-run, ends-none}
 use Rattle.executive.proofs.calls.terminate.Goals as goal
@@ -12,24 +12,22 @@ use Rattle.executive.proofs.calls.terminate.Goals as goal
 pub returns-then-holding : goal.returns-then-holding
 returns-then-holding c = rw (c.refused.ensures, c.if-holding.true) refl
 
-pub offset_bounds-pool-i : goal.offset_bounds-pool-i
-offset_bounds-pool-i c =
-    let p = found-is _ _ _ (sym c.first_for.ensures ∙ c.in-At.is) in
+pub offset_bounds-requests-i : goal.offset_bounds-requests-i
+offset_bounds-requests-i c =
+    let p = found-is _ _ _ (sym c.first_for.ensures ∙ c.in-Some.is) in
+    omega (arith, c.requires, p.0, p.1, take-le c.args.queued c.args.pool)
+
+pub bounds-requests-i : goal.bounds-requests-i
+bounds-requests-i c =
+    let p = found-is _ _ _ (sym c.first_for.ensures ∙ c.in-Some.is) in
     omega (arith, c.requires, p.0, p.1)
 
-pub bounds-pool-i : goal.bounds-pool-i
-bounds-pool-i c =
-    let p = found-is _ _ _ (sym c.first_for.ensures ∙ c.in-At.is) in
-    omega (arith, c.requires, p.0, p.1)
-
-pub returns-in-At : goal.returns-in-At
-returns-in-At c =
-    let l : c.args.queued ≤ length c.args.pool = omega (arith, c.requires, c.well_formed.1.0.1.0.1) in
+pub returns-in-Some : goal.returns-in-Some
+returns-in-Some c =
     rw (c.begins_anew.ensures, c.task_at-old.ensures, c.if-holding.false)
-    (ap (doing (only_z false)) (ends-run c.args.tasks c.args.pool c.args.queued c.args.c l _ (sym c.first_for.ensures ∙ c.in-At.is)))
+    (ap (doing (only_z false)) (ends-run c.args.tasks (take c.args.queued c.args.pool) c.args.c _ (sym c.first_for.ensures ∙ c.in-Some.is)))
 
-pub returns-in-Nothing : goal.returns-in-Nothing
-returns-in-Nothing c =
-    let l : c.args.queued ≤ length c.args.pool = omega (arith, c.requires, c.well_formed.1.0.1.0.1) in
+pub returns-in-None : goal.returns-in-None
+returns-in-None c =
     rw (c.sleeps.ensures, c.task_at-old.ensures, c.if-holding.false)
-    (ap (doing (only_z false)) (ends-none c.args.tasks c.args.pool c.args.queued c.args.c l (sym c.first_for.ensures ∙ c.in-Nothing.is)))
+    (ap (doing (only_z false)) (ends-none c.args.tasks (take c.args.queued c.args.pool) c.args.c (sym c.first_for.ensures ∙ c.in-None.is)))

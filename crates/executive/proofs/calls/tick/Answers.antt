@@ -19,7 +19,7 @@ returns-then-now-gt-END_OF_TIME c = λ q ea ec eg ef.
     rw (c.refused.ensures, lt-ltb end_of_time (a.clock.0 + a.granule) h) refl
 
 pub rings-more-requires : goal.rings-more-requires
-rings-more-requires c = c.next_due-first.ensures
+rings-more-requires c = c.first_due-first.ensures
 
 pub woken-entrants-requires : goal.woken-entrants-requires
 woken-entrants-requires c = c.requires.1
@@ -28,5 +28,5 @@ pub returns : goal.returns
 returns c = λ q ea ec eg ef.
     let a = c.args in
     let h : a.clock.0 + a.granule ≤ end_of_time = rw c.granule_of-length.ensures at c.if-now-gt-END_OF_TIME.false in
-    rw (c.accepted.ensures, c.woken-entrants.ensures, c.only_z-marks.ensures, c.rings-more.ensures, c.next_due-first.ensures, c.granule_of-length.ensures, le-ltb end_of_time (a.clock.0 + a.granule) h, ← ea, ← ec, ← eg, ← ef)
+    rw (c.accepted.ensures, c.woken-entrants.ensures, c.only_z-marks.ensures, c.rings-more.ensures, c.first_due-first.ensures, c.granule_of-length.ensures, le-ltb end_of_time (a.clock.0 + a.granule) h, ← ea, ← ec, ← eg, ← ef)
     (ap (doing (only_z false)) (ticks a.tasks q (q.clock.0 + q.granule) refl))

@@ -1,13 +1,9 @@
 -- `executive::configuration::all_dormant` meets its contract.
 use mathlib.Core.Path.{◌≡◌}
-use Prim.Native.Nat.{◌≤◌, ◌-◌}
 use Rattle.executive.specs.Places.{no_task}
 use Rattle.executive.specs.Lists.{pad}
 use Rattle.executive.specs.Configuration.{sleepers}
 use Rattle.executive.proofs.configuration.all_dormant.Given as goal
 
-abbrev pub invariant-loop-i : goal.invariant-loop-i
-invariant-loop-i l = (l.i ≤ l.n) × (l.tasks ≡ pad 16 no_task (sleepers l.s l.i 1))
-
-abbrev pub decreases-loop-i : goal.decreases-loop-i
-decreases-loop-i l = l.n - l.i
+abbrev pub invariant-loop-k : goal.invariant-loop-k
+invariant-loop-k l = l.tasks ≡ pad 16 no_task (sleepers l.s l.k 1)

@@ -12,35 +12,28 @@ use Rattle.executive.proofs.configuration.start_marked.Goals as goal
 pub loop-k-init : goal.loop-k-init
 unfolding starters enter_all_in_flight
 loop-k-init c =
-    (omega arith, fewer-flying _ _ _ (omega arith) c.requires.0, lit-flying _ c.args.w c.requires.0, λ j _. nobody_in c.args.w.table c.requires.1 j)
+    (fewer-flying _ _ _ (omega arith) c.requires.0, lit-flying _ c.args.w c.requires.0, λ j _. nobody_in c.args.w.table c.requires.1 j)
 
 pub overflow_add-k : goal.overflow_add-k
-overflow_add-k c = omega arith
+overflow_add-k c = omega (arith, c.requires.0.room)
 
 pub start_at-v-requires : goal.start_at-v-requires
-start_at-v-requires c = let v = c.loop-k in (fewer-flying _ 1 _ (omega arith) v.invariant.1, omega arith, v.invariant.3 (v.k + 1) (omega arith))
-
-pub overflow_add-k-in-loop-k : goal.overflow_add-k-in-loop-k
-overflow_add-k-in-loop-k c = omega arith
-
-pub loop-k-smaller : goal.loop-k-smaller
-loop-k-smaller c = omega arith
+start_at-v-requires c = let v = c.loop-k in (fewer-flying _ 1 _ (omega arith) v.invariant.0, omega arith, v.invariant.2 (v.k + 1) (omega arith))
 
 pub loop-k-preserved : goal.loop-k-preserved
 loop-k-preserved c =
     let s = c.args.s.now in
     let v = c.loop-k in (
-      omega arith,
-      rw c.start_at-v.ensures (enters-flying _ _ v.v (fewer-flying _ _ v.v (omega (arith, marked-short s (v.k + 1))) v.invariant.1)),
+      rw c.start_at-v.ensures (enters-flying _ _ v.v (fewer-flying _ _ v.v (omega (arith, marked-short s (v.k + 1))) v.invariant.0)),
       c.start_at-v.ensures
-          ∙ ap (λ (w : Work). lit_in_flight (enter_all_in_flight (marked_start s (v.k + 1)) w)) v.invariant.2
+          ∙ ap (λ (w : Work). lit_in_flight (enter_all_in_flight (marked_start s (v.k + 1)) w)) v.invariant.1
           ∙ lit-on_the_way (marked_start s (v.k + 1)) _
           ∙ ap lit_in_flight (start-more s v.k _),
-      λ j h. rw c.start_at-v.ensures (start-vacant s (v.k + 1) v.v j h (v.invariant.3 j (omega arith)) (v.invariant.3 (v.k + 1) (omega arith))),
+      λ j h. rw c.start_at-v.ensures (start-vacant s (v.k + 1) v.v j h (v.invariant.2 j (omega arith)) (v.invariant.2 (v.k + 1) (omega arith))),
     )
 
 pub returns : goal.returns
 returns c =
     let v = c.loop-k in
     let e : c.args.n ≡ v.k = omega arith in
-    rw e v.invariant.2
+    rw e v.invariant.1

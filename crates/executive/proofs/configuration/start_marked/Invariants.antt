@@ -1,6 +1,6 @@
 -- `executive::configuration::start_marked` meets its contract.
 use mathlib.Core.Path.{◌≡◌}
-use Prim.Native.Nat.{ℕ, ◌≤◌, ◌<◌, ◌-◌}
+use Prim.Native.Nat.{ℕ, ◌<◌, ◌-◌}
 use Rattle.executive.specs.Queue.{count}
 use Rattle.executive.specs.Table.{InFlight, view, enter_all_in_flight, lit_in_flight}
 use Rattle.executive.specs.Configuration.{starters}
@@ -8,7 +8,4 @@ use Rattle.executive.proofs.configuration.start_marked.Given as goal
 
 abbrev pub invariant-loop-k : goal.invariant-loop-k
 invariant-loop-k l =
-    (l.k ≤ l.n) × InFlight (l.n - l.k) l.v × (l.v ≡ lit_in_flight (enter_all_in_flight (starters l.s l.k 1) l.initial.v)) × ((j : ℕ) → l.k < j → count j (view l.v.table) ≡ 0)
-
-abbrev pub decreases-loop-k : goal.decreases-loop-k
-decreases-loop-k l = l.n - l.k
+    InFlight (l.n - l.k) l.v × (l.v ≡ lit_in_flight (enter_all_in_flight (starters l.s l.k 1) l.initial.v)) × ((j : ℕ) → l.k < j → count j (view l.v.table) ≡ 0)

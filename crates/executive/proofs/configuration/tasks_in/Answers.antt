@@ -1,18 +1,9 @@
 -- `executive::configuration::tasks_in` meets its contract.
-use mathlib.Core.Path.{sym, ◌∙◌}
+use mathlib.Core.Path.{◌≡◌, sym, ◌∙◌}
 use native.Mathlib.Omega.{arith}
 use Rattle.executive.specs.Configuration.{tasks_in}
 use Rattle.executive.proofs.configuration.Loops.{tasks-turn, tasks-stop, tasks-end}
 use Rattle.executive.proofs.configuration.tasks_in.Goals as goal
-
-pub loop-n-init : goal.loop-n-init
-loop-n-init c = (omega arith, omega arith)
-
-pub overflow_add-n : goal.overflow_add-n
-overflow_add-n c = omega arith
-
-pub place_in-requires : goal.place_in-requires
-place_in-requires c = omega arith
 
 pub returns-then-byte_at-ne65 : goal.returns-then-byte_at-ne65
 unfolding tasks_in
@@ -20,23 +11,18 @@ returns-then-byte_at-ne65 c =
     let s = c.args.s.now in
     let v = c.loop-n in
     let e = rw c.place_in.ensures at c.byte_at.ensures in
-    (sym (tasks-stop s v.n c.loop-n-test.true (λ z. c.if-byte_at-ne65.true (e ∙ z))) ∙ v.invariant.1, v.invariant.0)
-
-pub overflow_add-n-in-loop-n : goal.overflow_add-n-in-loop-n
-overflow_add-n-in-loop-n c = omega arith
-
-pub loop-n-smaller : goal.loop-n-smaller
-loop-n-smaller c = omega arith
+    (sym (tasks-stop s v.n c.loop-n-test.true (λ z. c.if-byte_at-ne65.true (e ∙ z))) ∙ v.invariant, omega arith)
 
 pub loop-n-preserved : goal.loop-n-preserved
 loop-n-preserved c =
     let s = c.args.s.now in
     let v = c.loop-n in
     let e = rw c.place_in.ensures at c.byte_at.ensures in
-    (omega arith, sym (tasks-turn s v.n c.loop-n-test.true (sym e ∙ c.if-byte_at-ne65.false)) ∙ v.invariant.1)
+    sym (tasks-turn s v.n c.loop-n-test.true (sym e ∙ c.if-byte_at-ne65.false)) ∙ v.invariant
 
 pub returns : goal.returns
 unfolding tasks_in
 returns c =
     let v = c.loop-n in
-    (sym (tasks-end c.args.s.now v.n c.loop-n-test.false) ∙ v.invariant.1, v.invariant.0)
+    let e : v.n ≡ 16 = omega arith in
+    (sym e ∙ sym (tasks-end c.args.s.now v.n c.loop-n-test.false) ∙ v.invariant, omega arith)

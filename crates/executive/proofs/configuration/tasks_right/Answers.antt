@@ -8,32 +8,20 @@ use Rattle.executive.proofs.configuration.tasks_right.Goals as goal
 
 pub loop-k-init : goal.loop-k-init
 unfolding up_to
-loop-k-init c = (omega arith, refl)
-
-pub overflow_add-k : goal.overflow_add-k
-overflow_add-k c = omega arith
-
-pub task_right-requires : goal.task_right-requires
-task_right-requires c = omega arith
+loop-k-init c = refl
 
 pub returns-then-not-task_right : goal.returns-then-not-task_right
 returns-then-not-task_right c =
     let v = c.loop-k in
     sym (all-not (task_right c.args.s.now) c.args.n v.k c.loop-k-test.true (sym c.task_right.ensures ∙ c.if-not-task_right.true))
 
-pub overflow_add-k-in-loop-k : goal.overflow_add-k-in-loop-k
-overflow_add-k-in-loop-k c = omega arith
-
-pub loop-k-smaller : goal.loop-k-smaller
-loop-k-smaller c = omega arith
-
 pub loop-k-preserved : goal.loop-k-preserved
 loop-k-preserved c =
     let v = c.loop-k in
-    (omega arith, all_more (task_right c.args.s.now) v.k v.invariant.1 (sym c.task_right.ensures ∙ c.if-not-task_right.false))
+    all_more (task_right c.args.s.now) v.k v.invariant (sym c.task_right.ensures ∙ c.if-not-task_right.false)
 
 pub returns : goal.returns
 returns c =
     let v = c.loop-k in
     let e : c.args.n ≡ v.k = omega arith in
-    rw e (sym v.invariant.1)
+    rw e (sym v.invariant)

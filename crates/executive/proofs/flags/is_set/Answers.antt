@@ -4,4 +4,4 @@ use Rattle.executive.proofs.flags.is_set.Goals as goal
 
 pub returns : goal.returns
 unfolding is_set
-returns c = rw c.bit_of-bit.ensures refl
+returns c = rw c.bit_of.ensures refl

@@ -1,37 +1,14 @@
-use native.Mathlib.Omega.{arith}
-use Rattle.executive.specs.Messages.{no_message, urgency}
-use Rattle.executive.proofs.messages.Lines.{stay-stop, stay-pass, stay-end}
+use Rattle.std.proofs.Common.{rules, tests, refl, ltb, sym, ◌∙◌}
+use Rattle.std.proofs.lemmas.List.Recursion.{is_position_or_len}
+use Rattle.executive.specs.Queue.{behind}
+use Rattle.executive.specs.Messages.{stay_ahead, urgency}
+use Rattle.executive.proofs.Lists.Positions.{place-slice, until_less}
 use Rattle.executive.proofs.messages.ahead.Goals as goal
 
-pub returns-then-m-p : goal.returns-then-m-p
-returns-then-m-p c =
-    let v = c.loop-i in
-    let l = c.well_formed.0.1.0.1 in
-    stay-stop urgency no_message c.args.messages c.args.sent (omega arith) c.args.p v.i (omega arith) v.invariant.1 c.if-m-p.true
-
-pub loop-i-preserved : goal.loop-i-preserved
-loop-i-preserved c =
-    let v = c.loop-i in
-    let l = c.well_formed.0.1.0.1 in
-    (omega arith, stay-pass urgency no_message c.args.messages c.args.sent (omega arith) c.args.p v.i (omega arith) v.invariant.1 c.if-m-p.false)
-
 pub returns : goal.returns
+unfolding stay_ahead behind
 returns c =
-    let v = c.loop-i in
-    let l = c.well_formed.0.1.0.1 in
-    stay-end urgency no_message c.args.messages c.args.sent (omega arith) c.args.p v.i (omega arith) v.invariant.1
-
-pub loop-i-init : goal.loop-i-init
-loop-i-init c = (omega arith, omega arith)
-
-pub offset_bounds-messages-i : goal.offset_bounds-messages-i
-offset_bounds-messages-i c = omega arith
-
-pub bounds-messages-i : goal.bounds-messages-i
-bounds-messages-i c = omega arith
-
-pub overflow_add-i : goal.overflow_add-i
-overflow_add-i c = omega arith
-
-pub loop-i-smaller : goal.loop-i-smaller
-loop-i-smaller c = omega arith
+    let a = c.args in
+    c.unwrap_or.ensures
+    ∙ place-slice (λ m. ltb m.priority a.p) _ _ c.position.ensures.ran (search rules) (λ x b q k. search (rules, tests))
+    ∙ sym (is_position_or_len (stay_ahead urgency a.p) _ refl (λ x xs. until_less a.p x.priority _) a.letters.now)
