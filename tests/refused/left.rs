@@ -51,7 +51,7 @@ fn files_below(folder: &Path) -> Vec<PathBuf> {
 fn begins(line: &str) -> Option<&str> {
     let rest = line.trim_start();
     let rest = rest.strip_prefix("pub(crate) ").or(rest.strip_prefix("pub ")).unwrap_or(rest);
-    rest.strip_prefix("fn ")?.split('(').next()
+    rest.strip_prefix("fn ")?.split(['(', '<']).next()
 }
 
 fn indent(line: &str) -> &str {

@@ -170,9 +170,9 @@ pub(crate) fn tick(
         return decisions::refused(10);
     }
     let first = clock::first_due(&alarms, now);
-    let more = clock::rings(alarms, flags, first, now);
+    let more = clock::rings(&alarms, flags, first, now);
     let marks = answers::only_z(false);
-    let entrants = waking::woken(tasks, now, flags, more);
+    let entrants = waking::woken(&tasks, now, flags, more);
     let deed = Deed {
         leave: Leave::Stays,
         entrants,

@@ -48,7 +48,8 @@ fn unit_of(unit: u8) -> u64
 
 // So many of a unit added up, bit by bit of the count: the unit is doubled from turn to turn, and counts where the
 // bit is set.
-// A loop, since the compiler makes a product again of a sum of shifts by constants.
+// A loop, since the compiler makes a product again of a sum of shifts by constants; a while, since it goes by the bits
+// that are left and not by a count.
 fn added_up(unit: u64, count: u8) -> u64
     requires { count * unit ≤ longest }
     ensures { result ≡ count * unit }
@@ -82,7 +83,8 @@ struct Parts {
 }
 
 // Long division by shifts and subtractions: the interval is doubled until it is more than the length, then halved as
-// often, and taken off where it fits. A turn up and a turn down for each bit of the quotient.
+// often, and taken off where it fits. A turn up and a turn down for each bit of the quotient: whiles, since the interval
+// itself says when they end.
 fn split(length: Millis, every: Millis) -> Parts
     requires { (0 < every.0) × (length.0 ≤ end_of_time) × (every.0 ≤ longest) }
     ensures { (result.times ≡ length.0 / every.0) × (result.rest ≡ length.0 % every.0) }
@@ -176,9 +178,9 @@ pub(crate) fn first_due(alarms: &[Millis], now: Millis) -> usize
 }
 
 // The flags once the due alarms have rung, from the first of them on.
-pub(crate) fn rings(alarms: [Millis; 32], flags: u32, first: usize, now: Millis) -> u32
-    requires { first ≡ next_of (is_due now.0) 0 alarms }
-    ensures { result ≡ each (rung_in now.0 alarms) 32 0 flags }
+pub(crate) fn rings(alarms: &[Millis; 32], flags: u32, first: usize, now: Millis) -> u32
+    requires { first ≡ next_of (is_due now.0) 0 alarms.now }
+    ensures { result ≡ each (rung_in now.0 alarms.now) 32 0 flags }
 {
     let mut more = flags;
     for i in first..32 {

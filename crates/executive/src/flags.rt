@@ -74,9 +74,9 @@ impl Rest {
 }
 
 // Kind 09, operation 1, and kind 0B with count 0: all tasks whose condition now holds enter.
-fn set(tasks: [Task; 16], flags: u32, f: FlagNo) -> Deed
+fn set(tasks: &[Task; 16], flags: u32, f: FlagNo) -> Deed
     requires { f.0 < 32 }
-    ensures { result ≡ set_deed tasks flags f }
+    ensures { result ≡ set_deed tasks.now flags f }
 {
     let more = flag_set(flags, f);
     let nobody = decisions::none();
@@ -106,7 +106,7 @@ pub(crate) fn flag(tasks: [Task; 16], flags: u32, operation: u8, f: FlagNo) -> D
         return decisions::accepted(marks, reset);
     }
     if operation == 1 {
-        let deed = set(tasks, flags, f);
+        let deed = set(&tasks, flags, f);
         return decisions::accepted(marks, deed);
     }
     let still = decisions::nothing();
@@ -156,7 +156,7 @@ pub(crate) fn alarm(
     let old = is_set(flags, f);
     if count == 0 {
         let set_marks = answers::flag_marks(1, old);
-        let deed = set(tasks, flags, f);
+        let deed = set(&tasks, flags, f);
         return decisions::accepted(set_marks, deed);
     }
     let wait = clock::millis_of(unit, count);

@@ -9,9 +9,6 @@ use Rattle.executive.proofs.clock.Alarms.{ringing, ring-on, ring-turn, ring-pass
 use Rattle.executive.proofs.Rest.advance.Goals.{then-is_due, else-is_due}
 use Rattle.executive.proofs.Rest.advance.Goals as goal
 
-pub overflow_add-self : goal.overflow_add-self
-overflow_add-self c = omega (arith, c.granule_of.ensures, c.requires.0)
-
 pub loop-i-init : goal.loop-i-init
 unfolding first_due
 loop-i-init c =

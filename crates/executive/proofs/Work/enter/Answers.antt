@@ -36,6 +36,3 @@ returns c =
       priority_put c.args.self.table.tasks _ c.requires.0.fit.all c.args.k.0,
       lit-entered c.args.self.table c.requires.0.fit c.requires.0.lit c.args.k _ c.requires.1 (omega (arith, c.requires.0.room)),
     ) refl
-
-pub overflow_add-t : goal.overflow_add-t
-overflow_add-t c = omega (arith, c.requires.0.room)

@@ -1,17 +1,11 @@
 use mathlib.Core.Path.{refl}
 use native.Mathlib.Omega.{arith}
-use borrow.Author.Tests.{lt-ltb, le-ltb, ne_eqb}
+use borrow.Author.Tests.{le-ltb, ne_eqb}
 use Prim.Native.Nat.{◌≤◌}
 use Rattle.executive.specs.Decisions.{pause_deed}
 use Rattle.executive.specs.Numbers.{longest}
 use Rattle.executive.proofs.clock.Interval.{interval-most}
 use Rattle.executive.proofs.calls.pause.Goals as goal
-
-pub returns-then-now-gt-END_OF_TIME : goal.returns-then-now-gt-END_OF_TIME
-returns-then-now-gt-END_OF_TIME c = rw (c.refused.ensures, lt-ltb _ _ c.if-now-gt-END_OF_TIME.true) refl
-
-pub returns-then-unit-gt-LAST_UNIT : goal.returns-then-unit-gt-LAST_UNIT
-returns-then-unit-gt-LAST_UNIT c = rw (c.refused-then-unit-gt-LAST_UNIT.ensures, le-ltb _ _ c.if-now-gt-END_OF_TIME.false, lt-ltb _ _ c.if-unit-gt-LAST_UNIT.true) refl
 
 pub returns-then-count-eq0 : goal.returns-then-count-eq0
 unfolding pause_deed

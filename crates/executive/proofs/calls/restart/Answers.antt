@@ -1,23 +1,11 @@
 use mathlib.Core.Path.{refl}
 use native.Mathlib.Omega.{arith}
-use borrow.Author.Tests.{lt-ltb, le-ltb, eq-eqb, ne_eqb}
+use borrow.Author.Tests.{le-ltb, ne_eqb}
 use lib.Dec.{leb}
 use Rattle.executive.specs.Decisions.{wakes, restart_deed}
 use Rattle.executive.proofs.decisions.Listing.{listed_well, named-listed, woken-short}
 use Rattle.executive.proofs.Lists.Loops.{one-le}
 use Rattle.executive.proofs.calls.restart.Goals as goal
-
-pub returns-then-now-gt-END_OF_TIME : goal.returns-then-now-gt-END_OF_TIME
-returns-then-now-gt-END_OF_TIME c = rw (c.refused.ensures, lt-ltb _ _ c.if-now-gt-END_OF_TIME.true) refl
-
-pub returns-then-now-start : goal.returns-then-now-start
-returns-then-now-start c = rw (c.refused-then-now-start.ensures, le-ltb _ _ c.if-now-gt-END_OF_TIME.false, lt-ltb _ _ c.if-now-start.true) refl
-
-pub returns-then-param-eq3 : goal.returns-then-param-eq3
-returns-then-param-eq3 c = rw (c.refused-then-param-eq3.ensures, le-ltb _ _ c.if-now-gt-END_OF_TIME.false, le-ltb _ _ c.if-now-start.false, eq-eqb _ _ c.if-param-eq3.true) refl
-
-pub returns-then-holding : goal.returns-then-holding
-returns-then-holding c = rw (c.refused-then-holding.ensures, le-ltb _ _ c.if-now-gt-END_OF_TIME.false, le-ltb _ _ c.if-now-start.false, ne_eqb _ _ c.if-param-eq3.false, c.if-holding.true) refl
 
 pub raised-entrants-requires : goal.raised-entrants-requires
 raised-entrants-requires c =

@@ -1,4 +1,4 @@
-use mathlib.Core.Path.{refl, ap, sym, ◌∙◌}
+use mathlib.Core.Path.{ap, sym, ◌∙◌}
 use mathlib.Core.Bool.{false}
 use native.Mathlib.Omega.{arith}
 use lib.ListN.{take}
@@ -8,9 +8,6 @@ use Rattle.executive.proofs.queue.ArraysAreLists.{take-le}
 use Rattle.executive.proofs.pool.FoundAt.{found-is}
 use Rattle.executive.proofs.calls.Ending.{ends-run, ends-none}
 use Rattle.executive.proofs.calls.terminate.Goals as goal
-
-pub returns-then-holding : goal.returns-then-holding
-returns-then-holding c = rw (c.refused.ensures, c.if-holding.true) refl
 
 pub offset_bounds-requests-i : goal.offset_bounds-requests-i
 offset_bounds-requests-i c =

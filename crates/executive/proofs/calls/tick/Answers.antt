@@ -1,28 +1,12 @@
 use mathlib.Core.Path.{refl, ap}
-use borrow.Author.Tests.{lt-ltb, le-ltb}
-use native.Mathlib.Omega.{arith}
-use Prim.Native.Nat.{◌+◌, ◌<◌, ◌≤◌}
+use borrow.Author.Tests.{le-ltb}
+use Prim.Native.Nat.{◌+◌, ◌≤◌}
 use Rattle.executive.specs.Numbers.{end_of_time}
 use Rattle.executive.specs.Sheet.{only_z}
 use mathlib.Core.Bool.{false}
 use Rattle.executive.specs.Decisions.{doing}
 use Rattle.executive.proofs.calls.Ticking.{ticks}
 use Rattle.executive.proofs.calls.tick.Goals as goal
-
-pub overflow_add-now : goal.overflow_add-now
-overflow_add-now c = omega (arith, c.granule_of-length.ensures, c.requires.0)
-
-pub returns-then-now-gt-END_OF_TIME : goal.returns-then-now-gt-END_OF_TIME
-returns-then-now-gt-END_OF_TIME c = λ q ea ec eg ef.
-    let a = c.args in
-    let h : end_of_time < a.clock.0 + a.granule = rw c.granule_of-length.ensures at c.if-now-gt-END_OF_TIME.true in
-    rw (c.refused.ensures, lt-ltb end_of_time (a.clock.0 + a.granule) h) refl
-
-pub rings-more-requires : goal.rings-more-requires
-rings-more-requires c = c.first_due-first.ensures
-
-pub woken-entrants-requires : goal.woken-entrants-requires
-woken-entrants-requires c = c.requires.1
 
 pub returns : goal.returns
 returns c = λ q ea ec eg ef.

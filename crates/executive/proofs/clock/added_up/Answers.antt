@@ -8,16 +8,6 @@ use Rattle.executive.proofs.clock.Interval.{turned, step-within}
 use Rattle.executive.proofs.clock.added_up.Goals as goal
 use Rattle.executive.proofs.clock.added_up.Goals.{then-left-eq1, else-left-eq1}
 
-pub overflow_add-sum : goal.overflow_add-sum
-overflow_add-sum c =
-    let v = c.loop-left in
-    let p = c.requires in
-    let s = step-within v.left v.step longest (omega arith) (omega (arith, v.invariant.1)) in
-    omega (arith, v.invariant.1)
-
-pub loop-left-smaller : goal.loop-left-smaller
-loop-left-smaller c = omega arith
-
 pub loop-left-preserved : goal.loop-left-preserved
 loop-left-preserved c =
     let v = c.loop-left in
@@ -32,10 +22,3 @@ loop-left-preserved c =
         | else-left-eq1 w ↦ omega (arith, turned v.left v.step 0 (omega arith))
       ]),
     )
-
-pub returns : goal.returns
-returns c =
-    let v = c.loop-left in
-    let z : v.left ≡ 0 = omega arith in
-    let e = rw z at v.invariant.1 in
-    omega arith

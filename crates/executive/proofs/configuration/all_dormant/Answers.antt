@@ -1,5 +1,5 @@
 -- `executive::configuration::all_dormant` meets its contract.
-use mathlib.Core.Path.{◌≡◌, refl}
+use mathlib.Core.Path.{refl}
 use native.Mathlib.Omega.{arith}
 use Rattle.executive.specs.Lists.{pad}
 use Rattle.executive.specs.Configuration.{sleepers}
@@ -14,9 +14,3 @@ pub loop-k-preserved : goal.loop-k-preserved
 loop-k-preserved c =
     let v = c.loop-k in
     rw (v.invariant, c.dormant.ensures, c.own_in.ensures) (dormant-more c.args.s.now v.k (omega arith))
-
-pub returns : goal.returns
-returns c =
-    let v = c.loop-k in
-    let e : c.args.n ≡ v.k = omega arith in
-    rw e v.invariant

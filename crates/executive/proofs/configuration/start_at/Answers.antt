@@ -9,9 +9,6 @@ pub returns-then-mark_in-ne1 : goal.returns-then-mark_in-ne1
 unfolding marked_start enter_all_in_flight
 returns-then-mark_in-ne1 c = rw (← c.mark_in.ensures, ne_eqb c.mark_in.result 1 c.if-mark_in-ne1.true) (lit-flying 1 c.args.w c.requires.0)
 
-pub enter-requires : goal.enter-requires
-enter-requires c = (c.requires.0, c.requires.2)
-
 pub returns : goal.returns
 unfolding marked_start enter_all_in_flight
 returns c = rw (c.enter.ensures, c.own_in-own.ensures, ← c.mark_in.ensures, eq-eqb c.mark_in.result 1 c.if-mark_in-ne1.false) refl

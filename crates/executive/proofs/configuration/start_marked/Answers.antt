@@ -1,5 +1,5 @@
 -- `executive::configuration::start_marked` meets its contract.
-use mathlib.Core.Path.{◌≡◌, ap, ◌∙◌}
+use mathlib.Core.Path.{ap, ◌∙◌}
 use native.Mathlib.Omega.{arith}
 use Prim.Native.Nat.{◌+◌}
 use Rattle.executive.specs.declared.Work.{Work}
@@ -14,12 +14,6 @@ unfolding starters enter_all_in_flight
 loop-k-init c =
     (fewer-flying _ _ _ (omega arith) c.requires.0, lit-flying _ c.args.w c.requires.0, λ j _. nobody_in c.args.w.table c.requires.1 j)
 
-pub overflow_add-k : goal.overflow_add-k
-overflow_add-k c = omega (arith, c.requires.0.room)
-
-pub start_at-v-requires : goal.start_at-v-requires
-start_at-v-requires c = let v = c.loop-k in (fewer-flying _ 1 _ (omega arith) v.invariant.0, omega arith, v.invariant.2 (v.k + 1) (omega arith))
-
 pub loop-k-preserved : goal.loop-k-preserved
 loop-k-preserved c =
     let s = c.args.s.now in
@@ -31,9 +25,3 @@ loop-k-preserved c =
           ∙ ap lit_in_flight (start-more s v.k _),
       λ j h. rw c.start_at-v.ensures (start-vacant s (v.k + 1) v.v j h (v.invariant.2 j (omega arith)) (v.invariant.2 (v.k + 1) (omega arith))),
     )
-
-pub returns : goal.returns
-returns c =
-    let v = c.loop-k in
-    let e : c.args.n ≡ v.k = omega arith in
-    rw e v.invariant.1

@@ -1,6 +1,5 @@
 -- `executive::configuration::tasks_right` meets its contract.
-use mathlib.Core.Path.{◌≡◌, refl, sym, ◌∙◌}
-use native.Mathlib.Omega.{arith}
+use mathlib.Core.Path.{refl, sym, ◌∙◌}
 use Rattle.executive.specs.Lists.{up_to}
 use Rattle.executive.specs.Configuration.{task_right}
 use Rattle.executive.proofs.Lists.Loops.{all_more, all-not}
@@ -19,9 +18,3 @@ pub loop-k-preserved : goal.loop-k-preserved
 loop-k-preserved c =
     let v = c.loop-k in
     all_more (task_right c.args.s.now) v.k v.invariant (sym c.task_right.ensures ∙ c.if-not-task_right.false)
-
-pub returns : goal.returns
-returns c =
-    let v = c.loop-k in
-    let e : c.args.n ≡ v.k = omega arith in
-    rw e (sym v.invariant)

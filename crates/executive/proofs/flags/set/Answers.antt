@@ -1,4 +1,4 @@
-use mathlib.Core.Path.{◌≡◌, refl}
+use mathlib.Core.Path.{refl}
 use mathlib.Core.List.{[]}
 use Prim.Native.Nat.{◌≤◌}
 use native.Mathlib.Omega.{arith}
@@ -12,8 +12,7 @@ use Rattle.executive.proofs.flags.set.Goals as goal
 pub held-entrants-requires : goal.held-entrants-requires
 held-entrants-requires c =
     let f = holds c.flag_set-more.result in
-    let l : length c.args.tasks ≡ 16 = c.well_formed.0.1.0.1 in
-    let z : length (rising f 1 c.args.tasks) ≤ 16 = omega (arith, rising-few c.args.tasks f, l) in
+    let z : length (rising f 1 c.args.tasks.now) ≤ 16 = omega (arith, rising-few c.args.tasks.now f) in
     rw c.none-nobody.ensures (listed_well [] (omega arith), z)
 
 pub returns : goal.returns

@@ -2,9 +2,6 @@ use mathlib.Core.Path.{refl}
 use Rattle.executive.specs.Decisions.{wait_deed}
 use Rattle.executive.proofs.flags.wait.Goals as goal
 
-pub returns-then-bad_wait : goal.returns-then-bad_wait
-returns-then-bad_wait c = rw (c.refused.ensures, ← c.bad_wait.ensures, c.if-bad_wait.true) refl
-
 pub returns-then-is_met : goal.returns-then-is_met
 unfolding wait_deed
 returns-then-is_met c = rw (c.accepted.ensures, c.nothing-still.ensures, c.only_z-z.ensures, ← c.bad_wait.ensures, c.if-bad_wait.false, ← c.mode_of-m.ensures, ← c.is_met.ensures, c.if-is_met.true) refl

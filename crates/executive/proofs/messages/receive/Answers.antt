@@ -1,13 +1,10 @@
 use mathlib.Core.Path.{◌≡◌, refl}
-use borrow.Author.Tests.{lt-ltb, le-ltb}
+use borrow.Author.Tests.{le-ltb}
 use native.Mathlib.Omega.{arith}
 use lib.ListN.{length, take}
 use lib.Seq.{length-take-le}
 use Rattle.executive.specs.Decisions.{receive_deed}
 use Rattle.executive.proofs.messages.receive.Goals as goal
-
-pub returns-then-count-s : goal.returns-then-count-s
-returns-then-count-s c = rw (c.refused.ensures, lt-ltb _ _ c.if-count-s.true) refl
 
 pub returns : goal.returns
 unfolding receive_deed

@@ -2,9 +2,6 @@ use mathlib.Core.Path.{refl}
 use Rattle.executive.specs.Decisions.{start_if_dormant_deed}
 use Rattle.executive.proofs.starts.start_if_dormant.Goals as goal
 
-pub returns-then-bad_start : goal.returns-then-bad_start
-returns-then-bad_start c = rw (c.refused.ensures, ← c.bad_start.ensures, c.if-bad_start.true) refl
-
 pub returns-then-is_dormant : goal.returns-then-is_dormant
 unfolding start_if_dormant_deed
 returns-then-is_dormant c = rw (c.accepted.ensures, c.start_now-deed.ensures, c.only_z-marks.ensures, c.request-q.ensures, c.priority_of-priority.ensures, ← c.bad_start.ensures, c.if-bad_start.false, ← c.is_dormant.ensures, c.if-is_dormant.true) refl

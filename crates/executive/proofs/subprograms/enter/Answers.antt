@@ -1,13 +1,7 @@
 use mathlib.Core.Path.{refl}
-use borrow.Author.Tests.{lt-ltb, le-ltb, eq-eqb, ne_eqb}
+use borrow.Author.Tests.{le-ltb, eq-eqb, ne_eqb}
 use Rattle.executive.specs.Decisions.{enter_deed}
 use Rattle.executive.proofs.subprograms.enter.Goals as goal
-
-pub returns-then-m-gt7 : goal.returns-then-m-gt7
-returns-then-m-gt7 c = rw (c.refused.ensures, lt-ltb _ _ c.if-m-gt7.true) refl
-
-pub returns-then-c-s : goal.returns-then-c-s
-returns-then-c-s c = rw (c.refused-then-c-s.ensures, le-ltb _ _ c.if-m-gt7.false, eq-eqb _ _ c.if-c-s.true) refl
 
 pub returns-then-s-eq0 : goal.returns-then-s-eq0
 unfolding enter_deed
