@@ -1,5 +1,5 @@
 // The table that a configuration makes: one 40, then 1 to 16 of 41, then 42, and nothing more (docs/CALLS.md, 3).
-ghost use Rattle.std.specs.Prelude.{◌≡◌, ◌<◌, ◌≤◌};
+ghost use Rattle.std.specs.Prelude.{◌≡◌, ◌+◌, ◌<◌, ◌≤◌};
 ghost use Rattle.executive.specs.Queue.{count};
 ghost use Rattle.executive.specs.Table.{InFlight, view, enter_all_in_flight, lit_in_flight};
 ghost use Rattle.executive.specs.Lists.{pad, up_to};
@@ -16,28 +16,25 @@ use crate::{Fresh, Millis, Rest, Table, Task, Work, answers};
 use records::TaskNo;
 use records::reading::byte_at;
 
-// Where the record of task k stands.
-fn place_in(k: TaskNo) -> usize
-    requires { 0 < k.0 }
-    ensures { result ≡ place_in k.0 }
+// Where the record of the task at place i, task i + 1, stands.
+fn place_in(i: u8) -> usize
+    ensures { result ≡ place_in (i + 1) }
 {
-    3 * (k.0 as usize) - 1
+    3 * (i as usize) + 2
 }
 
-// The own priority that the record of task k gives.
-fn own_in(s: &[u8], k: TaskNo) -> u8
-    requires { 0 < k.0 }
-    ensures { result ≡ own_in s.now k.0 }
+// The own priority that it gives.
+fn own_in(s: &[u8], i: u8) -> u8
+    ensures { result ≡ own_in s.now (i + 1) }
 {
-    byte_at(s, place_in(k) + 1)
+    byte_at(s, place_in(i) + 1)
 }
 
-// The mark that the record of task k gives.
-fn mark_in(s: &[u8], k: TaskNo) -> u8
-    requires { 0 < k.0 }
-    ensures { result ≡ mark_in s.now k.0 }
+// The mark that it gives.
+fn mark_in(s: &[u8], i: u8) -> u8
+    ensures { result ≡ mark_in s.now (i + 1) }
 {
-    byte_at(s, place_in(k) + 2)
+    byte_at(s, place_in(i) + 2)
 }
 
 // How many 41 follow the 40, one after the other; 16 at most.
@@ -45,7 +42,7 @@ pub fn tasks_in(s: &[u8]) -> u8
     ensures { (result ≡ tasks_in s.now) × (result ≤ 16) }
 {
     for n in 0..16 {
-        if byte_at(s, place_in(TaskNo(n + 1))) != 0x41 {
+        if byte_at(s, place_in(n)) != 0x41 {
             return n;
         }
     }
@@ -60,18 +57,17 @@ pub fn length_in(bytes: &[u8]) -> usize
         return 0;
     }
     let n = tasks_in(bytes);
-    if byte_at(bytes, place_in(TaskNo(n + 1))) != 0x42 {
+    if byte_at(bytes, place_in(n)) != 0x42 {
         return 0;
     }
     3 * (n as usize) + 3
 }
 
-// Whether the record of task k has its numbers in range.
-fn task_right(s: &[u8], k: TaskNo) -> bool
-    requires { 0 < k.0 }
-    ensures { result ≡ task_right s.now k.0 }
+// Whether the record of the task at place i has its numbers in range.
+fn task_right(s: &[u8], i: u8) -> bool
+    ensures { result ≡ task_right s.now (i + 1) }
 {
-    own_in(s, k) <= 15 && mark_in(s, k) <= 1
+    own_in(s, i) <= 15 && mark_in(s, i) <= 1
 }
 
 // Whether the records of the tasks 1 to n have.
@@ -79,8 +75,8 @@ fn tasks_right(s: &[u8], n: u8) -> bool
     requires { n ≤ 16 }
     ensures { result ≡ up_to (task_right s.now) n }
 {
-    for k in 0..n {
-        if !task_right(s, TaskNo(k + 1)) {
+    for i in 0..n {
+        if !task_right(s, i) {
             return false;
         }
     }
@@ -110,8 +106,8 @@ fn all_dormant(s: &[u8], n: u8) -> [Task; 16]
     ensures { result ≡ pad 16 no_task (sleepers s.now n 1) }
 {
     let mut tasks = [NO_TASK; 16];
-    for k in 0..n {
-        tasks[k as usize] = dormant(own_in(s, TaskNo(k + 1)));
+    for i in 0..n {
+        tasks[i as usize] = dormant(own_in(s, i));
     }
     tasks
 }
@@ -148,18 +144,19 @@ fn table_of(tasks: [Task; 16], rest: Rest) -> Table
     }
 }
 
-// Task k, which is not ready yet, starts if it is marked: at its own priority, with argument 0 and scheduled start 0.
-fn start_at(w: Work, s: &[u8], k: TaskNo) -> Work
-    requires { InFlight 1 w × (0 < k.0) × (count k.0 (view w.table) ≡ 0) }
-    ensures { result ≡ lit_in_flight (enter_all_in_flight (marked_start s.now k.0) w) }
+// The task at place i, which is not ready yet, starts if it is marked: at its own priority, with argument 0 and scheduled
+// start 0.
+fn start_at(w: Work, s: &[u8], i: u8) -> Work
+    requires { InFlight 1 w × (i < 16) × (count (i + 1) (view w.table) ≡ 0) }
+    ensures { result ≡ lit_in_flight (enter_all_in_flight (marked_start s.now (i + 1)) w) }
 {
-    if mark_in(s, k) != 1 {
+    if mark_in(s, i) != 1 {
         return w;
     }
-    let own = own_in(s, k);
+    let k = TaskNo(i + 1);
     let mut q = NO_REQUEST;
     q.target = k;
-    q.priority = own;
+    q.priority = own_in(s, i);
     w.enter(k, How::Begun, q, Millis(0))
 }
 
@@ -169,8 +166,8 @@ fn start_marked(w: Work, s: &[u8], n: u8) -> Work
     ensures { result ≡ lit_in_flight (enter_all_in_flight (starters s.now n 1) w) }
 {
     let mut v = w;
-    for k in 0..n {
-        v = start_at(v, s, TaskNo(k + 1));
+    for i in 0..n {
+        v = start_at(v, s, i);
     }
     v
 }

@@ -25,16 +25,6 @@ pub interval-most : (u n : ℕ) → n < 256 → (interval u n).0 ≤ longest
 unfolding interval
 interval-most u n h = le_trans (mul-le-mul_right (get_or units u 0) (omega arith)) (unit-most u)
 
--- there is no other unit
-pub unit-none : (u : ℕ) → last_unit < u → get_or units u 0 ≡ 0
-unit-none zero h = absurd (omega arith)
-unit-none (suc zero) h = absurd (omega arith)
-unit-none (suc (suc zero)) h = absurd (omega arith)
-unit-none (suc (suc (suc zero))) h = absurd (omega arith)
-unit-none (suc (suc (suc (suc zero)))) h = absurd (omega arith)
-unit-none (suc (suc (suc (suc (suc zero))))) h = absurd (omega arith)
-unit-none (suc (suc (suc (suc (suc (suc u)))))) h = refl
-
 unit-least : (u : ℕ) → u ≤ last_unit → 1 ≤ get_or units u 0
 unit-least zero h = lit≤ tt
 unit-least (suc zero) h = lit≤ tt

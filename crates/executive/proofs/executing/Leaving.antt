@@ -11,7 +11,7 @@ use Rattle.executive.specs.Table.{begin, enter_all_in_flight, lit_in_flight, app
 use Rattle.executive.specs.Plans.{caller}
 use Rattle.executive.specs.Clock.{advanced}
 use Rattle.executive.specs.Pool.{PoolInOrder}
-use Rattle.executive.specs.Decisions.{out_for, gone_as, alters, changed, Able}
+use Rattle.executive.specs.Decisions.{out_for, gone_as, changed, Able}
 use Rattle.executive.proofs.queue.ArraysAreLists.{queued-neat, removed-neat}
 use Rattle.executive.proofs.queue.InFlight.{enters-beside}
 use Rattle.executive.proofs.Plans.Tick.{advanced-alone}
@@ -52,21 +52,6 @@ pub depart-rest : (o : Out) (t : Table) → (depart o t).rest ≡ t.rest
 unfolding depart departed
 depart-rest stays t = refl
 depart-rest (leaves f) t = refl
-
--- a change that alters nothing
-pub unaltered : (ch : Change) (q : Request) (t : Table) → alters ch ≡ false → t ≡ with_rest (changed ch q t.rest) t
-unaltered change.Same q t e = refl
-unaltered (change.Flags fs) q t e = false_not_true (sym e)
-unaltered (change.Alarm f at) q t e = false_not_true (sym e)
-unaltered change.Put q t e = false_not_true (sym e)
-unaltered (change.Taken i) q t e = false_not_true (sym e)
-unaltered (change.Clock i) q t e = false_not_true (sym e)
-unaltered (change.Held m k) q t e = false_not_true (sym e)
-unaltered (change.Lined m k i) q t e = false_not_true (sym e)
-unaltered (change.HandedOn m) q t e = false_not_true (sym e)
-unaltered (change.Posted m i) q t e = false_not_true (sym e)
-unaltered (change.Delivered k x) q t e = false_not_true (sym e)
-unaltered (change.HandedOut i) q t e = false_not_true (sym e)
 
 -- a change that can be made keeps the requests in order
 pub changed-neat : (ch : Change) (q : Request) (r : Rest) → PoolInOrder r → Able ch r → PoolInOrder (changed ch q r)

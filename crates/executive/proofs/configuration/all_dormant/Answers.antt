@@ -6,11 +6,11 @@ use Rattle.executive.specs.Configuration.{sleepers}
 use Rattle.executive.proofs.configuration.Loops.{dormant-more}
 use Rattle.executive.proofs.configuration.all_dormant.Goals as goal
 
-pub loop-k-init : goal.loop-k-init
+pub loop-i-init : goal.loop-i-init
 unfolding pad sleepers
-loop-k-init c = refl
+loop-i-init c = refl
 
-pub loop-k-preserved : goal.loop-k-preserved
-loop-k-preserved c =
-    let v = c.loop-k in
-    rw (v.invariant, c.dormant.ensures, c.own_in.ensures) (dormant-more c.args.s.now v.k (omega arith))
+pub loop-i-preserved : goal.loop-i-preserved
+loop-i-preserved c =
+    let v = c.loop-i in
+    rw (v.invariant, c.dormant.ensures, c.own_in.ensures) (dormant-more c.args.s.now v.i (omega arith))

@@ -11,4 +11,4 @@ returns-then-mark_in-ne1 c = rw (← c.mark_in.ensures, ne_eqb c.mark_in.result 
 
 pub returns : goal.returns
 unfolding marked_start enter_all_in_flight
-returns c = rw (c.enter.ensures, c.own_in-own.ensures, ← c.mark_in.ensures, eq-eqb c.mark_in.result 1 c.if-mark_in-ne1.false) refl
+returns c = rw (c.enter.ensures, c.own_in.ensures, ← c.mark_in.ensures, eq-eqb c.mark_in.result 1 c.if-mark_in-ne1.false) refl

@@ -6,6 +6,6 @@ use Rattle.executive.specs.Table.{InFlight, view, enter_all_in_flight, lit_in_fl
 use Rattle.executive.specs.Configuration.{starters}
 use Rattle.executive.proofs.configuration.start_marked.Given as goal
 
-abbrev pub invariant-loop-k : goal.invariant-loop-k
-invariant-loop-k l =
-    InFlight (l.n - l.k) l.v × (l.v ≡ lit_in_flight (enter_all_in_flight (starters l.s l.k 1) l.initial.v)) × ((j : ℕ) → l.k < j → count j (view l.v.table) ≡ 0)
+abbrev pub invariant-loop-i : goal.invariant-loop-i
+invariant-loop-i l =
+    InFlight (l.n - l.i) l.v × (l.v ≡ lit_in_flight (enter_all_in_flight (starters l.s l.i 1) l.initial.v)) × ((j : ℕ) → l.i < j → count j (view l.v.table) ≡ 0)
