@@ -167,7 +167,7 @@ fn is_due(alarm: Millis, now: Millis) -> bool
     alarm.0 != 0 && alarm.0 <= now.0
 }
 
-// The place of the first alarm that is due; the number of alarms where there is none.
+// The place of the first alarm that is due; the number of alarms where there is none, as `Change::Clock` is told it.
 pub(crate) fn first_due(alarms: &[Millis], now: Millis) -> usize
     ensures { result ≡ next_of (is_due now.0) 0 alarms.now }
 {

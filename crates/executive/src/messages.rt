@@ -49,7 +49,8 @@ pub fn is_fit(m: Message, k: TaskNo, s: TaskNo) -> bool
     k.0 == m.to.0 && takes_from(s.0, m.sender)
 }
 
-// The place of the first waiting message that fits; the number of those that wait where there is none.
+// The place of the first waiting message that fits; the number of those that wait where there is none, as `receiving`
+// is told it.
 fn first_fit(letters: &[Message], k: TaskNo, s: TaskNo) -> usize
     ensures { result ≡ first_fit k.0 s.0 letters.now }
 {

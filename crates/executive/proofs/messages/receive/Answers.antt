@@ -10,6 +10,5 @@ pub returns : goal.returns
 unfolding receive_deed
 returns c =
     let a = c.args in
-    let l = c.well_formed.0.1.0.1 in
-    let n : length (take a.sent a.messages) ≡ a.sent = length-take-le a.sent a.messages (omega (arith, c.requires)) in
+    let n : length (take a.sent a.messages) ≡ a.sent = length-take-le a.sent a.messages (omega arith) in
     rw (c.accepted.ensures, c.receiving-deed.ensures, c.handing-marks.ensures, c.message_at-m.ensures, c.first_fit-i.ensures, le-ltb _ _ c.if-count-s.false, n) refl
