@@ -83,8 +83,8 @@ struct Parts {
 }
 
 // Long division by shifts and subtractions: the interval is doubled until it is more than the length, then halved as
-// often, and taken off where it fits. A turn up and a turn down for each bit of the quotient: whiles, since the interval
-// itself says when they end.
+// often, and taken off where it fits. A turn up and a turn down for each bit of the quotient: whiles, since the
+// interval itself says when they end.
 fn split(length: Millis, every: Millis) -> Parts
     requires { (0 < every.0) × (length.0 ≤ end_of_time) × (every.0 ≤ longest) }
     ensures { (result.times ≡ length.0 / every.0) × (result.rest ≡ length.0 % every.0) }

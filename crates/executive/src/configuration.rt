@@ -144,8 +144,8 @@ fn table_of(tasks: [Task; 16], rest: Rest) -> Table
     }
 }
 
-// The task at place i, which is not ready yet, starts if it is marked: at its own priority, with argument 0 and scheduled
-// start 0.
+// The task at place i, which is not ready yet, starts if it is marked: at its own priority, with argument 0 and
+// scheduled start 0.
 fn start_at(w: Work, s: &[u8], i: u8) -> Work
     requires { InFlight 1 w × (i < 16) × (count (i + 1) (view w.table) ≡ 0) }
     ensures { result ≡ lit_in_flight (enter_all_in_flight (marked_start s.now (i + 1)) w) }
