@@ -8,5 +8,4 @@ pub mod ClosedUp
 pub mod Chains
 pub mod Loops
 pub mod Search
-pub mod Chains
 pub mod Positions
