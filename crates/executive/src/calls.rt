@@ -1,13 +1,14 @@
 // Kinds 00 to 03 and 80, a function for each: what it decides of a call, as its sheet says.
-ghost use Rattle.std.specs.Prelude.{◌≡◌, false, not, cond, ◌||◌, ◌+◌, ◌/◌, ◌%◌, ◌≤◌, eqb, ltb, take};
-ghost use Rattle.executive.specs.Numbers.{last_unit, most_queued, end_of_time};
+ghost use Rattle.std.specs.Prelude.{◌≡◌, false, not, cond, ◌||◌, ◌+◌, ◌/◌, ◌%◌, ◌≤◌, eqb, ltb};
+ghost use Rattle.executive.specs.Numbers.{last_unit, end_of_time};
 ghost use Rattle.executive.specs.States.{is_paused};
 ghost use Rattle.executive.specs.Decisions.{AllUnmet, AllRests, anew_deed, sleep_deed, terminate_deed, restart_deed, pause_deed, cancel_pause_deed, tick_deed, refusing, doing};
 ghost use Rattle.executive.specs.Sheet.{only_z, restart_marks};
 
 use crate::decisions::{Change, Decision, Deed, How, Leave};
 use crate::{
-    Millis, Request, State, Task, answers, clock, decisions, places, pool, refusals, states, waking,
+    Millis, Request, State, Task, answers, clock, decisions, entries, pool, refusals, states,
+    waking,
 };
 use records::TaskNo;
 
@@ -48,21 +49,17 @@ pub fn sleeps(w: TaskNo, c: TaskNo) -> Decision
 
 // Kind 00.
 pub(crate) fn terminate(
-    tasks: [Task; 16],
-    pool: [Request; 32],
-    queued: u8,
+    tasks: &[Task; 16],
+    requests: &[Request],
     c: TaskNo,
     holding: bool,
 ) -> Decision
-    requires { queued ≤ most_queued }
-    ensures { result ≡ cond holding (refusing 15) (doing (only_z false) (terminate_deed tasks (take queued pool) c)) }
+    ensures { result ≡ cond holding (refusing 15) (doing (only_z false) (terminate_deed tasks.now requests.now c)) }
 {
     if holding {
         return decisions::refused(15);
     }
-    let old = places::task_at(tasks, c);
-    let w = old.end_waiter;
-    let requests = &pool[..queued as usize];
+    let w = entries::entry_of(tasks, c).end_waiter;
     match pool::first_for(requests, c) {
         Some(i) => begins_anew(w, c, requests[i], i),
         None => sleeps(w, c),
@@ -154,25 +151,25 @@ pub fn cancel_pause(e: Task, count: u8, k: TaskNo) -> Decision
 
 // Kind 80: the first alarm that is due is looked for once, and told with the deed.
 pub(crate) fn tick(
-    tasks: [Task; 16],
-    alarms: [Millis; 32],
+    tasks: &[Task; 16],
+    alarms: &[Millis; 32],
     clock: Millis,
     granule: u8,
     flags: u32,
 ) -> Decision
-    requires { (clock.0 ≤ end_of_time) × AllUnmet flags tasks }
-    ensures { AllRests alarms clock granule flags
-        (λ q. result ≡ cond (ltb end_of_time (clock.0 + granule)) (refusing 10) (doing (only_z false) (tick_deed tasks q))) }
+    requires { (clock.0 ≤ end_of_time) × AllUnmet flags tasks.now }
+    ensures { AllRests alarms.now clock granule flags
+        (λ q. result ≡ cond (ltb end_of_time (clock.0 + granule)) (refusing 10) (doing (only_z false) (tick_deed tasks.now q))) }
 {
     let length = clock::granule_of(granule);
     let now = Millis(clock.0 + length.0);
     if clock::END_OF_TIME < now.0 {
         return decisions::refused(10);
     }
-    let first = clock::first_due(&alarms, now);
-    let more = clock::rings(&alarms, flags, first, now);
+    let first = clock::first_due(alarms, now);
+    let more = clock::rings(alarms, flags, first, now);
     let marks = answers::only_z(false);
-    let entrants = waking::woken(&tasks, now, flags, more);
+    let entrants = waking::woken(tasks, now, flags, more);
     let deed = Deed {
         leave: Leave::Stays,
         entrants,

@@ -39,15 +39,13 @@ fn by_kind(tasks: [Task; 16], rest: Rest, c: TaskNo, call: Call) -> Decision
     let flags = rest.flags;
     match call {
         Call::Terminate => {
-            let pool = rest.pool;
-            let subs = rest.subs;
-            let holding = subprograms::holds_any(subs, c);
-            calls::terminate(tasks, pool, rest.queued, c, holding)
+            let holding = subprograms::holds_any(&rest.subs, c);
+            let requests = &rest.pool[..rest.queued as usize];
+            calls::terminate(&tasks, requests, c, holding)
         }
         Call::Restart { parameter, count } => {
             let e = places::task_at(tasks, c);
-            let subs = rest.subs;
-            let holding = subprograms::holds_any(subs, c);
+            let holding = subprograms::holds_any(&rest.subs, c);
             calls::restart(e, now, c, holding, parameter, count)
         }
         Call::Pause { unit, count } => calls::pause(now, unit, count),
@@ -67,49 +65,34 @@ fn by_kind(tasks: [Task; 16], rest: Rest, c: TaskNo, call: Call) -> Decision
             let e = places::task_at(tasks, task);
             starts::start_or_queue(e, rest.count, rest.queued, c, option, task, argument)
         }
-        Call::Flag { operation, flag } => flags::flag(tasks, flags, operation, flag),
+        Call::Flag { operation, flag } => flags::flag(&tasks, flags, operation, flag),
         Call::Wait { mode, mask } => flags::wait(flags, mode, mask),
         Call::Alarm { unit, count, flag } => {
-            let alarms = rest.alarms;
-            let running = refusals::alarm_at(alarms, flag);
-            flags::alarm(tasks, running, now, flags, unit, count, flag)
+            let running = refusals::alarm_at(&rest.alarms, flag);
+            flags::alarm(&tasks, running, now, flags, unit, count, flag)
         }
-        Call::Tick => {
-            let alarms = rest.alarms;
-            calls::tick(tasks, alarms, now, rest.granule, flags)
-        }
+        Call::Tick => { calls::tick(&tasks, &rest.alarms, now, rest.granule, flags) }
         Call::Granule { .. } => decisions::no_call(),
         Call::Task { .. } => decisions::no_call(),
         Call::End => decisions::no_call(),
         Call::Enter { subprogram } => {
-            let subs = rest.subs;
-            let s = subprograms::sub_at(subs, subprogram);
-            subprograms::enter(tasks, s, c, subprogram)
+            let s = subprograms::sub_at(&rest.subs, subprogram);
+            subprograms::enter(&tasks, s, c, subprogram)
         }
         Call::Exit { subprogram } => {
-            let subs = rest.subs;
-            let s = subprograms::sub_at(subs, subprogram);
+            let s = subprograms::sub_at(&rest.subs, subprogram);
             subprograms::exit(s, c, subprogram)
         }
         Call::Send { task, text } => {
             let e = places::task_at(tasks, task);
             let own = places::task_at(tasks, c);
             let state = e.state;
-            let waiting = rest.messages;
-            messages::send(
-                state,
-                own.priority,
-                waiting,
-                rest.sent,
-                rest.count,
-                c,
-                task,
-                text,
-            )
+            let letters = &rest.messages[..rest.sent as usize];
+            messages::send(state, own.priority, letters, rest.count, c, task, text)
         }
         Call::Receive { task } => {
-            let waiting = rest.messages;
-            messages::receive(waiting, rest.sent, rest.count, c, task)
+            let letters = &rest.messages[..rest.sent as usize];
+            messages::receive(letters, rest.count, c, task)
         }
     }
 }

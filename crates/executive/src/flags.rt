@@ -91,9 +91,9 @@ fn set(tasks: &[Task; 16], flags: u32, f: FlagNo) -> Deed
 }
 
 // Kind 09: operation 0 resets, 1 sets, 2 tests.
-pub(crate) fn flag(tasks: [Task; 16], flags: u32, operation: u8, f: FlagNo) -> Decision
+pub(crate) fn flag(tasks: &[Task; 16], flags: u32, operation: u8, f: FlagNo) -> Decision
     ensures { result ≡ cond (ltb 31 f.0 || ltb 2 operation) (refusing 6)
-        (doing (flag_marks operation (is_set flags f.0)) (flag_deed tasks flags operation f)) }
+        (doing (flag_marks operation (is_set flags f.0)) (flag_deed tasks.now flags operation f)) }
 {
     if refusals::bad_flag(operation, f) {
         return decisions::refused(6);
@@ -106,7 +106,7 @@ pub(crate) fn flag(tasks: [Task; 16], flags: u32, operation: u8, f: FlagNo) -> D
         return decisions::accepted(marks, reset);
     }
     if operation == 1 {
-        let deed = set(&tasks, flags, f);
+        let deed = set(tasks, flags, f);
         return decisions::accepted(marks, deed);
     }
     let still = decisions::nothing();
@@ -133,7 +133,7 @@ pub fn wait(flags: u32, mode: u8, mask: u32) -> Decision
 
 // Kind 0B: count 0 is a set, with its marks; any other count a mere look at the flag.
 pub(crate) fn alarm(
-    tasks: [Task; 16],
+    tasks: &[Task; 16],
     running: Millis,
     now: Millis,
     flags: u32,
@@ -145,7 +145,7 @@ pub(crate) fn alarm(
     ensures { result ≡ cond (ltb last_unit unit || ltb 31 f.0) (refusing 6)
         (cond (not (eqb running.0 0)) (refusing 9)
         (doing (marks (eqb count 0 and is_set flags f.0) false (is_set flags f.0))
-        (alarm_deed tasks now flags unit count f))) }
+        (alarm_deed tasks.now now flags unit count f))) }
 {
     if refusals::bad_alarm(unit, f) {
         return decisions::refused(6);
@@ -156,7 +156,7 @@ pub(crate) fn alarm(
     let old = is_set(flags, f);
     if count == 0 {
         let set_marks = answers::flag_marks(1, old);
-        let deed = set(&tasks, flags, f);
+        let deed = set(tasks, flags, f);
         return decisions::accepted(set_marks, deed);
     }
     let wait = clock::millis_of(unit, count);

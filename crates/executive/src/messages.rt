@@ -1,5 +1,5 @@
 // The messages: kinds 14 and 15, a function for each, and what a call makes of those that wait and of a task's mail.
-ghost use Rattle.std.specs.Prelude.{◌≡◌, false, not, cond, ◌||◌, ◌<◌, ◌≤◌, eqb, ltb, leb, get_or, set, take};
+ghost use Rattle.std.specs.Prelude.{◌≡◌, false, not, cond, ◌||◌, ◌<◌, ◌≤◌, eqb, ltb, leb, get_or, length};
 ghost use Rattle.executive.specs.Numbers.{most_sent};
 ghost use Rattle.executive.specs.Lists.{◌and◌};
 ghost use Rattle.executive.specs.Pool.{removed};
@@ -75,17 +75,15 @@ fn ahead(letters: &[Message], p: u8) -> usize
 pub(crate) fn send(
     s: State,
     p: u8,
-    messages: [Message; 32],
-    sent: u8,
+    letters: &[Message],
     count: u8,
     c: TaskNo,
     k: TaskNo,
     text: Text,
 ) -> Decision
-    requires { sent ≤ most_sent }
     ensures { result ≡ cond (eqb k.0 0 || ltb count k.0) (refusing 6)
-        (cond (not (takes c.0 s) and leb most_sent sent) (refusing 16)
-        (doing (only_z false) (send_deed c p s (stay_ahead urgency p (take sent messages)) k text))) }
+        (cond (not (takes c.0 s) and leb most_sent (length letters.now)) (refusing 16)
+        (doing (only_z false) (send_deed c p s (stay_ahead urgency p letters.now) k text))) }
 {
     if refusals::no_such_task(count, k) {
         return decisions::refused(6);
@@ -102,10 +100,10 @@ pub(crate) fn send(
         };
         return decisions::accepted(marks, deed);
     }
-    if 32 <= sent {
+    if 32 <= letters.len() {
         return decisions::refused(16);
     }
-    let at = ahead(&messages[..sent as usize], p);
+    let at = ahead(letters, p);
     let m = Message {
         to: k,
         sender: c,
@@ -167,22 +165,14 @@ fn message_at(letters: &[Message], i: usize) -> Message
 }
 
 // Kind 15: the first waiting message that fits is handed out; where there is none, the caller departs and waits.
-pub(crate) fn receive(
-    messages: [Message; 32],
-    sent: u8,
-    count: u8,
-    c: TaskNo,
-    s: TaskNo,
-) -> Decision
-    requires { sent ≤ most_sent }
+pub(crate) fn receive(letters: &[Message], count: u8, c: TaskNo, s: TaskNo) -> Decision
     ensures { result ≡ cond (ltb count s.0) (refusing 6)
-        (doing (hands_out (get_or (take sent messages) (first_fit c.0 s.0 (take sent messages)) no_message))
-        (receive_deed c (take sent messages) s)) }
+        (doing (hands_out (get_or letters.now (first_fit c.0 s.0 letters.now) no_message))
+        (receive_deed c letters.now s)) }
 {
     if count < s.0 {
         return decisions::refused(6);
     }
-    let letters = &messages[..sent as usize];
     let i = first_fit(letters, c, s);
     let m = message_at(letters, i);
     let marks = handing(m);

@@ -53,12 +53,13 @@ pub(crate) fn bad_alarm(unit: u8, f: FlagNo) -> bool
 }
 
 // The alarm of a flag; none past the last flag.
-pub(crate) fn alarm_at(alarms: [Millis; 32], f: FlagNo) -> Millis
-    ensures { result ≡ get_or alarms f.0 never }
+pub(crate) fn alarm_at(alarms: &[Millis], f: FlagNo) -> Millis
+    ensures { result ≡ get_or alarms.now f.0 never }
 {
-    if 31 < f.0 {
-        return Millis(0);
-    }
     let i = f.0 as usize;
-    alarms[i]
+    if i < alarms.len() {
+        alarms[i]
+    } else {
+        Millis(0)
+    }
 }

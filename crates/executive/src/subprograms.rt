@@ -8,7 +8,7 @@ ghost use Rattle.executive.specs.Decisions.{enter_deed, exit_deed, refusing, doi
 ghost use Rattle.executive.specs.Sheet.{only_z};
 
 use crate::decisions::{Change, Decision, Deed, Leave};
-use crate::{Rest, State, Sub, Task, answers, decisions, lines, places, pool, queue};
+use crate::{Rest, State, Sub, Task, answers, decisions, entries, lines, pool, queue};
 use records::{SubNo, TaskNo};
 
 // A free one, for which nobody waits.
@@ -19,25 +19,26 @@ pub(crate) const NO_SUB: Sub = Sub {
 };
 
 // Whether a task holds any of them.
-pub(crate) fn holds_any(subs: [Sub; 8], k: TaskNo) -> bool
-    ensures { result ≡ holds_any_of k subs }
+pub(crate) fn holds_any(subs: &[Sub], k: TaskNo) -> bool
+    ensures { result ≡ holds_any_of k subs.now }
 {
     subs.iter().any(|s| k.0 == s.holder.0)
 }
 
 // Subprogram m; past the last there is a free one.
-pub(crate) fn sub_at(subs: [Sub; 8], m: SubNo) -> Sub
-    ensures { result ≡ get_or subs m.0 no_subprogram }
+pub(crate) fn sub_at(subs: &[Sub], m: SubNo) -> Sub
+    ensures { result ≡ get_or subs.now m.0 no_subprogram }
 {
-    if m.0 < 8 { subs[m.0 as usize] } else { NO_SUB }
+    let i = m.0 as usize;
+    if i < subs.len() { subs[i] } else { NO_SUB }
 }
 
 // Kind 06: the caller gets in, or departs and waits behind all of equal or higher priority.
-pub(crate) fn enter(tasks: [Task; 16], s: Sub, c: TaskNo, m: SubNo) -> Decision
+pub(crate) fn enter(tasks: &[Task; 16], s: Sub, c: TaskNo, m: SubNo) -> Decision
     requires { s.waiting ≤ most_tasks }
     ensures { result ≡ cond (ltb last_sub m.0) (refusing 6)
         (cond (holds? c s) (refusing 13)
-        (doing (only_z false) (enter_deed c (ahead_of tasks (task_at tasks c.0).priority (line_of s)) m s))) }
+        (doing (only_z false) (enter_deed c (ahead_of tasks.now (task_at tasks.now c.0).priority (line_of s)) m s))) }
 {
     if 7 < m.0 {
         return decisions::refused(6);
@@ -50,9 +51,9 @@ pub(crate) fn enter(tasks: [Task; 16], s: Sub, c: TaskNo, m: SubNo) -> Decision
         let gets_in = decisions::alone(Leave::Stays, Change::Held(m, c));
         return decisions::accepted(marks, gets_in);
     }
-    let e = places::task_at(tasks, c);
+    let e = entries::entry_of(tasks, c);
     let line = s.line;
-    let at = queue::ahead(&tasks, &line[..s.waiting as usize], e.priority);
+    let at = queue::ahead(tasks, &line[..s.waiting as usize], e.priority);
     let waits = decisions::alone(Leave::As(State::AwaitSub(m)), Change::Lined(m, c, at));
     decisions::accepted(marks, waits)
 }
@@ -136,7 +137,7 @@ impl Rest {
         requires { m.0 < sub_count }
         ensures { result ≡ with_sub m.0 (enters_it k (sub_at self m.0)) self }
     {
-        let mut s = sub_at(self.subs, m);
+        let mut s = sub_at(&self.subs, m);
         s.holder = k;
         self.with_sub(m, s)
     }
@@ -147,7 +148,7 @@ impl Rest {
             × ((sub_at self m.0).waiting < most_tasks) }
         ensures { result ≡ with_sub m.0 (joins_line at k (sub_at self m.0)) self }
     {
-        let s = sub_at(self.subs, m);
+        let s = sub_at(&self.subs, m);
         self.with_sub(m, s.joined(k, at))
     }
 
@@ -156,7 +157,7 @@ impl Rest {
         requires { (m.0 < sub_count) × LineInOrder (sub_at self m.0) }
         ensures { result ≡ with_sub m.0 (handed_on (sub_at self m.0)) self }
     {
-        let s = sub_at(self.subs, m);
+        let s = sub_at(&self.subs, m);
         self.with_sub(m, s.passed_on())
     }
 }

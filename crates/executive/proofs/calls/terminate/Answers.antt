@@ -1,10 +1,8 @@
 use mathlib.Core.Path.{ap, sym, ◌∙◌}
 use mathlib.Core.Bool.{false}
 use native.Mathlib.Omega.{arith}
-use lib.ListN.{take}
 use Rattle.executive.specs.Sheet.{only_z}
 use Rattle.executive.specs.Decisions.{doing}
-use Rattle.executive.proofs.queue.ArraysAreLists.{take-le}
 use Rattle.executive.proofs.pool.FoundAt.{found-is}
 use Rattle.executive.proofs.calls.Ending.{ends-run, ends-none}
 use Rattle.executive.proofs.calls.terminate.Goals as goal
@@ -12,19 +10,19 @@ use Rattle.executive.proofs.calls.terminate.Goals as goal
 pub offset_bounds-requests-i : goal.offset_bounds-requests-i
 offset_bounds-requests-i c =
     let p = found-is _ _ _ (sym c.first_for.ensures ∙ c.in-Some.is) in
-    omega (arith, c.requires, p.0, p.1, take-le c.args.queued c.args.pool)
+    omega (arith, p.0, p.1)
 
 pub bounds-requests-i : goal.bounds-requests-i
 bounds-requests-i c =
     let p = found-is _ _ _ (sym c.first_for.ensures ∙ c.in-Some.is) in
-    omega (arith, c.requires, p.0, p.1)
+    omega (arith, p.0, p.1)
 
 pub returns-in-Some : goal.returns-in-Some
 returns-in-Some c =
-    rw (c.begins_anew.ensures, c.task_at-old.ensures, c.if-holding.false)
-    (ap (doing (only_z false)) (ends-run c.args.tasks (take c.args.queued c.args.pool) c.args.c _ (sym c.first_for.ensures ∙ c.in-Some.is)))
+    rw (c.begins_anew.ensures, c.entry_of.ensures, c.if-holding.false)
+    (ap (doing (only_z false)) (ends-run c.args.tasks.now c.args.requests.now c.args.c _ (sym c.first_for.ensures ∙ c.in-Some.is)))
 
 pub returns-in-None : goal.returns-in-None
 returns-in-None c =
-    rw (c.sleeps.ensures, c.task_at-old.ensures, c.if-holding.false)
-    (ap (doing (only_z false)) (ends-none c.args.tasks (take c.args.queued c.args.pool) c.args.c (sym c.first_for.ensures ∙ c.in-None.is)))
+    rw (c.sleeps.ensures, c.entry_of.ensures, c.if-holding.false)
+    (ap (doing (only_z false)) (ends-none c.args.tasks.now c.args.requests.now c.args.c (sym c.first_for.ensures ∙ c.in-None.is)))

@@ -1,22 +1,16 @@
-use mathlib.Core.Path.{refl}
+use mathlib.Core.Path.{◌≡◌, refl}
+use native.Mathlib.Omega.{arith}
+use lib.ListN.{length, take}
+use lib.Seq.{length-take-le}
 use borrow.Author.Tests.{le-ltb}
 use Rattle.executive.specs.Sheet.{decided}
 use Rattle.executive.proofs.deciding.by_kind.Goals as goal
-
-pub terminate-requires : goal.terminate-requires
-terminate-requires c = c.requires.queued
 
 pub alarm-requires : goal.alarm-requires
 alarm-requires c = c.requires.clock
 
 pub enter-requires : goal.enter-requires
 enter-requires c = rw c.sub_at-s.ensures (c.requires.waiting _)
-
-pub send-requires : goal.send-requires
-send-requires c = c.requires.sent
-
-pub receive-requires : goal.receive-requires
-receive-requires c = c.requires.sent
 
 pub tick-requires : goal.tick-requires
 tick-requires c = (c.requires.clock, c.requires.unmet)
@@ -85,7 +79,10 @@ returns-in-Exit c = rw (c.exit.ensures, c.sub_at-s-in-Exit.ensures, c.in-Exit.is
 
 pub returns-in-Send : goal.returns-in-Send
 unfolding decided
-returns-in-Send c = rw (c.send.ensures, c.task_at-own.ensures, c.task_at-e-in-Send.ensures, c.in-Send.is) refl
+returns-in-Send c =
+    let r = c.args.rest in
+    let n : length (take r.sent r.messages) ≡ r.sent = length-take-le r.sent r.messages (omega (arith, c.requires.sent)) in
+    rw (c.send.ensures, c.task_at-own.ensures, c.task_at-e-in-Send.ensures, n, c.in-Send.is) refl
 
 pub returns-in-Receive : goal.returns-in-Receive
 unfolding decided

@@ -9,4 +9,4 @@ returns-then-takes c = rw (c.accepted.ensures, c.only_woken-entrants.ensures, �
 
 pub returns : goal.returns
 unfolding send_deed
-returns c = rw (c.accepted-2.ensures, c.alone-deed.ensures, c.ahead-at.ensures, ← c.takes.ensures, c.if-takes.false, lt-leb _ _ c.if-sent-ge32.false, c.only_z-marks.ensures, ← c.no_such_task.ensures, c.if-no_such_task.false) refl
+returns c = rw (c.accepted-2.ensures, c.alone-deed.ensures, c.ahead-at.ensures, ← c.takes.ensures, c.if-takes.false, lt-leb _ _ c.if-letters-ge32.false, c.only_z-marks.ensures, ← c.no_such_task.ensures, c.if-no_such_task.false) refl

@@ -10,6 +10,6 @@ pub returns : goal.returns
 unfolding holds_any_of
 returns c =
     let a = c.args in
-    let e : c.any.result ≡ list_any (holds? a.k) a.subs =
-    any_from_yields_List _ _ _ _ c.any.ensures.ran (YieldsList-from_slice a.subs (cc)) (λ x b q k. search (rules, tests)) in
-    e ∙ any_is (holds? a.k) a.subs
+    let e : c.any.result ≡ list_any (holds? a.k) a.subs.now =
+    any_from_yields_List _ _ _ _ c.any.ensures.ran (YieldsList-from_slice a.subs.now (cc)) (λ x b q k. search (rules, tests)) in
+    e ∙ any_is (holds? a.k) a.subs.now
