@@ -28,16 +28,15 @@ fn runs_of(tasks: &[Task], k: TaskNo) -> usize
 }
 
 // Task k is named once in the way that it waits, else not at all; its own run does not name it.
+#[tactic(auto, using(crate::proofs::Lists::Chains::counts), unfolding(crate::specs::Check::waiters_at))]
 fn waiters_at(tasks: &[Task; 16], asked: &[Request], k: TaskNo) -> bool
     ensures { result ≡ waiters_at tasks.now asked.now k.0 }
 {
     let e = places::read_at(tasks, k);
-    let starts = starts_of(asked, k);
-    if starts != states::is_of(e.state, states::AWAIT_START) as usize {
-        return false;
-    }
-    let ends = ends_of(asked, k) + runs_of(tasks, k);
-    ends == states::is_of(e.state, states::AWAIT_END) as usize && k.0 != e.end_waiter.0
+    starts_of(asked, k) == states::is_of(e.state, states::AWAIT_START) as usize
+        && ends_of(asked, k) + runs_of(tasks, k)
+            == states::is_of(e.state, states::AWAIT_END) as usize
+        && k.0 != e.end_waiter.0
 }
 
 fn all_waiters(tasks: &[Task; 16], asked: &[Request], count: u8) -> bool

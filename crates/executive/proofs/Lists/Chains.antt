@@ -20,6 +20,7 @@ use Rattle.std.specs.Iterator.{ChecksAll}
 use Rattle.std.specs.List.{list_all, range_with_len, zip, sum_by, count_by, position_or_len}
 use Rattle.std.specs.Slice.Iter.{iter_rest}
 use Rattle.std.proofs.lemmas.List.Sums.{sum_by-cons}
+use Rattle.executive.proofs.Lists.Tests.{byte-is}
 use Rattle.executive.specs.Lists.{one, up_to, all_of, sum_of, next_of}
 
 -- ---- a test of each element: `xs.iter().all(|x| test(*x))`
@@ -109,6 +110,9 @@ pub count_of-is : {A : Type 0} (f : A → Bool) (xs : List A) → count_by f xs 
 unfolding sum_of
 count_of-is f [] = refl
 count_of-is f (x ∷ xs) = sum_by-cons (λ y. cond (f y) 1 0) x xs ∙ rw (one-is (f x)) (ap (λ (n : ℕ). one (f x) + n) (count_of-is f xs))
+
+-- for a function that compares a count with a test
+pub ruleset counts = (count_of-is, byte-is)
 
 -- ---- the first that passes: `position`
 pub next_of-is : {A : Type 0} (f : A → Bool) (n : ℕ) (xs : List A) → n + position_or_len f xs ≡ next_of f n xs
