@@ -39,10 +39,10 @@ fn awaits_any(s: State) -> bool
 }
 
 // None waited so far, nor does the task at place k, whose state this is, if it is one of so many.
-fn still_none(none: bool, s: State, k: u8, count: u8) -> bool
+fn still_none(none: bool, s: State, k: usize, count: u8) -> bool
     ensures { result ≡ (none and not (ltb k count and awaits_any s)) }
 {
-    none && (count <= k || !awaits_any(s))
+    none && (count as usize <= k || !awaits_any(s))
 }
 
 // None of the tasks 1 to count waits for one of them. All sixteen entries are passed, so that the compiler reads them
@@ -53,8 +53,8 @@ fn none_waits(tasks: &[Task; 16], count: u8) -> bool
     ensures { result ≡ up_to (waits_for_none tasks.now) count }
 {
     let mut none = true;
-    for k in 0..16 {
-        none = still_none(none, tasks[k as usize].state, k, count);
+    for (k, e) in tasks.iter().enumerate() {
+        none = still_none(none, e.state, k, count);
     }
     none
 }
@@ -84,8 +84,8 @@ fn sub_right(tasks: &[Task; 16], s: &Sub, m: u8, count: u8) -> bool
 fn each_right(tasks: &[Task; 16], subs: &[Sub; 8], count: u8) -> bool
     ensures { result ≡ held_right tasks.now count subs.now }
 {
-    for m in 0..8 {
-        if !sub_right(tasks, &subs[m as usize], m, count) {
+    for (m, s) in subs.iter().enumerate() {
+        if !sub_right(tasks, s, m as u8, count) {
             return false;
         }
     }
