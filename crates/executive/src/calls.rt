@@ -10,7 +10,7 @@ use crate::{
     Millis, Request, State, Task, answers, clock, decisions, entries, pool, refusals, states,
     waking,
 };
-use records::TaskNo;
+use records::{Refusal, TaskNo};
 
 // Kind 00 with the earliest request q for the caller, at place i: whoever waits for the end, w, enters, then the caller
 // with that request, then whoever waited for that start.
@@ -57,7 +57,7 @@ pub(crate) fn terminate(
     ensures { result ≡ cond holding (refusing 15) (doing (only_z false) (terminate_deed tasks.now requests.now c)) }
 {
     if holding {
-        return decisions::refused(15);
+        return decisions::refuse(Refusal::StillHeld);
     }
     let w = entries::entry_of(tasks, c).end_waiter;
     match pool::first_for(requests, c) {
@@ -73,17 +73,17 @@ pub fn restart(old: Task, now: Millis, c: TaskNo, holding: bool, param: u8, coun
         (cond holding (refusing 15) (doing (restart_marks old.start now param count) (restart_deed c old now param count)))) }
 {
     if clock::END_OF_TIME < now.0 {
-        return decisions::refused(1);
+        return decisions::refuse(Refusal::NoTable);
     }
     let start = old.start;
     if now.0 < start.0 {
-        return decisions::refused(1);
+        return decisions::refuse(Refusal::NoTable);
     }
     if param / 64 % 4 == 3 {
-        return decisions::refused(6);
+        return decisions::refuse(Refusal::OutOfRange);
     }
     if holding {
-        return decisions::refused(15);
+        return decisions::refuse(Refusal::StillHeld);
     }
     let aim = clock::aim_of(start, now, param, count);
     let at = aim.at;
@@ -106,10 +106,10 @@ pub fn pause(now: Millis, unit: u8, count: u8) -> Decision
         (cond (ltb last_unit unit) (refusing 6) (doing (only_z (eqb count 0)) (pause_deed now unit count))) }
 {
     if clock::END_OF_TIME < now.0 {
-        return decisions::refused(1);
+        return decisions::refuse(Refusal::NoTable);
     }
     if clock::LAST_UNIT < unit {
-        return decisions::refused(6);
+        return decisions::refuse(Refusal::OutOfRange);
     }
     if count == 0 {
         let z = answers::only_z(true);
@@ -128,7 +128,7 @@ pub fn cancel_pause(e: Task, count: u8, k: TaskNo) -> Decision
     ensures { result ≡ cond (eqb k.0 0 || ltb count k.0) (refusing 6) (doing (only_z (not (is_paused e.state))) (cancel_pause_deed e.state k)) }
 {
     if refusals::no_such_task(count, k) {
-        return decisions::refused(6);
+        return decisions::refuse(Refusal::OutOfRange);
     }
     let s = e.state;
     if states::is_paused(s) {
@@ -164,7 +164,7 @@ pub(crate) fn tick(
     let length = clock::granule_of(granule);
     let now = Millis(clock.0 + length.0);
     if clock::END_OF_TIME < now.0 {
-        return decisions::refused(10);
+        return decisions::refuse(Refusal::EndOfTime);
     }
     let first = clock::first_due(alarms, now);
     let more = clock::rings(alarms, flags, first, now);

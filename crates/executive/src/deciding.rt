@@ -11,7 +11,7 @@ use crate::{
     Rest, Task, calls, check, decisions, flags, messages, places, refusals, starts, states,
     subprograms,
 };
-use records::{Call, TaskNo, kinds, reading};
+use records::{Call, Refusal, TaskNo, kinds, reading};
 
 // What is decided of a record, and the rest as it is after that.
 #[derive(Clone, Copy)]
@@ -103,7 +103,7 @@ fn decide_call(tasks: [Task; 16], rest: Rest, c: TaskNo, call: Call) -> Decision
     ensures { result ≡ decision_of tasks rest c call }
 {
     if nobody_active(c, call) {
-        return decisions::refused(5);
+        return decisions::refuse(Refusal::NobodyActive);
     }
     by_kind(tasks, rest, c, call)
 }
@@ -114,16 +114,16 @@ fn decide_record(tasks: [Task; 16], rest: Rest, c: TaskNo, bytes: &[u8]) -> Deci
     ensures { result ≡ decision_in tasks rest c bytes.now }
 {
     if bytes.len() == 0 {
-        return decisions::refused(3);
+        return decisions::refuse(Refusal::WrongLength);
     }
     let kind = kinds::kind_of(bytes[0]);
     if kinds::is_call(kind) {
         return match reading::read(bytes) {
             Ok(call) => decide_call(tasks, rest, c, call),
-            Err(why) => decisions::refused(why.into()),
+            Err(why) => decisions::refuse(why),
         };
     }
-    decisions::refused(4)
+    decisions::refuse(Refusal::UnknownKind)
 }
 
 // The caller is nobody or a ready task.
@@ -145,10 +145,10 @@ pub fn decide(tasks: [Task; 16], rest: Rest, caller: TaskNo, bytes: &[u8]) -> De
     ensures { result ≡ decision_for tasks rest caller bytes.now }
 {
     if !check::all_but_queue(tasks, rest) {
-        return decisions::refused(1);
+        return decisions::refuse(Refusal::NoTable);
     }
     if !caller_right(tasks, caller) {
-        return decisions::refused(1);
+        return decisions::refuse(Refusal::NoTable);
     }
     decide_record(tasks, rest, caller, bytes)
 }

@@ -9,7 +9,7 @@ ghost use Rattle.executive.specs.Sheet.{only_z, marks, flag_marks};
 
 use crate::decisions::{Change, Decision, Deed, Leave};
 use crate::{Millis, Mode, Rest, State, Task, answers, clock, decisions, pool, refusals, waking};
-use records::{FlagNo, TaskNo};
+use records::{FlagNo, Refusal, TaskNo};
 
 // Whether a wait is for any (0) or for all (1).
 pub(crate) fn mode_of(mode: u8) -> Mode
@@ -96,7 +96,7 @@ pub(crate) fn flag(tasks: &[Task; 16], flags: u32, operation: u8, f: FlagNo) -> 
         (doing (flag_marks operation (is_set flags f.0)) (flag_deed tasks.now flags operation f)) }
 {
     if refusals::bad_flag(operation, f) {
-        return decisions::refused(6);
+        return decisions::refuse(Refusal::OutOfRange);
     }
     let old = is_set(flags, f);
     let marks = answers::flag_marks(operation, old);
@@ -118,7 +118,7 @@ pub fn wait(flags: u32, mode: u8, mask: u32) -> Decision
     ensures { result ≡ cond (ltb 1 mode || eqb mask 0) (refusing 6) (doing (only_z (met flags (mode_of mode) mask)) (wait_deed flags mode mask)) }
 {
     if refusals::bad_wait(mode, mask) {
-        return decisions::refused(6);
+        return decisions::refuse(Refusal::OutOfRange);
     }
     let m = mode_of(mode);
     if is_met(flags, m, mask) {
@@ -148,10 +148,10 @@ pub(crate) fn alarm(
         (alarm_deed tasks.now now flags unit count f))) }
 {
     if refusals::bad_alarm(unit, f) {
-        return decisions::refused(6);
+        return decisions::refuse(Refusal::OutOfRange);
     }
     if running.0 != 0 {
-        return decisions::refused(9);
+        return decisions::refuse(Refusal::AlarmRunning);
     }
     let old = is_set(flags, f);
     if count == 0 {

@@ -12,7 +12,7 @@ use crate::decisions::{Change, Decision, Deed, Leave};
 use crate::{
     Mail, Marks, Message, Rest, State, answers, decisions, lines, places, pool, refusals, states,
 };
-use records::{TaskNo, Text};
+use records::{Refusal, TaskNo, Text};
 
 // The blank message.
 pub const NO_MESSAGE: Message = Message {
@@ -46,7 +46,7 @@ pub fn takes(s: State, c: TaskNo) -> bool
 pub fn is_fit(m: Message, k: TaskNo, s: TaskNo) -> bool
     ensures { result ≡ fits k.0 s.0 m }
 {
-    k.0 == m.to.0 && takes_from(s.0, m.sender)
+    k == m.to && takes_from(s.0, m.sender)
 }
 
 // The place of the first waiting message that fits; the number of those that wait where there is none, as `receiving`
@@ -86,7 +86,7 @@ pub(crate) fn send(
         (doing (only_z false) (send_deed c p s (stay_ahead urgency p letters.now) k text))) }
 {
     if refusals::no_such_task(count, k) {
-        return decisions::refused(6);
+        return decisions::refuse(Refusal::OutOfRange);
     }
     let marks = answers::only_z(false);
     if takes(s, c) {
@@ -101,7 +101,7 @@ pub(crate) fn send(
         return decisions::accepted(marks, deed);
     }
     if 32 <= letters.len() {
-        return decisions::refused(16);
+        return decisions::refuse(Refusal::MessagesFull);
     }
     let at = ahead(letters, p);
     let m = Message {
@@ -171,7 +171,7 @@ pub(crate) fn receive(letters: &[Message], count: u8, c: TaskNo, s: TaskNo) -> D
         (receive_deed c letters.now s)) }
 {
     if count < s.0 {
-        return decisions::refused(6);
+        return decisions::refuse(Refusal::OutOfRange);
     }
     let i = first_fit(letters, c, s);
     let m = message_at(letters, i);

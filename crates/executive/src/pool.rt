@@ -18,7 +18,7 @@ pub const NO_REQUEST: Request = Request {
 pub(crate) fn first_for(requests: &[Request], k: TaskNo) -> Option<usize>
     ensures { result ≡ found_at (place_of k.0 requests.now) (length requests.now) }
 {
-    requests.iter().position(|q| k.0 == q.target.0)
+    requests.iter().position(|q| k == q.target)
 }
 
 impl Rest {

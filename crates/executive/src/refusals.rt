@@ -30,7 +30,7 @@ pub(crate) fn bad_queue(count: u8, option: u8, k: TaskNo) -> bool
 pub(crate) fn names_caller(c: TaskNo, option: u8, k: TaskNo) -> bool
     ensures { result ≡ (eqb k.0 c.0 and not (eqb (option / 32 % 4) 0)) }
 {
-    k.0 == c.0 && option / 32 % 4 != 0
+    k == c && option / 32 % 4 != 0
 }
 
 // 6 in kinds 09, 0A and 0B.

@@ -105,8 +105,8 @@ pub fn request_in_range(q: Request, count: u8) -> bool
 pub fn names_others(q: Request) -> bool
     ensures { result ≡ names_others q }
 {
-    q.target.0 != q.start_waiter.0
-        && q.target.0 != q.end_waiter.0
+    q.target != q.start_waiter
+        && q.target != q.end_waiter
         && (q.start_waiter.0 == 0 || q.end_waiter.0 == 0)
 }
 

@@ -9,7 +9,7 @@ ghost use Rattle.executive.specs.Sheet.{only_z};
 
 use crate::decisions::{Change, Decision, Deed, How, Leave};
 use crate::{AwaitedMoment, Request, State, Task, answers, decisions, refusals, states};
-use records::TaskNo;
+use records::{Refusal, TaskNo};
 
 // The priority that an option of 04 or 05 asks for: the target's own (bit 7), or bits 3..0.
 pub(crate) fn priority_of(option: u8, own: u8) -> u8
@@ -140,7 +140,7 @@ pub fn start_if_dormant(e: Task, count: u8, c: TaskNo, option: u8, k: TaskNo) ->
         (doing (only_z (not (is_dormant e.state))) (start_if_dormant_deed c e option k)) }
 {
     if refusals::bad_start(count, option, k) {
-        return decisions::refused(6);
+        return decisions::refuse(Refusal::OutOfRange);
     }
     let s = e.state;
     if states::is_dormant(s) {
@@ -171,10 +171,10 @@ pub fn start_or_queue(
         (doing (only_z (not (is_dormant e.state))) (start_or_queue_deed c e option k argument)))) }
 {
     if refusals::bad_queue(count, option, k) {
-        return decisions::refused(6);
+        return decisions::refuse(Refusal::OutOfRange);
     }
     if refusals::names_caller(c, option, k) {
-        return decisions::refused(7);
+        return decisions::refuse(Refusal::NamesCaller);
     }
     let s = e.state;
     let wt = wait_of(option);
@@ -187,7 +187,7 @@ pub fn start_or_queue(
         return decisions::accepted(marks, deed);
     }
     if 32 <= queued {
-        return decisions::refused(8);
+        return decisions::refuse(Refusal::QueueFull);
     }
     let z = answers::only_z(true);
     let later = start_later(q, wt);

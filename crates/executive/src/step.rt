@@ -4,7 +4,7 @@ ghost use Rattle.executive.specs.Check.{queue_right};
 ghost use Rattle.executive.specs.Step.{step_of, Steps, StepsCall};
 
 use crate::{Outcome, Table, deciding};
-use records::{Call, writing};
+use records::{Call, Refusal, writing};
 
 impl Table {
     // A step at a table whose queue is right: refused with the first number that is given, or accepted.
@@ -34,7 +34,7 @@ impl Table {
         if self.queue_right() {
             return self.perform(bytes);
         }
-        self.refuse(1)
+        self.refuse(Refusal::NoTable.into())
     }
 
     // The same from a call that was read: the step of its record.

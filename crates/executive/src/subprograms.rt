@@ -9,7 +9,7 @@ ghost use Rattle.executive.specs.Sheet.{only_z};
 
 use crate::decisions::{Change, Decision, Deed, Leave};
 use crate::{Rest, State, Sub, Task, answers, decisions, entries, lines, pool, queue};
-use records::{SubNo, TaskNo};
+use records::{Refusal, SubNo, TaskNo};
 
 // A free one, for which nobody waits.
 pub(crate) const NO_SUB: Sub = Sub {
@@ -22,7 +22,7 @@ pub(crate) const NO_SUB: Sub = Sub {
 pub(crate) fn holds_any(subs: &[Sub], k: TaskNo) -> bool
     ensures { result ≡ holds_any_of k subs.now }
 {
-    subs.iter().any(|s| k.0 == s.holder.0)
+    subs.iter().any(|s| k == s.holder)
 }
 
 // Subprogram m; past the last there is a free one.
@@ -41,10 +41,10 @@ pub(crate) fn enter(tasks: &[Task; 16], s: Sub, c: TaskNo, m: SubNo) -> Decision
         (doing (only_z false) (enter_deed c (ahead_of tasks.now (task_at tasks.now c.0).priority (line_of s)) m s))) }
 {
     if 7 < m.0 {
-        return decisions::refused(6);
+        return decisions::refuse(Refusal::OutOfRange);
     }
-    if c.0 == s.holder.0 {
-        return decisions::refused(13);
+    if c == s.holder {
+        return decisions::refuse(Refusal::HeldAlready);
     }
     let marks = answers::only_z(false);
     if s.holder.0 == 0 {
@@ -64,10 +64,10 @@ pub(crate) fn exit(s: Sub, c: TaskNo, m: SubNo) -> Decision
         (cond (not (holds? c s)) (refusing 14) (doing (only_z false) (exit_deed m s))) }
 {
     if 7 < m.0 {
-        return decisions::refused(6);
+        return decisions::refuse(Refusal::OutOfRange);
     }
-    if c.0 != s.holder.0 {
-        return decisions::refused(14);
+    if c != s.holder {
+        return decisions::refuse(Refusal::NotHeld);
     }
     let marks = answers::only_z(false);
     let line = s.line;

@@ -10,21 +10,21 @@ use records::TaskNo;
 fn starts_of(asked: &[Request], k: TaskNo) -> usize
     ensures { result ≡ count_by (λ q. eqb k.0 q.start_waiter.0) asked.now }
 {
-    asked.iter().filter(|q| k.0 == q.start_waiter.0).count()
+    asked.iter().filter(|q| k == q.start_waiter).count()
 }
 
 // How many name it as the waiter for the end of the run that they begin.
 fn ends_of(asked: &[Request], k: TaskNo) -> usize
     ensures { result ≡ count_by (λ q. eqb k.0 q.end_waiter.0) asked.now }
 {
-    asked.iter().filter(|q| k.0 == q.end_waiter.0).count()
+    asked.iter().filter(|q| k == q.end_waiter).count()
 }
 
 // How many runs name it as the waiter for their end.
 fn runs_of(tasks: &[Task], k: TaskNo) -> usize
     ensures { result ≡ count_by (λ e. eqb k.0 e.end_waiter.0) tasks.now }
 {
-    tasks.iter().filter(|e| k.0 == e.end_waiter.0).count()
+    tasks.iter().filter(|e| k == e.end_waiter).count()
 }
 
 // Task k is named once in the way that it waits, else not at all; its own run does not name it.
@@ -36,7 +36,7 @@ fn waiters_at(tasks: &[Task; 16], asked: &[Request], k: TaskNo) -> bool
     starts_of(asked, k) == states::is_of(e.state, states::AWAIT_START) as usize
         && ends_of(asked, k) + runs_of(tasks, k)
             == states::is_of(e.state, states::AWAIT_END) as usize
-        && k.0 != e.end_waiter.0
+        && k != e.end_waiter
 }
 
 fn all_waiters(tasks: &[Task; 16], asked: &[Request], count: u8) -> bool

@@ -6,7 +6,7 @@ pub returns-then-nobody_active : goal.returns-then-nobody_active
 unfolding decision_of
 returns-then-nobody_active c =
     let a = c.args in
-    rw (c.refused.ensures, ← c.nobody_active.ensures a.tasks a.rest, c.if-nobody_active.true) refl
+    rw (c.refuse.ensures, ← c.nobody_active.ensures a.tasks a.rest, c.if-nobody_active.true) refl
 
 pub by_kind-requires : goal.by_kind-requires
 by_kind-requires c = c.requires
