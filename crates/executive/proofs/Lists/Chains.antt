@@ -17,7 +17,7 @@ use Rattle.std.specs.Iterator.Adapters.{zip_first, zip_second}
 use Rattle.std.specs.declared.ops.Range.{Range}
 use Rattle.std.specs.Fn.{Called}
 use Rattle.std.specs.Iterator.{ChecksAll}
-use Rattle.std.specs.List.{list_all, range_with_len, zip, sum_by, count_by, position_or_len}
+use Rattle.std.specs.List.{list_all, range_with_len, zip, count_by, position_or_len}
 use Rattle.std.specs.Slice.Iter.{iter_rest}
 use Rattle.std.proofs.lemmas.List.Sums.{sum_by-cons}
 use Rattle.executive.proofs.Lists.Tests.{byte-is}
@@ -96,12 +96,7 @@ module _ {A B F : Type 0} {g : Mut F ((Bor A × Bor B) × Unit {0}) Bool} {s : Z
       ∙ up_to-zip test u d e xs ys (omega arith) (λ i o. rw add-one at (h i (omega arith)))
       ∙ ap (up_to u) l
 
--- ---- sums and counts: `sum`, `count`
-pub sum_of-is : {A : Type 0} (f : A → ℕ) (xs : List A) → sum_by f xs ≡ sum_of f xs
-unfolding sum_of
-sum_of-is f [] = refl
-sum_of-is f (x ∷ xs) = sum_by-cons f x xs ∙ ap (λ (n : ℕ). f x + n) (sum_of-is f xs)
-
+-- ---- a count: `xs.iter().filter(|x| test(*x)).count()`
 one-is : (b : Bool) → cond b 1 0 ≡ one b
 one-is true = refl
 one-is false = refl
