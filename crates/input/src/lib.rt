@@ -10,6 +10,7 @@ use std::io::Read;
 pub fn read_full<R: Read>(reader: &mut R, buffer: &mut [u8]) -> io::Result<usize>
     ensures { ReadsAtMost result buffer.new }
 {
+    // A while: a read gives as many bytes as it has, and the next one goes on behind them.
     let mut done = 0;
     while done < buffer.len() {
         let n = reader.read(&mut buffer[done..])?;

@@ -1,12 +1,12 @@
 -- Text that is added to a buffer, and text that is put there where it fits.
 use Prim.Native.Nat.{ℕ, ◌+◌, ◌-◌, ◌≤◌, ◌<◌}
 use mathlib.Core.Path.{◌≡◌, refl, sym, ap, ◌∙◌}
-use mathlib.Core.List.{List, [], ◌∷◌, ◌++◌, append_assoc, append-nil}
+use mathlib.Core.List.{List, [], ◌++◌, append_assoc, append-nil}
 use native.Mathlib.Omega.{arith}
-use native.Mathlib.Numerals.{add-one}
-use lib.ListN.{length, take, drop, set, length-append, length-drop, length-set, length-take, take-append-drop}
-use lib.Seq.{take-suc-set, drop-set-lt, drop-drop, length-take-le, take_at, drop_at}
+use lib.ListN.{length, take, drop, length-append, length-drop, length-take, take-append-drop}
+use lib.Seq.{drop-drop, length-take-le, take_at, drop_at}
 use borrow.Author.Tests.{le-leb, lt-leb}
+use borrow.Rule.Slice.PartMut.{put_mid}
 use Rattle.text.specs.Glyphs.{Puts, Adds, bytes_after, place_after}
 
 -- nothing is added
@@ -25,15 +25,6 @@ then {a} {b} {c} {n} {m} {k} {t} {u} p q = record {
 -- the same text by another name
 pub named : {a b : List ℕ} {n m : ℕ} {t u : List ℕ} → t ≡ u → Adds a n b m t → Adds a n b m u
 named e p = rw (← e) p
-
--- one byte is stored
-pub one_byte : (a : List ℕ) (n x : ℕ) → n < length a → Adds a n (set a n x) (n + 1) (x ∷ [])
-one_byte a n x h = record {
-  text = rw (add-one n) (take-suc-set a n x h);
-  rest = drop-set-lt (n + 1) a n x (omega arith);
-  place = refl;
-  size = length-set a n x;
-}
 
 -- what is added is in the buffer
 pub inside : {a b : List ℕ} {n m : ℕ} {t : List ℕ} → n ≤ length a → Adds a n b m t → m ≤ length a
@@ -56,6 +47,16 @@ module _ (o : List ℕ) (at : ℕ) (t : List ℕ) where
     place-room : place_after o at t ≡ at + length t
     unfolding place_after
     place-room = rw (le-leb (at + length t) (length o) h)
+
+    -- the part behind the place is become the text
+    pub part_put : {x : List ℕ} → x ≡ t → Puts o at t (put_mid at (at + length t - at) o x) (at + length t)
+    part_put {x} e =
+        let k : at + length t - at ≡ length t = omega arith in
+        record {
+          bytes = rw (k, e) (ap (λ y. take at o ++ (t ++ y)) (drop-drop (length t) at o) ∙ sym (append_assoc (take at o) t (drop (at + length t) o)))
+              ∙ sym bytes-room;
+          place = sym place-room;
+        }
 
     front : length (take at o ++ t) ≡ at + length t
     front = omega (arith, length-append (take at o) t, length-take-le at o (omega arith))

@@ -1,13 +1,13 @@
 -- Decimal digits: how they come one after the other, and how many there are.
-use Prim.Native.Nat.{ℕ, zero, suc, ◌+◌, ◌-◌, ◌*◌, ◌/◌, ◌%◌, ◌^◌, ◌≤◌, ◌<◌}
-use mathlib.Core.Path.{◌≡◌, refl, sym, ap, ◌∙◌}
+use Prim.Native.Nat.{ℕ, zero, suc, ◌+◌, ◌*◌, ◌/◌, ◌%◌, ◌^◌, ◌≤◌, ◌<◌}
+use mathlib.Core.Path.{◌≡◌, refl, ap, ◌∙◌}
 use mathlib.Core.Bool.{Bool, true, false}
 use mathlib.Core.List.{[], ◌∷◌, ◌++◌}
 use native.Mathlib.Omega.{arith}
 use native.Mathlib.Nat.{pow-suc}
 use lib.ListN.{length, length-append}
-use lib.Dec.{leb, ltb}
-use borrow.Author.Tests.{lt-ltb, le-ltb, ltb-true, ltb-false, le-leb, lt-leb, leb-true, leb-false}
+use lib.Dec.{ltb}
+use borrow.Author.Tests.{lt-ltb, le-ltb, ltb-true, ltb-false}
 use Rattle.text.specs.Glyphs.{decimal_of, digits_in}
 
 -- by cases of a test
@@ -54,9 +54,17 @@ decimal_short (suc k) n h =
     let i : n / 10 < 10 ^ suc k = omega arith in
     omega (arith, decimal_length n g, decimal_short k (n / 10) i))
 
--- whether n from a place on lie within a length, by what is left of the length there
-pub leb-within : (l at n : ℕ) → at ≤ l → leb (at + n) l ≡ leb n (l - at)
-leb-within l at n h =
-    decide (leb n (l - at))
-    (λ e. le-leb (at + n) l (omega (arith, leb-true n (l - at) e)) ∙ sym e)
-    (λ e. lt-leb (at + n) l (omega (arith, leb-false n (l - at) e)) ∙ sym e)
+ten_to_pos : (k : ℕ) → 0 < 10 ^ k
+ten_to_pos zero = omega arith
+ten_to_pos (suc k) = omega (arith, pow-suc 10 k, ten_to_pos k)
+
+-- a number from 10 ^ k on has more than k
+pub decimal_long : (k n : ℕ) → 10 ^ k ≤ n → suc k ≤ length (decimal_of n)
+decimal_long zero n h =
+    decide (ltb n 10)
+    (λ e. omega (arith, ap length (decimal_one n (ltb-true n 10 e))))
+    (λ e. omega (arith, decimal_length n (ltb-false n 10 e)))
+decimal_long (suc k) n h =
+    let q : 10 ^ suc k ≡ 10 ^ k * 10 = pow-suc 10 k in
+    let i : 10 ^ k ≤ n / 10 = omega arith in
+    omega (arith, decimal_length n (omega (arith, ten_to_pos k)), decimal_long k (n / 10) i)

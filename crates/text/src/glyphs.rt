@@ -7,21 +7,14 @@ ghost use Rattle.text.specs.Glyphs.{Puts, Adds, decimal_of, hex_of, glyph_of, bi
 fn has_room(length: usize, at: usize, n: usize) -> bool
     ensures { result ≡ leb (at + n) length }
 {
-    if length < at {
-        return false;
-    }
-    n <= length - at
+    at <= length && n <= length - at
 }
 
 // One byte.
 pub fn put(out: &mut [u8], at: usize, byte: u8) -> usize
     ensures { Puts out.old at (byte ∷ []) out.new result }
 {
-    if out.len() <= at {
-        return at;
-    }
-    out[at] = byte;
-    at + 1
+    text(out, at, &[byte])
 }
 
 // The bytes of a text.
@@ -31,38 +24,32 @@ pub fn text(out: &mut [u8], at: usize, bytes: &[u8]) -> usize
     if !has_room(out.len(), at, bytes.len()) {
         return at;
     }
-    let mut place = at;
-    let mut i: usize = 0;
-    while i < bytes.len() {
-        place = put(out, place, bytes[i]);
-        i += 1;
-    }
-    place
+    let end = at + bytes.len();
+    out[at..end].copy_from_slice(bytes);
+    end
 }
 
 // How many decimal digits a number has.
 fn digit_count(n: u64) -> usize
     ensures { result ≡ length (decimal_of n) }
 {
-    let mut left = n;
-    let mut count: usize = 1;
-    while 10 <= left {
-        left = left / 10;
-        count += 1;
+    match n.checked_ilog10() {
+        Some(k) => k as usize + 1,
+        None => 1,
     }
-    count
 }
 
-// The decimal digits of a number, where there is room for all of them.
+// The decimal digits of a number, where there is room for all of them. By hand: what std prints goes to a String, which
+// has a heap, and this crate rests on no other.
 fn digits(out: &mut [u8], at: usize, n: u64) -> usize
     requires { at + length (decimal_of n) ≤ length out.old }
     ensures { Adds out.old at out.new result (decimal_of n) }
 {
     if n < 10 {
-        return put(out, at, 48 + (n as u8));
+        return put(out, at, b'0' + n as u8);
     }
     let place = digits(out, at, n / 10);
-    put(out, place, 48 + ((n % 10) as u8))
+    put(out, place, b'0' + (n % 10) as u8)
 }
 
 // The decimal digits of a number, of which there are at most twenty.
@@ -81,7 +68,7 @@ fn glyph(d: u8) -> u8
     requires { d < 16 }
     ensures { result ≡ glyph_of d }
 {
-    if d < 10 { 48 + d } else { 55 + d }
+    if d < 10 { b'0' + d } else { b'A' + (d - 10) }
 }
 
 // A byte as two hexadecimal digits.
@@ -95,7 +82,7 @@ pub fn hex(out: &mut [u8], at: usize, byte: u8) -> usize
 fn bit(on: bool) -> u8
     ensures { result ≡ bit_of on }
 {
-    if on { 49 } else { 48 }
+    b'0' + u8::from(on)
 }
 
 // Three of them.

@@ -1,27 +1,12 @@
--- `glyphs::digit_count` meets its contract: the digits counted and those left are all of them.
-use native.Mathlib.Omega.{arith}
-use mathlib.Core.Path.{ap}
-use lib.ListN.{length}
-use Rattle.text.proofs.Digits.{decimal_one, decimal_length, decimal_short}
+-- `glyphs::digit_count` meets its contract: the whole part of the logarithm is one less.
+use Rattle.std.proofs.Common.{arith, ap, length}
+use Rattle.text.proofs.Digits.{decimal_one, decimal_short, decimal_long}
 use Rattle.text.proofs.glyphs.digit_count.Goals as goal
 
-pub loop-left-init : goal.loop-left-init
-loop-left-init c = (omega arith, omega arith, omega arith)
+pub returns-in-Some : goal.returns-in-Some
+returns-in-Some c =
+    let k = c.in-Some.k in
+    omega (arith, decimal_long k c.args.n c.in-Some.ensures.power_le, decimal_short k c.args.n (omega (arith, c.in-Some.ensures.next_power_gt)))
 
-pub overflow_add-count : goal.overflow_add-count
-overflow_add-count c =
-    let l = c.loop-left in
-    omega (arith, l.invariant.2, decimal_short 19 c.args.n (omega arith))
-
-pub loop-left-smaller : goal.loop-left-smaller
-loop-left-smaller c = omega arith
-
-pub loop-left-preserved : goal.loop-left-preserved
-loop-left-preserved c =
-    let l = c.loop-left in
-    (omega arith, omega arith, omega (arith, l.invariant.2, decimal_length l.left c.loop-left-test.true))
-
-pub returns : goal.returns
-returns c =
-    let l = c.loop-left in
-    omega (arith, l.invariant.2, ap length (decimal_one l.left c.loop-left-test.false))
+pub returns-in-None : goal.returns-in-None
+returns-in-None c = omega (arith, ap length (decimal_one c.args.n (omega (arith, c.in-None.ensures.none))))
