@@ -17,8 +17,7 @@ use Rattle.executive.specs.Queue.{behind}
 use Rattle.executive.specs.Table.{line, enter_at, ahead_of, head_of}
 use Rattle.scan.specs.declared.Entry.{Entry}
 use Rattle.scan.specs.declared.Scanned.{Scanned}
-use Rattle.scan.specs.declared.tallies.Tally.TheVariants as tally
-use Rattle.scan.specs.Entries.{entry, no_entry, tasks_in, entry_at, put_entry, is_ready, count_of}
+use Rattle.scan.specs.Entries.{entry, no_entry, tasks_in, entry_at, put_entry, is_ready, count_of, is_at_least}
 use Rattle.scan.specs.Choosing.{chosen, chosen_no, order_from, order_of, IsReady, arrival_in, priority_in}
 use Rattle.scan.specs.Sound.{Arrivals}
 use Rattle.scan.proofs.Basics.{decide, one-small, one_true, one_false, sum-most}
@@ -105,7 +104,7 @@ module _ (p : ℕ) where
   sum_same es fs [] h = refl
   sum_same es fs (j ∷ js) h = omega (arith, ap (λ (x : Entry). one (leb p x.task.priority)) (h j.0 (omega (arith, head_in j js))), sum_same es fs js (λ i g. h i (omega (arith, tail_in i j js))))
 
-  pub line-sum : (es : List Entry) (r : List TaskNo) → ((k : ℕ) → times_in k r ≡ one (is_ready (entry_at es k))) → sum_of (high es p) r ≡ count_of (tally.AtLeast p) es
+  pub line-sum : (es : List Entry) (r : List TaskNo) → ((k : ℕ) → times_in k r ≡ one (is_ready (entry_at es k))) → sum_of (high es p) r ≡ count_of (is_at_least p) es
   unfolding sum_of
   line-sum es [] h = sym (sum-none counted es (λ k. unready (entry_at es k) (one_false _ (sym (h k)))))
   line-sum es (c ∷ r) h =

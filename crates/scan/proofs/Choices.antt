@@ -13,7 +13,6 @@ use Rattle.executive.specs.Lists.{one, sum_of}
 use Rattle.executive.specs.Places.{times_in}
 use Rattle.scan.specs.declared.Entry.{Entry}
 use Rattle.scan.specs.declared.Best.{Best}
-use Rattle.scan.specs.declared.tallies.Tally.TheVariants as tally
 use Rattle.scan.specs.Entries.{no_entry, entry_at, put_entry, is_ready, count_of}
 use Rattle.scan.specs.Choosing.{best_at, better_of, none_found, scanned, chosen, chosen_no, order_from, IsReady, priority_in, arrival_in, First, Distinct, Choice}
 use Rattle.scan.proofs.Basics.{never, decide, one_true}
@@ -211,7 +210,7 @@ module _ (es : List Entry) (d : Distinct es) (f : (chosen es).found ≡ true) wh
       (λ e. never (sym (ap is_ready (ap (entry_at fs) (eqb-true k c e) ∙ at_c)) ∙ h))
       (λ e. (e, sym (ap is_ready (at_else k e)) ∙ h))
 
-  fewer : suc (count_of tally.IsReady fs) ≡ count_of tally.IsReady es
+  fewer : suc (count_of is_ready fs) ≡ count_of is_ready es
   unfolding put_entry
   fewer =
       let s = sum_put (λ (x : Entry). one (is_ready x)) es c no_entry c-has in
@@ -254,7 +253,7 @@ module _ (es : List Entry) (d : Distinct es) (f : (chosen es).found ≡ true) wh
           (λ e. let y : one (is_ready (entry_at fs k)) ≡ one (is_ready (entry_at es k)) = ap (λ (x : Entry). one (is_ready x)) (at_else k e) in
           rw e (omega (arith, o.exact k, y)))
 
-pub order_from_lem : (n : ℕ) (es : List Entry) → Distinct es → count_of tally.IsReady es ≤ n → InOrder es (order_from n es)
+pub order_from_lem : (n : ℕ) (es : List Entry) → Distinct es → count_of is_ready es ≤ n → InOrder es (order_from n es)
 unfolding order_from sum_of
 order_from_lem zero es d h = record { exact = λ k. sym (decide (is_ready (entry_at es k)) (λ e. absurd (none k e)) (λ e. ap one e)); sorted = tt }
   where
@@ -264,7 +263,7 @@ order_from_lem zero es d h = record { exact = λ k. sym (decide (is_ready (entry
         omega (arith, s, ap one e, h)
 order_from_lem (suc n) es d h = go (chosen es).found refl (λ g k. order_from_lem n (set es (chosen es).at no_entry) g k)
   where
-    go : (b : Bool) → (chosen es).found ≡ b → (Distinct (set es (chosen es).at no_entry) → count_of tally.IsReady (set es (chosen es).at no_entry) ≤ n → InOrder (set es (chosen es).at no_entry) (order_from n (set es (chosen es).at no_entry)))
+    go : (b : Bool) → (chosen es).found ≡ b → (Distinct (set es (chosen es).at no_entry) → count_of is_ready (set es (chosen es).at no_entry) ≤ n → InOrder (set es (chosen es).at no_entry) (order_from n (set es (chosen es).at no_entry)))
         → InOrder es (cond b (chosen_no es ∷ order_from n (set es (chosen es).at no_entry)) [])
     go true f ih = ordered es d f _ (ih (still-distinct es d f) (omega (arith, fewer es d f)))
     go false f ih = record { exact = λ k. sym (ap one (none-ready es f k)); sorted = tt }

@@ -19,8 +19,7 @@ use Rattle.executive.proofs.Assured.{LeavesUnready, AllEnter}
 use Rattle.scan.specs.declared.Entry.{Entry}
 use Rattle.scan.specs.declared.Scanned.{Scanned}
 use Rattle.scan.specs.declared.Work.{Work}
-use Rattle.scan.specs.declared.tallies.Tally.TheVariants as tally
-use Rattle.scan.specs.Entries.{most_arrivals, entry, no_entry, tasks_in, entry_at, put_entry, is_ready, count_of}
+use Rattle.scan.specs.Entries.{most_arrivals, entry, no_entry, tasks_in, entry_at, put_entry, is_ready, count_of, is_at_least}
 use Rattle.scan.specs.Choosing.{chosen_no, IsReady, arrival_in, priority_in}
 use Rattle.scan.specs.Moves.{departed_scan, depart_scan, renumbered_in, renumbered, with_room, put_in, entered_scan, passed_scan, enter_scan, enter_all_scan}
 use Rattle.scan.specs.Sound.{Arrivals}
@@ -184,7 +183,7 @@ module _ (e : Scanned) (t : Table) (a : Alike e t) (k : TaskNo) (x : Task) (h : 
       (λ j g. tasks-at (put_entry ds k.0 y) j ∙ ap (λ (q : Entry). q.task) (at_other ds k.0 j y (elsewhere j g)) ∙ sym (tasks-at ds j)) in
       let s = sum_put (counted p) ds k.0 no_entry h in
       let z : counted p (entry_at ds k.0) ≡ 0 = unready p (entry_at ds k.0) u in
-      let aside : count_of (tally.AtLeast p) (put_entry ds k.0 no_entry) ≡ count_of (tally.AtLeast p) ds = omega (arith, s, z) in
+      let aside : count_of (is_at_least p) (put_entry ds k.0 no_entry) ≡ count_of (is_at_least p) ds = omega (arith, s, z) in
       aside ∙ sym (line-sum p ds (line t) a.order.exact) ∙ sym (ahead-sum ds p (line t) a.order.sorted) ∙ sym others
       ∙ ap (λ (n : ℕ). ahead_of (put_at t.tasks k.0 x) n (line t)) (sym own)
 

@@ -31,7 +31,6 @@ use Rattle.executive.specs.Promises.Demands.{AllBytes}
 use Rattle.executive.proofs.Assured as executive
 use Rattle.scan.specs.declared.Entry.{Entry}
 use Rattle.scan.specs.declared.Scanned.{Scanned}
-use Rattle.scan.specs.declared.tallies.Tally.TheVariants as tally
 use Rattle.scan.specs.Entries.{entry, no_entry, tasks_in, entry_at, is_ready, count_of}
 use Rattle.scan.specs.Choosing.{IsReady, arrival_in}
 use Rattle.scan.specs.Sound.{Arrivals, SoundScan, arrivals_right}
@@ -84,14 +83,14 @@ unready-nought (t ∷ ts) n i r = go (λ m i. unready-nought ts m i) (is_of read
     go ih false z zero r = refl
     go ih false z (suc i) r = ih n i r
 
-up-to-count : (ts : List Task) (n i : ℕ) → (at n ts i).arrival ≤ n + count_of tally.IsReady (numbered_from n ts)
+up-to-count : (ts : List Task) (n i : ℕ) → (at n ts i).arrival ≤ n + count_of is_ready (numbered_from n ts)
 unfolding numbered_from sum_of
 up-to-count [] n i = zero-le
 up-to-count (t ∷ ts) n i = go (λ m i. up-to-count ts m i) (is_of ready t.state) refl i
   where
-    go : ((m i : ℕ) → (at m ts i).arrival ≤ m + count_of tally.IsReady (numbered_from m ts)) → (b : Bool) → is_of ready t.state ≡ b → (i : ℕ)
+    go : ((m i : ℕ) → (at m ts i).arrival ≤ m + count_of is_ready (numbered_from m ts)) → (b : Bool) → is_of ready t.state ≡ b → (i : ℕ)
         → (get_or (cond b (entry t (suc n) ∷ numbered_from (suc n) ts) (entry t 0 ∷ numbered_from n ts)) i no_entry).arrival
-        ≤ n + count_of tally.IsReady (cond b (entry t (suc n) ∷ numbered_from (suc n) ts) (entry t 0 ∷ numbered_from n ts))
+        ≤ n + count_of is_ready (cond b (entry t (suc n) ∷ numbered_from (suc n) ts) (entry t 0 ∷ numbered_from n ts))
     go ih true z zero = omega (arith, ap one z)
     go ih true z (suc i) = omega (arith, ap one z, ih (suc n) i)
     go ih false z zero = zero-le
@@ -128,7 +127,7 @@ module _ (ts : List Task) where
   some zero r = never r
   some (suc i) r = after-start ts 0 i r
 
-  given : (k : ℕ) → arrival_in es k ≤ count_of tally.IsReady es
+  given : (k : ℕ) → arrival_in es k ≤ count_of is_ready es
   unfolding entry_at
   given zero = zero-le
   given (suc i) = omega (arith, up-to-count ts 0 i)

@@ -18,8 +18,7 @@ use Rattle.executive.specs.Promises.ByDecision.{done, enacted}
 use Rattle.executive.specs.Promises.Demands.{after, AllBytes}
 use Rattle.executive.proofs.Assured as executive
 use Rattle.scan.specs.declared.Scanned.{Scanned}
-use Rattle.scan.specs.declared.tallies.Tally.TheVariants as tally
-use Rattle.scan.specs.Entries.{tasks_in, count_of}
+use Rattle.scan.specs.Entries.{tasks_in, count_of, is_earlier}
 use Rattle.scan.specs.Choosing.{IsReady, arrival_in}
 use Rattle.scan.specs.Moves.{renumbered_in, renumbered}
 use Rattle.scan.specs.Sound.{Arrivals, SoundScan, arrivals_right}
@@ -130,4 +129,4 @@ renumbering e i j a p q = (
 )
   where
     same : arrival_in e.entries i ≡ arrival_in e.entries j → arrival_in (map (renumbered_in e.entries) e.entries) i < arrival_in (map (renumbered_in e.entries) e.entries) j → ⊥
-    same z h = omega (arith, h, new-number e a i p, new-number e a j q, ap (λ (n : ℕ). count_of (tally.Earlier n) e.entries) z)
+    same z h = omega (arith, h, new-number e a i p, new-number e a j q, ap (λ (n : ℕ). count_of (is_earlier n) e.entries) z)

@@ -2,6 +2,7 @@
 -- numbers, the two tables alike, a step of both, any history, the newcomers, the dispatching, and the fresh table.
 pub mod Basics
 pub mod Loops
+pub mod Chains
 pub mod Places
 pub mod Order
 pub mod Choices

@@ -11,8 +11,7 @@ use Rattle.executive.specs.declared.Task.{Task}
 use Rattle.executive.specs.Lists.{one, sum_of, ◌and◌}
 use Rattle.scan.specs.declared.Entry.{Entry}
 use Rattle.scan.specs.declared.Scanned.{Scanned}
-use Rattle.scan.specs.declared.tallies.Tally.TheVariants as tally
-use Rattle.scan.specs.Entries.{most_arrivals, entry, no_entry, task_of, tasks_in, entry_at, put_entry, is_ready, count_of}
+use Rattle.scan.specs.Entries.{most_arrivals, entry, no_entry, task_of, tasks_in, entry_at, put_entry, is_ready, count_of, is_bearer, is_earlier}
 use Rattle.scan.specs.Choosing.{IsReady, arrival_in, Distinct}
 use Rattle.scan.specs.Moves.{renumbered_in, renumbered}
 use Rattle.scan.specs.Sound.{Arrivals}
@@ -23,7 +22,7 @@ abbrev bears : ℕ → Entry → ℕ
 bears n x = one (eqb n x.arrival)
 
 -- ---- distinct by counts is distinct by tasks
-pub distinct : (es : List Entry) → ((k : ℕ) → IsReady es k → 0 < arrival_in es k) → ((n : ℕ) → 0 < n → count_of (tally.Bearing n) es ≤ 1) → Distinct es
+pub distinct : (es : List Entry) → ((k : ℕ) → IsReady es k → 0 < arrival_in es k) → ((n : ℕ) → 0 < n → count_of (is_bearer n) es ≤ 1) → Distinct es
 distinct es s o i j p q e = decide (eqb i j) (λ z. eqb-true i j z) (λ z. absurd (both z))
   where
     both : eqb i j ≡ false → ⊥
@@ -88,7 +87,7 @@ module _ (e : Scanned) (a : Arrivals e) where
     others = λ j. by_place_lem (λ (y : Entry). is_ready y ≡ false → y.arrival ≡ 0) es k j (entry x (suc e.last)) h (λ z t. never (sym t ∙ r)) (λ z. a.others j);
   }
     where
-      once : (n : ℕ) → 0 < n → count_of (tally.Bearing n) (put_entry es k (entry x (suc e.last))) ≤ 1
+      once : (n : ℕ) → 0 < n → count_of (is_bearer n) (put_entry es k (entry x (suc e.last))) ≤ 1
       once n g =
           let s = sum_put (bears n) es k (entry x (suc e.last)) h in
           let o : bears n (entry_at es k) ≡ 0 = ap (λ (m : ℕ). one (eqb n m)) (a.others k u) ∙ ap one (positive n g) in
@@ -100,7 +99,7 @@ module _ (e : Scanned) (a : Arrivals e) where
 
   -- ---- a renumbering: each task's entry, its number by those before it
   abbrev pub rank : ℕ → ℕ
-  rank n = suc (count_of (tally.Earlier n) es)
+  rank n = suc (count_of (is_earlier n) es)
 
   pub renumbered-at : (k : ℕ) → entry_at (map (renumbered_in es) es) k ≡ renumbered_in es (entry_at es k)
   unfolding entry_at
@@ -157,11 +156,11 @@ module _ (es : List Entry) where
   own-under : (k n : ℕ) → IsReady es k → under n (entry_at es k) ≡ one (ltb (arrival_in es k) n)
   own-under k n r = ap (λ (b : Bool). one (b and ltb (arrival_in es k) n)) r
 
-  pub rank_lt : (k n : ℕ) → IsReady es k → arrival_in es k < n → count_of (tally.Earlier (arrival_in es k)) es < count_of (tally.Earlier n) es
+  pub rank_lt : (k n : ℕ) → IsReady es k → arrival_in es k < n → count_of (is_earlier (arrival_in es k)) es < count_of (is_earlier n) es
   rank_lt k n r h = at_place k (ready-has es k r) (under (arrival_in es k)) (under n) (under-le _ _ (omega arith))
       (omega (arith, own-under k (arrival_in es k) r, own-under k n r, ap one (le-ltb (arrival_in es k) (arrival_in es k) (omega arith)), ap one (lt-ltb (arrival_in es k) n h)))
 
-  pub rank_most : (k : ℕ) → IsReady es k → count_of (tally.Earlier (arrival_in es k)) es < count_of tally.IsReady es
+  pub rank_most : (k : ℕ) → IsReady es k → count_of (is_earlier (arrival_in es k)) es < count_of is_ready es
   rank_most k r = at_place k (ready-has es k r) (under (arrival_in es k)) (λ (x : Entry). one (is_ready x)) (under-ready _)
       (omega (arith, own-under k (arrival_in es k) r, ap one (le-ltb (arrival_in es k) (arrival_in es k) (omega arith)), ap one r))
 
@@ -185,7 +184,7 @@ module _ (e : Scanned) (a : Arrivals e) where
     others = λ k r. let u = sym (new-ready e a k) ∙ r in new-other e a k u ∙ a.others k u;
   }
     where
-      most : count_of tally.IsReady e.entries ≤ length e.entries
+      most : count_of is_ready e.entries ≤ length e.entries
       most = sum-most (λ (x : Entry). one (is_ready x)) (λ x. one-small (is_ready x)) e.entries
 
       ready : (k : ℕ) → IsReady fs k → IsReady e.entries k

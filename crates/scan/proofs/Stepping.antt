@@ -39,8 +39,7 @@ use Rattle.executive.proofs.Assured as executive
 use Rattle.scan.specs.declared.Entry.{Entry}
 use Rattle.scan.specs.declared.Scanned.{Scanned}
 use Rattle.scan.specs.declared.Scan.{Scan}
-use Rattle.scan.specs.declared.tallies.Tally.TheVariants as tally
-use Rattle.scan.specs.Entries.{most_arrivals, no_entry, tasks_in, entry_at, is_ready, count_of}
+use Rattle.scan.specs.Entries.{most_arrivals, no_entry, tasks_in, entry_at, is_ready, count_of, is_bearer}
 use Rattle.scan.specs.Choosing.{chosen, chosen_no, order_from, order_of, arrival_in, IsReady}
 use Rattle.scan.specs.Moves.{apply_scan, begin_scan, depart_scan, enter_all_scan}
 use Rattle.scan.specs.Sound.{Arrivals, SoundScan, arrival_right, arrivals_right, is_sound, Checked}
@@ -81,17 +80,17 @@ module _ (e : Scanned) where
         others = others_get each;
       }
     where
-      of-ready : (x : Entry) → test x ≡ true → is_ready x ≡ true → (0 < x.arrival) × (x.arrival ≤ e.last) × (count_of (tally.Bearing x.arrival) es ≤ 1)
+      of-ready : (x : Entry) → test x ≡ true → is_ready x ≡ true → (0 < x.arrival) × (x.arrival ≤ e.last) × (count_of (is_bearer x.arrival) es ≤ 1)
       of-ready x t r =
-          let u : (ltb 0 x.arrival and leb x.arrival e.last and leb (count_of (tally.Bearing x.arrival) es) 1) ≡ true =
-          sym (ap (λ (b : Bool). cond b (ltb 0 x.arrival and leb x.arrival e.last and leb (count_of (tally.Bearing x.arrival) es) 1) (eqb x.arrival 0)) r) ∙ t in
+          let u : (ltb 0 x.arrival and leb x.arrival e.last and leb (count_of (is_bearer x.arrival) es) 1) ≡ true =
+          sym (ap (λ (b : Bool). cond b (ltb 0 x.arrival and leb x.arrival e.last and leb (count_of (is_bearer x.arrival) es) 1) (eqb x.arrival 0)) r) ∙ t in
           let v = and_true (ltb 0 x.arrival) _ u in
           let w = and_true (leb x.arrival e.last) _ v.1 in
           (ltb-true 0 x.arrival v.0, leb-true x.arrival e.last w.0, leb-true _ 1 w.1)
 
       of_other : (x : Entry) → test x ≡ true → is_ready x ≡ false → x.arrival ≡ 0
       of_other x t r = eqb-true x.arrival 0
-          (sym (ap (λ (b : Bool). cond b (ltb 0 x.arrival and leb x.arrival e.last and leb (count_of (tally.Bearing x.arrival) es) 1) (eqb x.arrival 0)) r) ∙ t)
+          (sym (ap (λ (b : Bool). cond b (ltb 0 x.arrival and leb x.arrival e.last and leb (count_of (is_bearer x.arrival) es) 1) (eqb x.arrival 0)) r) ∙ t)
 
       some-get : ((i : ℕ) → test (get_or es i no_entry) ≡ true) → (k : ℕ) → IsReady es k → 0 < arrival_in es k
       some-get h zero r = never r
@@ -102,13 +101,13 @@ module _ (e : Scanned) where
       given-get h (suc i) = decide (is_ready (get_or es i no_entry))
           (λ r. (of-ready (get_or es i no_entry) (h i) r).1) (λ r. omega (arith, of_other (get_or es i no_entry) (h i) r))
 
-      once-get : ((i : ℕ) → test (get_or es i no_entry) ≡ true) → (n : ℕ) → 0 < n → count_of (tally.Bearing n) es ≤ 1
-      once-get h n g = decide (ltb 0 (count_of (tally.Bearing n) es))
-          (λ z. let r = find-bearer n es (ltb-true 0 (count_of (tally.Bearing n) es) z) in
+      once-get : ((i : ℕ) → test (get_or es i no_entry) ≡ true) → (n : ℕ) → 0 < n → count_of (is_bearer n) es ≤ 1
+      once-get h n g = decide (ltb 0 (count_of (is_bearer n) es))
+          (λ z. let r = find-bearer n es (ltb-true 0 (count_of (is_bearer n) es) z) in
           decide (is_ready (get_or es r.0 no_entry))
-          (λ y. subst (λ (m : ℕ). count_of (tally.Bearing m) es ≤ 1) r.1 (of-ready (get_or es r.0 no_entry) (h r.0) y).2)
+          (λ y. subst (λ (m : ℕ). count_of (is_bearer m) es ≤ 1) r.1 (of-ready (get_or es r.0 no_entry) (h r.0) y).2)
           (λ y. absurd (omega (arith, of_other (get_or es r.0 no_entry) (h r.0) y, r.1, g))))
-          (λ z. omega (arith, ltb-false 0 (count_of (tally.Bearing n) es) z))
+          (λ z. omega (arith, ltb-false 0 (count_of (is_bearer n) es) z))
 
       others_get : ((i : ℕ) → test (get_or es i no_entry) ≡ true) → (k : ℕ) → is_ready (entry_at es k) ≡ false → arrival_in es k ≡ 0
       others_get h zero r = refl
@@ -120,8 +119,8 @@ module _ (e : Scanned) where
       (λ r. ready_make (get_or es i no_entry) r (a.some (suc i) r) (a.given (suc i)) (a.once _ (a.some (suc i) r)))
       (λ r. other_make (get_or es i no_entry) r (a.others (suc i) r))))
     where
-      ready_make : (x : Entry) → is_ready x ≡ true → 0 < x.arrival → x.arrival ≤ e.last → count_of (tally.Bearing x.arrival) es ≤ 1 → test x ≡ true
-      ready_make x r p q o = rw (r, lt-ltb 0 x.arrival p, le-leb x.arrival e.last q, le-leb (count_of (tally.Bearing x.arrival) es) 1 o) refl
+      ready_make : (x : Entry) → is_ready x ≡ true → 0 < x.arrival → x.arrival ≤ e.last → count_of (is_bearer x.arrival) es ≤ 1 → test x ≡ true
+      ready_make x r p q o = rw (r, lt-ltb 0 x.arrival p, le-leb x.arrival e.last q, le-leb (count_of (is_bearer x.arrival) es) 1 o) refl
 
       other_make : (x : Entry) → is_ready x ≡ false → x.arrival ≡ 0 → test x ≡ true
       other_make x r z = rw (r, eq-eqb x.arrival 0 z) refl

@@ -1,13 +1,11 @@
 -- The entries of the second engine, which keeps no queue: a task's entry with its arrival number, read and rewritten by
 -- the task's number; and what is counted among them.
-use Rattle.std.specs.Prelude.{ℕ, zero, suc, ◌≤◌, ◌<◌, ◌≡◌, Bool, true, List, map, leb, ltb, eqb, length, get_or, set, drop}
+use Rattle.std.specs.Prelude.{ℕ, zero, suc, Bool, List, map, leb, ltb, eqb, get_or, set}
 use Rattle.executive.specs.declared.Task.{Task}
 use Rattle.executive.specs.Lists.{one, sum_of, ◌and◌}
 use Rattle.executive.specs.Places.{no_task}
 use Rattle.executive.specs.States.{ready, is_of}
 use Rattle.scan.specs.declared.Entry.{Entry}
-use Rattle.scan.specs.declared.tallies.Tally.{Tally}
-use Rattle.scan.specs.declared.tallies.Tally.TheVariants.{IsReady, Earlier, AtLeast, Bearing}
 
 -- the last arrival number that can be given, 2^32 - 1
 abbrev pub most_arrivals : ℕ
@@ -41,18 +39,14 @@ is_ready x = is_of ready x.task.state
 
 -- ---- what is counted: the ready entries; those of them with a number under n; those of them with priority p or a
 -- higher one; all entries that bear the number n
-abbrev pub passes : Tally → Entry → Bool
-passes IsReady x = is_ready x
-passes (Earlier n) x = is_ready x and ltb x.arrival n
-passes (AtLeast p) x = is_ready x and leb p x.task.priority
-passes (Bearing n) x = eqb n x.arrival
+abbrev pub is_earlier : ℕ → Entry → Bool
+is_earlier n x = is_ready x and ltb x.arrival n
 
-abbrev pub count_of : Tally → List Entry → ℕ
-count_of w es = sum_of (λ (x : Entry). one (passes w x)) es
+abbrev pub is_at_least : ℕ → Entry → Bool
+is_at_least p x = is_ready x and leb p x.task.priority
 
--- place r is that of the next entry that is counted, from place i on; the number of entries where there is none
-pub record NextIs (w : Tally) (es : List Entry) (i r : ℕ) : Type 0 where
-  pub from : i ≤ r
-  pub within : r ≤ length es
-  pub same : count_of w (drop r es) ≡ count_of w (drop i es)
-  pub counted : r < length es → passes w (get_or es r no_entry) ≡ true
+abbrev pub is_bearer : ℕ → Entry → Bool
+is_bearer n x = eqb n x.arrival
+
+abbrev pub count_of : (Entry → Bool) → List Entry → ℕ
+count_of counts es = sum_of (λ (x : Entry). one (counts x)) es

@@ -8,8 +8,7 @@ use Rattle.executive.specs.Configuration.{fresh_of}
 use Rattle.scan.specs.declared.Entry.{Entry}
 use Rattle.scan.specs.declared.Scanned.{Scanned}
 use Rattle.scan.specs.declared.Made.{Made}
-use Rattle.scan.specs.declared.tallies.Tally.TheVariants.{IsReady}
-use Rattle.scan.specs.Entries.{entry, count_of}
+use Rattle.scan.specs.Entries.{entry, count_of, is_ready}
 
 -- the ready ones of some tasks get the numbers after n, in their order; all others none
 unfoldable pub numbered_from : ℕ → List Task → List Entry
@@ -17,7 +16,7 @@ numbered_from n [] = []
 numbered_from n (e ∷ es) = cond (is_of ready e.state) (entry e (suc n) ∷ numbered_from (suc n) es) (entry e 0 ∷ numbered_from n es)
 
 abbrev pub numbered : Table → Scanned
-numbered t = record { entries = numbered_from 0 t.tasks; last = count_of IsReady (numbered_from 0 t.tasks); rest = t.rest }
+numbered t = record { entries = numbered_from 0 t.tasks; last = count_of is_ready (numbered_from 0 t.tasks); rest = t.rest }
 
 -- number 0 and the table, or number 2 and the all-zero table
 unfoldable pub made_of : List ℕ → Made

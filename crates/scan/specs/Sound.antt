@@ -5,8 +5,7 @@ use Rattle.executive.specs.Lists.{◌and◌, all_of}
 use Rattle.executive.specs.Check.{all_but_queue}
 use Rattle.scan.specs.declared.Entry.{Entry}
 use Rattle.scan.specs.declared.Scanned.{Scanned}
-use Rattle.scan.specs.declared.tallies.Tally.TheVariants.{Bearing}
-use Rattle.scan.specs.Entries.{most_arrivals, tasks_in, entry_at, is_ready, count_of}
+use Rattle.scan.specs.Entries.{most_arrivals, tasks_in, entry_at, is_ready, count_of, is_bearer}
 use Rattle.scan.specs.Choosing.{IsReady, arrival_in}
 
 -- ready tasks bear distinct numbers from 1, none above the last given; all others, and the entries past the count, bear 0
@@ -14,7 +13,7 @@ pub record Arrivals (e : Scanned) : Type 0 where
   pub last : e.last ≤ most_arrivals
   pub some : (k : ℕ) → IsReady e.entries k → 0 < arrival_in e.entries k
   pub given : (k : ℕ) → arrival_in e.entries k ≤ e.last
-  pub once : (n : ℕ) → 0 < n → count_of (Bearing n) e.entries ≤ 1
+  pub once : (n : ℕ) → 0 < n → count_of (is_bearer n) e.entries ≤ 1
   pub others : (k : ℕ) → is_ready (entry_at e.entries k) ≡ false → arrival_in e.entries k ≡ 0
 
 pub record SoundScan (e : Scanned) : Type 0 where
@@ -27,7 +26,7 @@ pub record SoundScan (e : Scanned) : Type 0 where
 abbrev pub arrival_right : ℕ → List Entry → Entry → Bool
 arrival_right last es x =
     cond (is_ready x)
-    (ltb 0 x.arrival and leb x.arrival last and leb (count_of (Bearing x.arrival) es) 1)
+    (ltb 0 x.arrival and leb x.arrival last and leb (count_of (is_bearer x.arrival) es) 1)
     (eqb x.arrival 0)
 
 unfoldable pub arrivals_right : Scanned → Bool

@@ -4,39 +4,25 @@ ghost use Rattle.executive.specs.Lists.{◌and◌, all_of};
 ghost use Rattle.scan.specs.Entries.{most_arrivals};
 ghost use Rattle.scan.specs.Sound.{arrival_right, arrivals_right, is_sound, Checked};
 
-use crate::tallies::Tally;
 use crate::{Entry, Scanned, moves, tallies};
 use executive::check;
 
 // One entry's number: of a ready task from 1 to the last given, and borne by no other; of any other task 0.
-fn arrival_right(x: Entry, all: [Entry; 16], last: u32) -> bool
-    ensures { result ≡ arrival_right last all x }
+fn arrival_right(x: Entry, all: &[Entry; 16], last: u32) -> bool
+    ensures { result ≡ arrival_right last all.now x }
 {
     if tallies::is_ready(x) {
-        if x.arrival < 1 {
-            return false;
-        }
-        if last < x.arrival {
-            return false;
-        }
-        return tallies::count_of(all, Tally::Bearing(x.arrival)) <= 1;
+        let bearers = all.iter().filter(|y| x.arrival == y.arrival).count();
+        return 0 < x.arrival && x.arrival <= last && bearers <= 1;
     }
     x.arrival == 0
 }
 
 // The numbers of all entries, with the last one given.
-fn numbers_right(all: [Entry; 16], last: u32) -> bool
-    ensures { result ≡ (leb last most_arrivals and all_of (arrival_right last all) all) }
+fn numbers_right(all: &[Entry; 16], last: u32) -> bool
+    ensures { result ≡ (leb last most_arrivals and all_of (arrival_right last all.now) all.now) }
 {
-    let mut i: usize = 0;
-    while i < 16 {
-        let x = all[i];
-        if !arrival_right(x, all, last) {
-            return false;
-        }
-        i += 1;
-    }
-    true
+    all.iter().all(|x| arrival_right(*x, all, last))
 }
 
 impl Scanned {
@@ -44,27 +30,20 @@ impl Scanned {
     pub(crate) fn arrivals_right(self) -> bool
         ensures { result ≡ arrivals_right self }
     {
-        let all = self.entries;
-        numbers_right(all, self.last)
+        numbers_right(&self.entries, self.last)
     }
 
     // The table keeps every rule.
     fn is_sound(self) -> bool
         ensures { result ≡ is_sound self }
     {
-        let all = self.entries;
-        let rest = self.rest;
-        let tasks = moves::tasks_in(all);
-        self.arrivals_right() && check::all_but_queue(tasks, rest)
+        self.arrivals_right() && check::all_but_queue(moves::tasks_in(self.entries), self.rest)
     }
 
     // The check of a table: 0 if it is well formed, 1 if it is not.
     pub fn check(self) -> u8
         ensures { Checked self result }
     {
-        if self.is_sound() {
-            return 0;
-        }
-        1
+        if self.is_sound() { 0 } else { 1 }
     }
 }

@@ -2,8 +2,7 @@
 ghost use Rattle.std.specs.Prelude.{◌≡◌, ◌<◌};
 ghost use Rattle.scan.specs.Choosing.{better_of, chosen, chosen_no};
 
-use crate::{Best, Entry, Scanned};
-use executive::states;
+use crate::{Best, Entry, Scanned, tallies};
 use records::TaskNo;
 
 // One entry against the best so far.
@@ -17,9 +16,7 @@ fn better(best: Best, at: usize, x: Entry) -> Best
         priority: e.priority,
         arrival: x.arrival,
     };
-    let s = e.state;
-    let ready = states::is_of(s, states::READY);
-    if !ready {
+    if !tallies::is_ready(x) {
         return best;
     }
     if !best.found {
@@ -47,10 +44,8 @@ pub fn choose(entries: &[Entry]) -> Best
         priority: 0,
         arrival: 0,
     };
-    let mut i = 0;
-    while i < entries.len() {
-        best = better(best, i, entries[i]);
-        i += 1;
+    for (i, x) in entries.iter().enumerate() {
+        best = better(best, i, *x);
     }
     best
 }
@@ -67,8 +62,7 @@ impl Scanned {
     pub fn active(self) -> TaskNo
         ensures { result ≡ chosen_no self.entries }
     {
-        let entries = self.entries;
-        let best = choose_of(entries);
+        let best = choose_of(self.entries);
         if best.found {
             return TaskNo(best.at as u8 + 1);
         }

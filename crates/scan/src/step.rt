@@ -13,22 +13,18 @@ impl Scanned {
         ensures { result ≡ answer_scan number m walked self }
     {
         let active = self.active();
-        let entries = self.entries;
-        let tasks = moves::tasks_in(entries);
-        let e = places::task_at(tasks, active);
-        let sender = m.sender;
-        let text = m.text;
+        let task = places::task_at(moves::tasks_in(self.entries), active);
         Answer {
             number,
             z: m.z,
             v: m.v,
             c: m.c,
             active,
-            argument: e.argument,
+            argument: task.argument,
             skipped: m.skipped,
             walked,
-            sender,
-            text,
+            sender: m.sender,
+            text: m.text,
         }
     }
 
@@ -36,16 +32,15 @@ impl Scanned {
     fn refuse(self, number: u8) -> Scan
         ensures { result ≡ refused_scan self number }
     {
-        if number == 1 {
-            let answer = answers::no_table();
-            return Scan {
-                answer,
-                table: self,
-            };
-        }
-        let v = answers::has_v(number);
-        let m = answers::marked(false, v, false);
-        let answer = self.answer(number, m, 0);
+        let answer = if number == 1 {
+            answers::no_table()
+        } else {
+            self.answer(
+                number,
+                answers::marked(false, answers::has_v(number), false),
+                0,
+            )
+        };
         Scan {
             answer,
             table: self,
@@ -57,22 +52,17 @@ impl Scanned {
         requires { arrivals_right self ≡ true }
         ensures { result ≡ scan_of self bytes.now }
     {
-        let entries = self.entries;
-        let tasks = moves::tasks_in(entries);
-        let rest = self.rest;
-        let c = self.active();
-        let settled = deciding::settle(tasks, rest, c, bytes);
+        let tasks = moves::tasks_in(self.entries);
+        let settled = deciding::settle(tasks, self.rest, self.active(), bytes);
         let d = settled.decision;
         if d.number != 0 {
             return self.refuse(d.number);
         }
-        let deed = d.deed;
-        let after = settled.rest;
-        let w = self.execute(deed, after);
-        let table = w.table;
-        let m = d.marks;
-        let answer = table.answer(0, m, w.walked);
-        Scan { answer, table }
+        let done = self.execute(d.deed, settled.rest);
+        Scan {
+            answer: done.table.answer(0, d.marks, done.walked),
+            table: done.table,
+        }
     }
 
     // A step from a record's bytes, whatever the table and the bytes are: the answer, and the table's state.

@@ -1,19 +1,9 @@
-// What is counted among the entries, in one loop.
+// What is asked of an entry, and how many are ready.
 ghost use Rattle.std.specs.Prelude.{◌≡◌, ◌≤◌};
-ghost use Rattle.scan.specs.Entries.{passes, count_of, NextIs};
+ghost use Rattle.scan.specs.Entries.{is_ready, count_of};
 
 use crate::Entry;
 use executive::{places, states};
-
-// Which entries are counted: the ready ones; of these the ones with a number under one, and the ones with a priority or
-// a higher one; all that bear a number.
-#[derive(Clone, Copy)]
-pub(crate) enum Tally {
-    IsReady,
-    Earlier(u32),
-    AtLeast(u8),
-    Bearing(u32),
-}
 
 // The blank entry.
 pub(crate) const NO_ENTRY: Entry = Entry {
@@ -23,51 +13,14 @@ pub(crate) const NO_ENTRY: Entry = Entry {
 
 // Whether an entry's task is ready.
 pub(crate) fn is_ready(x: Entry) -> bool
-    ensures { result ≡ passes Tally.IsReady x }
+    ensures { result ≡ is_ready x }
 {
-    let e = x.task;
-    let s = e.state;
-    states::is_of(s, states::READY)
+    states::is_of(x.task.state, states::READY)
 }
 
-// Whether an entry is counted.
-fn passes(x: Entry, what: Tally) -> bool
-    ensures { result ≡ passes what x }
+// How many of the entries are ready.
+pub(crate) fn ready_count(entries: &[Entry; 16]) -> u8
+    ensures { (result ≡ count_of is_ready entries.now) × (result ≤ 16) }
 {
-    match what {
-        Tally::IsReady => is_ready(x),
-        Tally::Earlier(n) => is_ready(x) && x.arrival < n,
-        Tally::AtLeast(p) => is_ready(x) && p <= x.task.priority,
-        Tally::Bearing(n) => n == x.arrival,
-    }
-}
-
-// The place of the next entry that is counted, from a place on; 16 where there is none.
-fn next_of(entries: [Entry; 16], what: Tally, from: usize) -> usize
-    requires { from ≤ 16 }
-    ensures { NextIs what entries from result }
-{
-    let mut i = from;
-    while i < 16 {
-        let x = entries[i];
-        if passes(x, what) {
-            return i;
-        }
-        i += 1;
-    }
-    i
-}
-
-// How many of the entries are counted. It goes from one to the next: a sum over all of them the compiler makes a count
-// of bits, by a multiply.
-pub(crate) fn count_of(entries: [Entry; 16], what: Tally) -> u8
-    ensures { (result ≡ count_of what entries) × (result ≤ 16) }
-{
-    let mut n: u8 = 0;
-    let mut i = next_of(entries, what, 0);
-    while i < 16 {
-        n += 1;
-        i = next_of(entries, what, i + 1);
-    }
-    n
+    entries.iter().filter(|x| is_ready(**x)).count() as u8
 }

@@ -4,4 +4,4 @@ use Rattle.scan.proofs.Scanned.answer.Goals as goal
 
 pub returns : goal.returns
 returns c =
-    rw (c.task_at-e.ensures, c.tasks_in-tasks.ensures, c.active-active.ensures, tasks-at c.args.self.entries _) refl
+    rw (c.task_at-task.ensures, c.tasks_in.ensures, c.active-active.ensures, tasks-at c.args.self.entries _) refl

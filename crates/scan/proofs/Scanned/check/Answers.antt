@@ -5,5 +5,5 @@ use Rattle.scan.proofs.Scanned.check.Goals as goal
 pub returns-then-is_sound : goal.returns-then-is_sound
 returns-then-is_sound c = checked_right c.args.self (sym c.is_sound.ensures ∙ c.if-is_sound.true)
 
-pub returns : goal.returns
-returns c = checked_wrong c.args.self (sym c.is_sound.ensures ∙ c.if-is_sound.false)
+pub returns-else-is_sound : goal.returns-else-is_sound
+returns-else-is_sound c = checked_wrong c.args.self (sym c.is_sound.ensures ∙ c.if-is_sound.false)

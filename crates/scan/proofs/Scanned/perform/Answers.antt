@@ -22,7 +22,7 @@ bytes m = m.args.bytes.now
 settled : (m : After-settle-settled) → m.settle-settled.result ≡ settled_for (tasks_in (table m).entries) (table m).rest (chosen_no (table m).entries) (bytes m)
 settled m =
     m.settle-settled.ensures
-    ∙ (λ j. settled_for (m.tasks_in-tasks.ensures j) (table m).rest (m.active-c.ensures j) (bytes m))
+    ∙ (λ j. settled_for (m.tasks_in-tasks.ensures j) (table m).rest (m.active.ensures j) (bytes m))
 
 said : (m : After-settle-settled) → m.settle-settled.result.decision ≡ decision_scan (table m) (bytes m)
 said m = ap (λ (x : Settled). x.decision) (settled m)
@@ -35,9 +35,9 @@ returns-then-d-ne0 c =
     let m = (goal.at.returns-then-d-ne0 c).After-settle-settled in
     c.refuse.ensures ∙ step-refuses (table m) (bytes m) m.requires m.settle-settled.result.decision (said m) c.if-d-ne0.true
 
-pub execute-w-requires : goal.execute-w-requires
-execute-w-requires c =
-    let m = (goal.at.execute-w-requires c).After-settle-settled in
+pub execute-done-requires : goal.execute-done-requires
+execute-done-requires c =
+    let m = (goal.at.execute-done-requires c).After-settle-settled in
     all_listed (table m) (bytes m) m.requires m.settle-settled.result.decision (said m) c.if-d-ne0.false
 
 pub returns : goal.returns
@@ -47,4 +47,4 @@ returns c =
     let d = m.settle-settled.result.decision in
     let z = c.if-d-ne0.false in
     let p = plan-to (table m) (bytes m) m.requires d (said m) m.settle-settled.result.rest (left m) z in
-    rw (c.answer-answer.ensures, c.execute-w.ensures, p) (step_does (table m) (bytes m) m.requires d (said m) z)
+    rw (c.answer.ensures, c.execute-done.ensures, p) (step_does (table m) (bytes m) m.requires d (said m) z)

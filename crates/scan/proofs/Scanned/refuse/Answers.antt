@@ -7,6 +7,6 @@ pub returns-then-number-eq1 : goal.returns-then-number-eq1
 unfolding refused_scan
 returns-then-number-eq1 c = rw (c.no_table-answer.ensures, c.if-number-eq1.true) refl
 
-pub returns : goal.returns
+pub returns-else-number-eq1 : goal.returns-else-number-eq1
 unfolding refused_scan
-returns c = rw (c.answer-answer.ensures, c.marked-m.ensures, c.has_v-v.ensures, ne_eqb _ _ c.if-number-eq1.false) refl
+returns-else-number-eq1 c = rw (c.answer-answer.ensures, c.marked.ensures, c.has_v.ensures, ne_eqb _ _ c.if-number-eq1.false) refl

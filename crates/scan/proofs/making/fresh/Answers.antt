@@ -4,4 +4,4 @@ use Rattle.scan.proofs.making.fresh.Goals as goal
 
 pub returns : goal.returns
 unfolding made_of
-returns c = rw (c.count_of-last.ensures.0, c.numbered-entries.ensures, c.fresh-f.ensures) refl
+returns c = rw (c.from.ensures, c.ready_count.ensures.0, c.numbered-entries.ensures, c.fresh-made.ensures) refl

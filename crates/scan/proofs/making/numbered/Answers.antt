@@ -1,45 +1,35 @@
-use mathlib.Core.Path.{refl, sym, ap, ◌∙◌}
-use native.Mathlib.Omega.{arith}
-use mathlib.Core.List.{◌++◌}
-use lib.ListN.{take, get_or, length-set}
-use Rattle.executive.specs.States.{ready, is_of}
+use Rattle.std.proofs.Common.{◌≡◌, ◌+◌, ◌++◌, ◌∙◌, arith, sym, ap, take, get_or, cond, length-set, refl, Bool, true, false}
+use mir.Val.{bool_byte}
+use Rattle.executive.specs.Lists.{one}
 use Rattle.executive.specs.Places.{no_task}
+use Rattle.executive.specs.States.{ready, is_of}
 use Rattle.scan.proofs.Basics.{one-small}
 use Rattle.scan.proofs.Loops.{take_more, take_all, number-on, number-end}
 use Rattle.scan.proofs.making.numbered.Goals as goal
+use Rattle.scan.proofs.making.numbered.Goals.{then-ready, else-ready}
 
-pub loop-i-init : goal.loop-i-init
-loop-i-init c = (omega arith, omega arith, refl, refl)
-
-pub offset_bounds-tasks-i : goal.offset_bounds-tasks-i
-offset_bounds-tasks-i c = omega arith
-
-pub bounds-tasks-i : goal.bounds-tasks-i
-bounds-tasks-i c = omega arith
-
-pub next-last-requires : goal.next-last-requires
-next-last-requires c = omega (arith, c.loop-i.invariant)
-
-pub offset_bounds-out-i : goal.offset_bounds-out-i
-offset_bounds-out-i c = omega arith
-
-pub bounds-out-i : goal.bounds-out-i
-bounds-out-i c = omega (arith, c.loop-i.invariant)
-
-pub overflow_add-i : goal.overflow_add-i
-overflow_add-i c = omega arith
-
-pub loop-i-smaller : goal.loop-i-smaller
-loop-i-smaller c = omega arith
+byte-one : (b : Bool) → bool_byte b ≡ one b
+byte-one true = refl
+byte-one false = refl
 
 pub loop-i-preserved : goal.loop-i-preserved
 loop-i-preserved c =
-    let v = c.loop-i in
-    let l = c.well_formed.0.1.0.1 in
-    rw (c.number_if-arrival.ensures, c.next-last.ensures, c.is_of-ready.ensures) (omega arith, omega (arith, v.invariant, one-small (is_of ready (get_or c.args.tasks v.i no_task).state)), length-set v.out v.i _ ∙ v.invariant.2, take_more v.out v.i _ _ (omega (arith, v.invariant)) ∙ ap (λ z. take v.i v.out ++ z) (sym (number-on c.args.tasks v.i v.last (omega arith))) ∙ v.invariant.3)
+    let l = c.loop-i in
+    let here = is_of ready (get_or c.args.tasks l.i no_task).state in
+    let r = c.is_of-ready.ensures in
+    let n : c.from.result ≡ one (is_of ready (get_or c.args.tasks c.loop-i.i no_task).state) = c.from.ensures ∙ byte-one _ ∙ ap one r in
+    let a : c.if-ready.out ≡ cond (is_of ready (get_or c.args.tasks c.loop-i.i no_task).state) (c.loop-i.last + one (is_of ready (get_or c.args.tasks c.loop-i.i no_task).state)) 0 =
+    elim c.if-ready.branch [
+      | then-ready w ↦ w.out-is ∙ simp (c.from.ensures, ← r, w.if-ready.true)
+      | else-ready w ↦ w.out-is ∙ simp (← r, w.if-ready.false)
+    ] in
+    record {
+      few = omega (arith, n, one-small here);
+      long = length-set l.out l.i _ ∙ l.invariant.long;
+      filled = rw (n, a) (take_more l.out l.i _ _ (omega arith) ∙ ap (λ z. take l.i l.out ++ z) (sym (number-on c.args.tasks l.i l.last (omega arith))) ∙ l.invariant.filled);
+    }
 
 pub returns : goal.returns
 returns c =
-    let v = c.loop-i in
-    let l = c.well_formed.0.1.0.1 in
-    sym (take_all v.out v.i (omega (arith, v.invariant))) ∙ ap (λ z. take v.i v.out ++ z) (sym (number-end c.args.tasks v.i v.last (omega arith))) ∙ v.invariant.3
+    let l = c.loop-i in
+    sym (take_all l.out l.i (omega arith)) ∙ ap (λ z. take l.i l.out ++ z) (sym (number-end c.args.tasks l.i l.last (omega arith))) ∙ l.invariant.filled
