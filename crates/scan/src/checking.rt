@@ -4,14 +4,14 @@ ghost use Rattle.executive.specs.Lists.{◌and◌, all_of};
 ghost use Rattle.scan.specs.Entries.{most_arrivals};
 ghost use Rattle.scan.specs.Sound.{arrival_right, arrivals_right, is_sound, Checked};
 
-use crate::{Entry, Scanned, moves, tallies};
+use crate::{Entry, Scanned, moves};
 use executive::check;
 
 // One entry's number: of a ready task from 1 to the last given, and borne by no other; of any other task 0.
 fn arrival_right(x: Entry, all: &[Entry; 16], last: u32) -> bool
     ensures { result ≡ arrival_right last all.now x }
 {
-    if tallies::is_ready(x) {
+    if x.is_ready() {
         let bearers = all.iter().filter(|y| x.arrival == y.arrival).count();
         return 0 < x.arrival && x.arrival <= last && bearers <= 1;
     }

@@ -2,7 +2,7 @@
 ghost use Rattle.std.specs.Prelude.{◌≡◌, ◌<◌};
 ghost use Rattle.scan.specs.Choosing.{better_of, chosen, chosen_no};
 
-use crate::{Best, Entry, Scanned, tallies};
+use crate::{Best, Entry, Scanned};
 use records::TaskNo;
 
 // One entry against the best so far.
@@ -16,7 +16,7 @@ fn better(best: Best, at: usize, x: Entry) -> Best
         priority: e.priority,
         arrival: x.arrival,
     };
-    if !tallies::is_ready(x) {
+    if !x.is_ready() {
         return best;
     }
     if !best.found {

@@ -11,16 +11,18 @@ pub(crate) const NO_ENTRY: Entry = Entry {
     arrival: 0,
 };
 
-// Whether an entry's task is ready.
-pub(crate) fn is_ready(x: Entry) -> bool
-    ensures { result ≡ is_ready x }
-{
-    states::is_of(x.task.state, states::READY)
+impl Entry {
+    // Its task is ready.
+    pub(crate) fn is_ready(&self) -> bool
+        ensures { result ≡ is_ready self.now }
+    {
+        states::is_of(self.task.state, states::READY)
+    }
 }
 
 // How many of the entries are ready.
 pub(crate) fn ready_count(entries: &[Entry; 16]) -> u8
     ensures { (result ≡ count_of is_ready entries.now) × (result ≤ 16) }
 {
-    entries.iter().filter(|x| is_ready(**x)).count() as u8
+    entries.iter().filter(|x| x.is_ready()).count() as u8
 }
