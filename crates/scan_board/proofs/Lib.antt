@@ -1,5 +1,5 @@
 -- The laws that belong to no one function.
-pub mod Same
+pub mod Chains
 pub mod Pieces
 pub mod Owned
 pub mod Trips

@@ -1,7 +1,7 @@
 // The image of the second engine's table: read, written, and held against some bytes.
 ghost use Rattle.std.specs.Prelude.{◌≡◌, ◌+◌, ◌*◌, ◌≤◌, length};
 ghost use Rattle.scan.specs.Step.{bare};
-ghost use Rattle.image.specs.Blocks.{blocks, written, same};
+ghost use Rattle.image.specs.Blocks.{blocks, written};
 ghost use Rattle.scan_board.specs.Image.{word_bytes, numbers_length, scan_length, numbers_bytes, scan_image, word_from, entry_from, scan_load, is_scan, FitsScan};
 
 use crate::IMAGE;
@@ -9,20 +9,18 @@ use executive::{Table, Task};
 use image::{loading, numbers, storing};
 use records::TaskNo;
 use scan::{Entry, Scanned, moves};
+use std::array;
 
 // The first engine's table with the same entries and rest, and nobody in its queue.
 fn bare_of(table: Scanned) -> Table
     ensures { result ≡ bare table }
 {
-    let entries = table.entries;
-    let tasks = moves::tasks_in(entries);
-    let rest = table.rest;
     Table {
-        tasks,
+        tasks: moves::tasks_in(table.entries),
         queue: [TaskNo(0); 16],
         ready: 0,
         levels: 0,
-        rest,
+        rest: table.rest,
     }
 }
 
@@ -39,20 +37,10 @@ fn entries_in(tasks: [Task; 16], bytes: &[u8]) -> [Entry; 16]
     requires { length bytes.now ≡ numbers_length }
     ensures { result ≡ blocks (entry_from tasks bytes.now) 1 16 0 }
 {
-    let first = Entry {
-        task: tasks[0],
-        arrival: 0,
-    };
-    let mut entries = [first; 16];
-    let mut i: u8 = 0;
-    while i < 16 {
-        let at = i as usize;
-        let task = tasks[at];
-        let arrival = number_in(bytes, i);
-        entries[at] = Entry { task, arrival };
-        i += 1;
-    }
-    entries
+    array::from_fn(|i| Entry {
+        task: tasks[i],
+        arrival: number_in(bytes, i as u8),
+    })
 }
 
 // The table of some bytes of an image's length.
@@ -62,14 +50,10 @@ pub(crate) fn load(bytes: &[u8]) -> Scanned
 {
     let t = loading::load(&bytes[..image::IMAGE]);
     let tail = &bytes[image::IMAGE..];
-    let tasks = t.tasks;
-    let entries = entries_in(tasks, tail);
-    let last = number_in(tail, 16);
-    let rest = t.rest;
     Scanned {
-        entries,
-        last,
-        rest,
+        entries: entries_in(t.tasks, tail),
+        last: number_in(tail, 16),
+        rest: t.rest,
     }
 }
 
@@ -86,11 +70,8 @@ fn put_numbers(out: &mut [u8], entries: [Entry; 16], last: u32)
     requires { length out.old ≡ numbers_length }
     ensures { (length entries ≡ 16) × (out.new ≡ numbers_bytes entries last) }
 {
-    let mut i: u8 = 0;
-    while i < 16 {
-        let x = entries[i as usize];
-        put_number(out, i, x.arrival);
-        i += 1;
+    for (i, x) in entries.iter().enumerate() {
+        put_number(out, i as u8, x.arrival);
     }
     put_number(out, 16, last);
 }
@@ -100,26 +81,8 @@ pub(crate) fn put_scan(out: &mut [u8], table: Scanned)
     requires { length out.old ≡ scan_length }
     ensures { (FitsScan table) × (out.new ≡ scan_image table) }
 {
-    let front = bare_of(table);
-    storing::store(front, &mut out[..image::IMAGE]);
-    let entries = table.entries;
-    put_numbers(&mut out[image::IMAGE..], entries, table.last);
-}
-
-// Whether two runs of bytes are the same.
-fn same(a: &[u8], b: &[u8]) -> bool
-    requires { length a.now ≡ length b.now }
-    ensures { result ≡ same a.now b.now }
-{
-    let mut right = true;
-    let mut i: usize = 0;
-    while i < a.len() {
-        if a[i] != b[i] {
-            right = false;
-        }
-        i += 1;
-    }
-    right
+    storing::store(bare_of(table), &mut out[..image::IMAGE]);
+    put_numbers(&mut out[image::IMAGE..], table.entries, table.last);
 }
 
 // Whether some bytes are an image: byte for byte the image of the table that they load to.
@@ -129,8 +92,7 @@ pub(crate) fn is_scan(bytes: &[u8]) -> bool
     if bytes.len() != IMAGE {
         return false;
     }
-    let table = load(bytes);
     let mut image = [0u8; IMAGE];
-    put_scan(&mut image, table);
-    same(&image, bytes)
+    put_scan(&mut image, load(bytes));
+    image.as_slice() == bytes
 }

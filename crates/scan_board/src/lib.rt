@@ -22,12 +22,10 @@ pub fn quermanic_scan_fresh(config: &[u8], image: &mut [u8]) -> u8
         return NO_ROOM;
     }
     let made = making::fresh(config);
-    let number = made.number;
-    if number != 0 {
-        return number;
+    if made.number != 0 {
+        return made.number;
     }
-    let table = made.table;
-    images::put_scan(image, table);
+    images::put_scan(image, made.table);
     0
 }
 
@@ -38,8 +36,7 @@ pub fn quermanic_scan_check(image: &[u8]) -> u8
     if !images::is_scan(image) {
         return 1;
     }
-    let table = images::load(image);
-    table.check()
+    images::load(image).check()
 }
 
 // Takes a step: the answer's number, and the answer at the start of its buffer. Accepted (0), the image is rewritten;
@@ -52,19 +49,14 @@ pub fn quermanic_scan_step(image: &mut [u8], call: &[u8], answer: &mut [u8]) -> 
         return NO_ROOM;
     }
     if !images::is_scan(image) {
-        let none = executive::answers::no_table();
-        answers::give(answer, none);
+        answers::give(answer, executive::answers::no_table());
         return 1;
     }
-    let table = images::load(image);
-    let outcome = table.step(call);
-    let said = outcome.answer;
-    answers::give(answer, said);
-    let number = said.number;
-    if number != 0 {
-        return number;
+    let outcome = images::load(image).step(call);
+    answers::give(answer, outcome.answer);
+    if outcome.answer.number != 0 {
+        return outcome.answer.number;
     }
-    let next = outcome.table;
-    images::put_scan(image, next);
+    images::put_scan(image, outcome.table);
     0
 }

@@ -9,14 +9,14 @@ returns-then-not-is_scan c =
     let i = c.is_scan in
     check_none c.args.image.now (sym i.ensures ∙ c.if-not-is_scan.true)
 
-pub load-table-requires : goal.load-table-requires
-load-table-requires c =
+pub load-requires : goal.load-requires
+load-requires c =
     let i = c.is_scan in
     (image-parts c.args.image.now (sym i.ensures ∙ c.if-not-is_scan.false)).0
 
 pub returns : goal.returns
 returns c =
-    let l = c.load-table in
+    let l = c.load in
     let i = c.is_scan in
     check_image c.args.image.now l.result c.check.result l.ensures
     (sym i.ensures ∙ c.if-not-is_scan.false) c.check.ensures

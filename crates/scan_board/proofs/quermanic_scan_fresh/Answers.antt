@@ -12,12 +12,12 @@ returns-then-image-ne-IMAGE c =
     let e = fresh-length a.config.now a.image.now c.if-image-ne-IMAGE.true in
     record { number = e.0; image = e.1; holds = λ z. absurd (omega arith) }
 
-pub returns-then-number-ne0 : goal.returns-then-number-ne0
-returns-then-number-ne0 c =
+pub returns-then-made-ne0 : goal.returns-then-made-ne0
+returns-then-made-ne0 c =
     let a = c.args in
     let f = c.fresh-made in
-    let e = fresh-refused a.config.now a.image.now f.result f.ensures (omega (arith, c.if-image-ne-IMAGE.false)) c.if-number-ne0.true in
-    record { number = e.0; image = e.1; holds = λ z. absurd (c.if-number-ne0.true z) }
+    let e = fresh-refused a.config.now a.image.now f.result f.ensures (omega (arith, c.if-image-ne-IMAGE.false)) c.if-made-ne0.true in
+    record { number = e.0; image = e.1; holds = λ z. absurd (c.if-made-ne0.true z) }
 
 pub returns : goal.returns
 returns c =
@@ -25,6 +25,6 @@ returns c =
     let a = c.args in
     let e =
     fresh-made a.config.now a.image.now f.result f.ensures (omega (arith, c.if-image-ne-IMAGE.false))
-    (omega (arith, c.if-number-ne0.false)) c.put_scan.ensures.1 in
+    (omega (arith, c.if-made-ne0.false)) c.put_scan.ensures.1 in
     let h = holds f.result.table (made_of a.config.now).table c.put_scan.ensures.0 (ap (λ (m : Made). m.table) f.ensures) c.put_scan.ensures.1 in
     record { number = e.0; image = e.1; holds = λ z. h }

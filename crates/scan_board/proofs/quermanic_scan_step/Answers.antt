@@ -39,7 +39,7 @@ room i = i.if-answer-lt25.false
 stepped : (x : After-step-outcome) → let i = (goal.at.After-step-outcome x).After-is_scan in x.step-outcome.result ≡ scan_of (scan_load (image i)) (call i)
 stepped x =
     let i = (goal.at.After-step-outcome x).After-is_scan in
-    x.step-outcome.ensures ∙ ap (λ e. scan_of e (call i)) x.load-table.ensures
+    x.step-outcome.ensures ∙ ap (λ e. scan_of e (call i)) x.load.ensures
 
 -- the bytes are an image, as it was found
 found : (x : After-step-outcome) → is_scan (image (goal.at.After-step-outcome x).After-is_scan) ≡ true
@@ -49,24 +49,24 @@ found x =
 pub returns-then-not-is_scan : goal.returns-then-not-is_scan
 returns-then-not-is_scan c =
     let i = (goal.at.returns-then-not-is_scan c).After-is_scan in
-    let none = given (answer i) _ c.no_table-none.result (room i) c.give.ensures ∙ ap (λ x. written (answer i) 0 (answer_bytes x)) c.no_table-none.ensures in
+    let none = given (answer i) _ c.no_table.result (room i) c.give.ensures ∙ ap (λ x. written (answer i) 0 (answer_bytes x)) c.no_table.ensures in
     let no = sym i.is_scan.ensures ∙ c.if-not-is_scan.true in
     let e = step-none (image i) (call i) (answer i) (room i) no none in
     record { number = e.0; image = e.1.0; answer = e.1.1; holds = λ z. absurd (omega arith) }
 
-pub load-table-requires : goal.load-table-requires
-load-table-requires c =
-    let i = (goal.at.load-table-requires c).After-is_scan in
+pub load-requires : goal.load-requires
+load-requires c =
+    let i = (goal.at.load-requires c).After-is_scan in
     (image-parts (image i) (sym i.is_scan.ensures ∙ c.if-not-is_scan.false)).0
 
-pub returns-then-number-ne0 : goal.returns-then-number-ne0
-returns-then-number-ne0 c =
-    let x = (goal.at.returns-then-number-ne0 c).After-step-outcome in
+pub returns-then-outcome-ne0 : goal.returns-then-outcome-ne0
+returns-then-outcome-ne0 c =
+    let x = (goal.at.returns-then-outcome-ne0 c).After-step-outcome in
     let i = (goal.at.After-step-outcome x).After-is_scan in
     let d =
-    step-refused (image i) (call i) (answer i) (room i) x.step-outcome.result (stepped x) (found x) c.if-number-ne0.true
+    step-refused (image i) (call i) (answer i) (room i) x.step-outcome.result (stepped x) (found x) c.if-outcome-ne0.true
     (given (answer i) _ x.step-outcome.result.answer (room i) c.give-2.ensures) in
-    record { number = d.0; image = d.1.0; answer = d.1.1; holds = λ z. absurd (c.if-number-ne0.true z) }
+    record { number = d.0; image = d.1.0; answer = d.1.1; holds = λ z. absurd (c.if-outcome-ne0.true z) }
 
 pub put_scan-requires : goal.put_scan-requires
 put_scan-requires c =
@@ -78,7 +78,7 @@ returns c =
     let x = (goal.at.returns c).After-step-outcome in
     let i = (goal.at.After-step-outcome x).After-is_scan in
     let d =
-    step-done (image i) (call i) (answer i) (room i) x.step-outcome.result (stepped x) (found x) (omega (arith, c.if-number-ne0.false))
+    step-done (image i) (call i) (answer i) (room i) x.step-outcome.result (stepped x) (found x) (omega (arith, c.if-outcome-ne0.false))
     (given (answer i) _ x.step-outcome.result.answer (room i) c.give-2.ensures) c.put_scan.ensures.1 in
     let h =
     holds x.step-outcome.result.table (scan_of (scan_load (image i)) (call i)).table c.put_scan.ensures.0

@@ -6,4 +6,4 @@ use Rattle.scan_board.proofs.images.bare_of.Goals as goal
 
 pub returns : goal.returns
 unfolding pad
-returns c = ap (λ ts. with_tasks ts c.args.table.rest) c.tasks_in-tasks.ensures
+returns c = ap (λ ts. with_tasks ts c.args.table.rest) c.tasks_in.ensures

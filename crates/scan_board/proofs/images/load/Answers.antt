@@ -15,8 +15,8 @@ slice_bounds-load-end c =
 pub returns : goal.returns
 returns c =
     let l = c.load-t in
-    let n = c.entries_in-entries in
+    let n = c.entries_in in
     let s = c.args.bytes.now in
     let d = length-drop image_length s in
-    loaded s (take (length s - image_length) (drop image_length s)) l.result n.result c.number_in-last.result l.ensures
-    (take_all (length s - image_length) (drop image_length s) (omega (arith, d))) n.ensures c.number_in-last.ensures
+    loaded s (take (length s - image_length) (drop image_length s)) l.result n.result c.number_in.result l.ensures
+    (take_all (length s - image_length) (drop image_length s) (omega (arith, d))) n.ensures c.number_in.ensures

@@ -15,7 +15,7 @@ slice_bounds-store-end-2 c =
 
 pub returns : goal.returns
 returns c =
-    let b = c.bare_of-front in
+    let b = c.bare_of in
     let e = c.args.table in
     let fb : FitsTable (bare e) = rw b.ensures at (table-owned b.result _ b.type_inv) in
     let n = numbers-owned e _ c.well_formed.1.0 in
