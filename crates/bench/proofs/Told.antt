@@ -1,56 +1,44 @@
 -- What is told at a place of an input: which case of the definitions holds there.
-use Prim.Native.Nat.{ℕ, zero, suc, ◌-◌, ◌≤◌, ◌<◌}
-use mathlib.Core.Path.{◌≡◌, refl, ap, ◌∙◌}
+use Prim.Native.Nat.{ℕ, zero, suc, ◌≤◌, ◌<◌}
+use mathlib.Core.Path.{◌≡◌, refl}
 use mathlib.Core.List.{List, [], ◌∷◌}
 use native.Mathlib.Omega.{arith}
-use native.Mathlib.Nat.{add-zero}
-use lib.ListN.{length, get_or, take, drop, length-append, length-drop, drop_of_length-le}
-use lib.Seq.{get_or-drop}
+use lib.ListN.{length, get_or, take, length-append}
 use lib.Dec.{ltb}
 use borrow.Author.Tests.{ne_eqb, lt-ltb, le-ltb, ltb-false}
 use Rattle.records.specs.declared.TaskNo.{TaskNo}
-use Rattle.records.specs.Kinds.{kind_of}
 use Rattle.executive.specs.Places.{nobody}
 use Rattle.executive.specs.Table.{head_of}
 use Rattle.bench.specs.Lines.{row, end_of, stop_of}
-use Rattle.bench.specs.Listing.{call_length, step_length, whole_of, last_of}
+use Rattle.bench.specs.Listing.{step_length, whole_of, last_of}
 use Rattle.text.proofs.Assured.{decide}
 
--- ---- the bytes that are left at a place
-module _ (s : List ℕ) (at : ℕ) where
-  abbrev promised : ℕ
-  promised = call_length (kind_of (get_or s at 0))
-
-  pub promised-is : step_length (drop at s) ≡ promised
-  promised-is = ap (λ b. call_length (kind_of b)) (get_or-drop at s 0 0 ∙ ap (λ i. get_or s i 0) (add-zero at))
-
-  pub whole-none : length s ≤ at → whole_of (drop at s) ≡ 0
-  unfolding whole_of kind_of
-  whole-none h = rw (drop_of_length-le s {i = at} h)
-
-  pub whole-cut : length s - at < promised → whole_of (drop at s) ≡ 0
+-- ---- the bytes that are left
+module _ (s : List ℕ) where
+  pub whole-none : step_length s ≡ 0 → whole_of s ≡ 0
   unfolding whole_of
-  whole-cut h = rw (promised-is, length-drop at s, lt-ltb (length s - at) promised h)
+  whole-none e = decide (ltb (length s) (step_length s)) (λ h. rw h) (λ h. rw h e)
 
-  pub whole_is : promised ≤ length s - at → whole_of (drop at s) ≡ promised
+  pub whole-cut : length s < step_length s → whole_of s ≡ 0
   unfolding whole_of
-  whole_is h = rw (promised-is, length-drop at s, le-ltb (length s - at) promised h)
+  whole-cut h = rw (lt-ltb (length s) (step_length s) h)
 
-  pub last_end : length s ≤ at → last_of (drop at s) ≡ end_of
+  pub whole_is : step_length s ≤ length s → step_length s ≡ whole_of s
+  unfolding whole_of
+  whole_is h = rw (le-ltb (length s) (step_length s) h)
+
+  pub last_end : length s ≡ 0 → last_of s ≡ end_of
   unfolding last_of
-  last_end h = rw (drop_of_length-le s {i = at} h)
+  last_end e = rw e
 
-  module _ (h : at < length s) where
-    left-some : length (drop at s) ≡ 0 → ⊥
-    left-some e = omega (arith, length-drop at s)
-
-    pub last_unknown : promised ≡ 0 → last_of (drop at s) ≡ stop_of 4
+  module _ (h : length s ≡ 0 → ⊥) where
+    pub last_unknown : step_length s ≡ 0 → last_of s ≡ stop_of 4
     unfolding last_of
-    last_unknown e = rw (ne_eqb (length (drop at s)) 0 left-some, promised-is, e)
+    last_unknown e = rw (ne_eqb (length s) 0 h, e)
 
-    pub last-cut : (promised ≡ 0 → ⊥) → last_of (drop at s) ≡ stop_of 3
+    pub last-cut : (step_length s ≡ 0 → ⊥) → last_of s ≡ stop_of 3
     unfolding last_of
-    last-cut e = rw (ne_eqb (length (drop at s)) 0 left-some, promised-is, ne_eqb promised 0 e)
+    last-cut e = rw (ne_eqb (length s) 0 h, ne_eqb (step_length s) 0 e)
 
 -- a whole step is there
 pub whole-fits : (s : List ℕ) → whole_of s ≤ length s

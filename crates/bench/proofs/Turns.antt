@@ -1,19 +1,18 @@
 -- The pieces of a listing, turn by turn, and a buffer that takes them.
-use Prim.Native.Nat.{ℕ, zero, suc, ◌+◌, ◌-◌, ◌≤◌, ◌<◌}
+use Prim.Native.Nat.{min, ◌^◌, ℕ, zero, suc, ◌+◌, ◌-◌, ◌≤◌, ◌<◌}
 use mathlib.Core.Path.{◌≡◌, refl, sym, ap, ◌∙◌}
 use mathlib.Core.Bool.{Bool, true, false}
 use mathlib.Core.List.{List, [], ◌∷◌, ◌++◌, append_assoc}
 use native.Mathlib.Omega.{arith}
 use lib.ListN.{length, get_or, take, drop, length-drop}
-use lib.Seq.{get_or-drop}
-use lib.Dec.{eqb}
-use native.Mathlib.Nat.{add-zero}
-use borrow.Author.Tests.{le-leb, lt-leb, leb-true, ne_eqb}
+use lib.Dec.{eqb, ltb}
+use borrow.Author.Tests.{le-leb, lt-leb, leb-true, ltb-true, ltb-false, ne_eqb}
 use Rattle.executive.specs.declared.Answer.{Answer}
 use Rattle.executive.specs.declared.Outcome.{Outcome}
 use Rattle.records.specs.declared.TaskNo.{TaskNo}
 use Rattle.executive.specs.declared.Table.{Table}
 use Rattle.executive.specs.Step.{step_of}
+use Rattle.std.specs.Prelude.{Option, Some, None}
 use Rattle.bench.specs.declared.Next.{Next}
 use Rattle.bench.specs.declared.Next.TheVariants as next
 use Rattle.bench.specs.declared.Progress.{Progress}
@@ -47,12 +46,12 @@ last_some s =
     decide (eqb (length s) 0) (λ e. rw e (row-some (end_word ∷ [])))
     (λ e. rw e (decide (eqb (step_length s) 0) (λ f. rw f (stop-some 4)) (λ f. rw f (stop-some 3))))
 
-told_as_some : (n : Next) (s : List ℕ) (r : Progress) → is_more n ≡ true → 0 < length (told_as n s r)
-told_as_some (next.Header k) s r e = header_some r.table.rest.granule r.table.rest.count k.0
-told_as_some next.Step s r e =
+told_as_some : (n : Option Next) (s : List ℕ) (r : Progress) → is_more n ≡ true → 0 < length (told_as n s r)
+told_as_some (Some (next.Header k)) s r e = header_some r.table.rest.granule r.table.rest.count k.0
+told_as_some (Some next.Step) s r e =
     decide (eqb (whole_of (left_in s r)) 0) (λ q. rw q (last_some (left_in s r))) (λ q. rw q (line-some _ _ _))
-told_as_some (next.Stop n) s r e = stop-some n
-told_as_some next.Nothing s r e = absurd (let z : ◌≡◌ {A = ℕ} 0 1 = cc in omega arith)
+told_as_some (Some (next.Stop n)) s r e = stop-some n
+told_as_some None s r e = absurd (let z : ◌≡◌ {A = ℕ} 0 1 = cc in omega arith)
 
 pub told-some : (s : List ℕ) (r : Progress) → is_more r.next ≡ true → 0 < length (told_of s r)
 unfolding told_of
@@ -150,13 +149,13 @@ fills_all {s} {r} {a} {b} f h =
 
 -- ---- the listing stands before a step
 abbrev pub standing : ℕ → ℕ → Table → Progress
-standing at number t = record { next = next.Step; at = at; number = number; table = t }
+standing at number t = record { next = Some next.Step; at = at; number = number; table = t }
 
 module _ (s : List ℕ) (at number : ℕ) (t : Table) where
   told-step : (w : ℕ) → w ≡ whole_of (drop at s) → (w ≡ 0 → ⊥)
-      → told_of s (standing at number t) ≡ line_of number (get_or s at 0) (step_of t (take w (drop at s))).answer
+      → told_of s (standing at number t) ≡ line_of number (get_or (drop at s) 0 0) (step_of t (take w (drop at s))).answer
   unfolding told_of
-  told-step w e h = rw (← e, ne_eqb w 0 h, get_or-drop at s 0 0, add-zero at)
+  told-step w e h = rw (← e, ne_eqb w 0 h)
 
   after-step : (w : ℕ) → w ≡ whole_of (drop at s) → (w ≡ 0 → ⊥)
       → after_of s (standing at number t) ≡ standing (at + w) (after number) (step_of t (take w (drop at s))).table
@@ -167,9 +166,16 @@ module _ (s : List ℕ) (at number : ℕ) (t : Table) where
   unfolding told_of
   told-last e = rw (← e)
 
-  after_last : 0 ≡ whole_of (drop at s) → after_of s (standing at number t) ≡ with_next next.Nothing (standing at number t)
+  after_last : 0 ≡ whole_of (drop at s) → after_of s (standing at number t) ≡ with_next None (standing at number t)
   unfolding after_of
   after_last e = rw (← e)
+
+-- the number goes up to the last one that four bytes hold
+pub saturated : (n : ℕ) → n < 4294967296 → min (n + 1) (2 ^ 32 - 1) ≡ after n
+saturated n h =
+    decide (ltb n 4294967295)
+    (λ e. rw e (let l = ltb-true n 4294967295 e in omega arith))
+    (λ e. rw e (let l = ltb-false n 4294967295 e in omega arith))
 
 -- a whole step lies in the input
 pub whole_in : (s : List ℕ) (at w : ℕ) → w ≡ whole_of (drop at s) → (w ≡ 0 → ⊥) → at + w ≤ length s
@@ -181,12 +187,12 @@ pub going_step : {s : List ℕ} {r : Progress} {a : List ℕ} {n : ℕ} {b : Lis
     → Going s r a n b m (standing at number t) → 64 ≤ length a - m
     → (w : ℕ) → w ≡ whole_of (drop at s) → (w ≡ 0 → ⊥)
     → (x : List ℕ) → x ≡ take w (drop at s) → (o : Outcome) → o ≡ step_of t x
-    → Adds b m c k (line_of number (get_or s at 0) o.answer)
+    → Adds b m c k (line_of number (get_or (drop at s) 0 0) o.answer)
     → (l : ℕ) → l ≡ after number → Going s r a n c k (standing (at + w) l o.table)
 going_step {s} {r} {a} {n} {b} {m} {at} {number} {t} {c} {k} g h w e z x f o i p l j =
     let y : o ≡ step_of t (take w (drop at s)) = i ∙ ap (step_of t) f in
-    let q : told_of s (standing at number t) ≡ line_of number (get_or s at 0) o.answer =
-    told-step s at number t w e z ∙ ap (λ u. line_of number (get_or s at 0) u.answer) (sym y) in
+    let q : told_of s (standing at number t) ≡ line_of number (get_or (drop at s) 0 0) o.answer =
+    told-step s at number t w e z ∙ ap (λ u. line_of number (get_or (drop at s) 0 0) u.answer) (sym y) in
     let v : after_of s (standing at number t) ≡ standing (at + w) l o.table =
     after-step s at number t w e z ∙ rw (y, j) in
     rw v at (going_more g (le-leb 64 (length a - m) h) (rw (← q) at p))
@@ -196,17 +202,17 @@ pub going_act : {s : List ℕ} {r : Progress} {a : List ℕ} {n : ℕ} {b : List
     → Going s r a n b m (standing at number (load_of u)) → is_image u ≡ true → 64 ≤ length a - m
     → (w : ℕ) → w ≡ whole_of (drop at s) → (w ≡ 0 → ⊥)
     → (x : List ℕ) → x ≡ take w (drop at s) → (y : Answer) → Acts u x v y
-    → Adds b m c k (line_of number (get_or s at 0) y)
+    → Adds b m c k (line_of number (get_or (drop at s) 0 0) y)
     → (l : ℕ) → l ≡ after number → Going s r a n c k (standing (at + w) l (load_of v)) × (is_image v ≡ true)
 going_act {s} {r} {a} {n} {b} {m} {at} {number} {u} {v} {c} {k} g i h w e z x f y d p l j =
     let q = acting_promises.acted u x v y (load_of u) d (record { image = i; loads = refl }) in
-    let o : Adds b m c k (line_of number (get_or s at 0) (step_of (load_of u) x).answer) = rw q.0 at p in
+    let o : Adds b m c k (line_of number (get_or (drop at s) 0 0) (step_of (load_of u) x).answer) = rw q.0 at p in
     (rw q.1.loads (going_step g h w e z x f (step_of (load_of u) x) refl o l j), q.1.image)
 
 -- the last line
 pub going_last : {s : List ℕ} {r : Progress} {a : List ℕ} {n : ℕ} {b : List ℕ} {m : ℕ} {at number : ℕ} {t : Table} {c : List ℕ} {k : ℕ}
     → Going s r a n b m (standing at number t) → 64 ≤ length a - m → 0 ≡ whole_of (drop at s) → Adds b m c k (last_of (drop at s))
-    → FillsFrom n s r a c (record { used = k; more = false; run = with_next next.Nothing (standing at number t) })
+    → FillsFrom n s r a c (record { used = k; more = false; run = with_next None (standing at number t) })
 going_last {s} {r} {a} {n} {b} {m} {at} {number} {t} {c} {k} g h e p =
     let y = going_more g (le-leb 64 (length a - m) h) (rw (← told-last s at number t e) at p) in
     going_over false (rw (after_last s at number t e) at y) refl refl
@@ -228,32 +234,32 @@ module _ (s : List ℕ) (r : Progress) (a : List ℕ) where
   pub fill-small : (more : Bool) → length a < 64 → more ≡ is_more r.next → Fills s r a a (record { used = 0; more = more; run = r })
   fill-small more h e = done more (small-room (length a - 0) r (omega arith)) e
 
-  pub fill-nothing : r.next ≡ next.Nothing → Fills s r a a (record { used = 0; more = false; run = r })
+  pub fill-nothing : r.next ≡ None → Fills s r a a (record { used = 0; more = false; run = r })
   fill-nothing e = done false (rw e) (rw e)
 
-  told-first : (n : Next) → r.next ≡ n → told_of s r ≡ told_as n s r
+  told-first : (n : Option Next) → r.next ≡ n → told_of s r ≡ told_as n s r
   unfolding told_of
   told-first n e = ap (λ x. told_as x s r) e
 
-  after_first : (n : Next) → r.next ≡ n → after_of s r ≡ after_as n s r
+  after_first : (n : Option Next) → r.next ≡ n → after_of s r ≡ after_as n s r
   unfolding after_of
   after_first n e = ap (λ x. after_as x s r) e
 
   -- the first line
-  going_first : (n : Next) → r.next ≡ n → is_more n ≡ true → 64 ≤ length a → {b : List ℕ} {k : ℕ} → Adds a 0 b k (told_as n s r) → Going s r a 0 b k (after_as n s r)
+  going_first : (n : Option Next) → r.next ≡ n → is_more n ≡ true → 64 ≤ length a → {b : List ℕ} {k : ℕ} → Adds a 0 b k (told_as n s r) → Going s r a 0 b k (after_as n s r)
   going_first n e m h p =
       let l : goes_on (length a - 0) r ≡ true = rw (e, m) (le-leb 64 (length a - 0) (omega arith)) in
       rw (after_first n e) at (going_more (going_none s r a 0 (omega arith)) l (rw (← told-first n e) at p))
 
-  pub fill_stop : (n : ℕ) → r.next ≡ next.Stop n → 64 ≤ length a → {b : List ℕ} {k : ℕ} → Adds a 0 b k (stop_of n)
-      → Fills s r a b (record { used = k; more = false; run = with_next next.Nothing r })
-  fill_stop n e h p = fills_all _ (going_over false (going_first (next.Stop n) e refl h p) refl refl)
+  pub fill_stop : (n : ℕ) → r.next ≡ Some (next.Stop n) → 64 ≤ length a → {b : List ℕ} {k : ℕ} → Adds a 0 b k (stop_of n)
+      → Fills s r a b (record { used = k; more = false; run = with_next None r })
+  fill_stop n e h p = fills_all _ (going_over false (going_first (Some (next.Stop n)) e refl h p) refl refl)
 
-  pub fill_header : (t : TaskNo) → r.next ≡ next.Header t → 64 ≤ length a → {b c : List ℕ} {k : ℕ} (f : Filled)
-      → Adds a 0 b k (header_of r.table t) → FillsFrom k s (with_next next.Step r) b c f → Fills s r a c f
-  fill_header t e h f p q = fills_all f (going_on f (going_first (next.Header t) e refl h p) q)
+  pub fill_header : (t : TaskNo) → r.next ≡ Some (next.Header t) → 64 ≤ length a → {b c : List ℕ} {k : ℕ} (f : Filled)
+      → Adds a 0 b k (header_of r.table t) → FillsFrom k s (with_next (Some next.Step) r) b c f → Fills s r a c f
+  fill_header t e h f p q = fills_all f (going_on f (going_first (Some (next.Header t)) e refl h p) q)
 
-  pub fill-steps : r.next ≡ next.Step → {b : List ℕ} (f : Filled) → FillsFrom 0 s (with_next next.Step r) a b f → Fills s r a b f
+  pub fill-steps : r.next ≡ Some next.Step → {b : List ℕ} (f : Filled) → FillsFrom 0 s (with_next (Some next.Step) r) a b f → Fills s r a b f
   fill-steps e f q =
-      let y : with_next next.Step r ≡ r = λ i. record { next = sym e i; at = r.at; number = r.number; table = r.table } in
+      let y : with_next (Some next.Step) r ≡ r = λ i. record { next = sym e i; at = r.at; number = r.number; table = r.table } in
       fills_all f (rw y at q)

@@ -13,6 +13,7 @@ use borrow.Author.Tests.{lt-ltb, ltb-false, eqb-false, le-leb}
 use Rattle.executive.specs.declared.Table.{Table}
 use Rattle.executive.specs.Configuration.{configuration_in}
 use Rattle.executive.specs.Step.{step_of}
+use Rattle.std.specs.Prelude.{Option, Some, None}
 use Rattle.bench.specs.declared.Next.{Next}
 use Rattle.bench.specs.declared.Next.TheVariants as next
 use Rattle.bench.specs.declared.Progress.{Progress}
@@ -51,26 +52,24 @@ steps-enough (suc j) (suc k) n t s h g =
     rw e (ap (λ x. line_of n (get_or s 0 0) (step_of t (take (whole_of s) s)).answer ++ x) (steps-enough j k (suc n) (step_of t (take (whole_of s) s)).table (drop (whole_of s) s) (omega arith) (omega arith))))
 
 -- ---- what is left to tell
-abbrev pub left_as : Next → List ℕ → Progress → List ℕ
-left_as (next.Header k) s r = header_of r.table k ++ steps_of (length s) r.number r.table (left_in s r)
-left_as next.Step s r = steps_of (length s) r.number r.table (left_in s r)
-left_as (next.Stop n) s r = stop_of n
-left_as next.Nothing s r = []
+abbrev pub left_as : Option Next → List ℕ → Progress → List ℕ
+left_as (Some (next.Header k)) s r = header_of r.table k ++ steps_of (length s) r.number r.table (left_in s r)
+left_as (Some next.Step) s r = steps_of (length s) r.number r.table (left_in s r)
+left_as (Some (next.Stop n)) s r = stop_of n
+left_as None s r = []
 
 abbrev pub left : List ℕ → Progress → List ℕ
 left s r = left_as r.next s r
 
-no_more : (n : Next) (s : List ℕ) (r : Progress) → is_more n ≡ false → left_as n s r ≡ []
-no_more (next.Header k) s r e = absurd (let z : ◌≡◌ {A = ℕ} 0 1 = cc in omega arith)
-no_more next.Step s r e = absurd (let z : ◌≡◌ {A = ℕ} 0 1 = cc in omega arith)
-no_more (next.Stop n) s r e = absurd (let z : ◌≡◌ {A = ℕ} 0 1 = cc in omega arith)
-no_more next.Nothing s r e = refl
+no_more : (n : Option Next) (s : List ℕ) (r : Progress) → is_more n ≡ false → left_as n s r ≡ []
+no_more (Some n) s r e = absurd (let z : ◌≡◌ {A = ℕ} 0 1 = cc in omega arith)
+no_more None s r e = refl
 
-no_lines : (n : Next) (s : List ℕ) (r : Progress) → lines_as n s r ≤ 0 → is_more n ≡ false
-no_lines (next.Header k) s r h = absurd (omega arith)
-no_lines next.Step s r h = absurd (omega arith)
-no_lines (next.Stop n) s r h = absurd (omega arith)
-no_lines next.Nothing s r h = refl
+no_lines : (n : Option Next) (s : List ℕ) (r : Progress) → lines_as n s r ≤ 0 → is_more n ≡ false
+no_lines (Some (next.Header k)) s r h = absurd (omega arith)
+no_lines (Some next.Step) s r h = absurd (omega arith)
+no_lines (Some (next.Stop n)) s r h = absurd (omega arith)
+no_lines None s r h = refl
 
 -- ---- a turn
 pub record Turn (l t : List ℕ) (k : ℕ) (s : List ℕ) (q : Progress) : Type 0 where
@@ -78,8 +77,8 @@ pub record Turn (l t : List ℕ) (k : ℕ) (s : List ℕ) (q : Progress) : Type 
   pub sound : Sound s q
   pub fewer : lines s q < k
 
-step-turn : (s : List ℕ) (r : Progress) → SoundAs next.Step s r
-    → Turn (left_as next.Step s r) (told_as next.Step s r) (lines_as next.Step s r) s (after_as next.Step s r)
+step-turn : (s : List ℕ) (r : Progress) → SoundAs (Some next.Step) s r
+    → Turn (left_as (Some next.Step) s r) (told_as (Some next.Step) s r) (lines_as (Some next.Step) s r) s (after_as (Some next.Step) s r)
 unfolding steps_of
 step-turn s r h =
     let u = left_in s r in
@@ -96,11 +95,11 @@ step-turn s r h =
     let a : after r.number ≡ suc r.number = rw (lt-ltb r.number 4294967295 (omega arith)) (add-one r.number) in
     rw e (record { same = p ∙ rw (e, d, a); sound = rw a (omega arith); fewer = omega arith }))
 
-turn_as : (n : Next) (s : List ℕ) (r : Progress) → SoundAs n s r → is_more n ≡ true → Turn (left_as n s r) (told_as n s r) (lines_as n s r) s (after_as n s r)
-turn_as (next.Header k) s r h e = record { same = refl; sound = h; fewer = omega arith }
-turn_as next.Step s r h e = step-turn s r h
-turn_as (next.Stop n) s r h e = record { same = sym (append-nil (stop_of n)); sound = tt; fewer = omega arith }
-turn_as next.Nothing s r h e = absurd (let z : ◌≡◌ {A = ℕ} 0 1 = cc in omega arith)
+turn_as : (n : Option Next) (s : List ℕ) (r : Progress) → SoundAs n s r → is_more n ≡ true → Turn (left_as n s r) (told_as n s r) (lines_as n s r) s (after_as n s r)
+turn_as (Some (next.Header k)) s r h e = record { same = refl; sound = h; fewer = omega arith }
+turn_as (Some next.Step) s r h e = step-turn s r h
+turn_as (Some (next.Stop n)) s r h e = record { same = sym (append-nil (stop_of n)); sound = tt; fewer = omega arith }
+turn_as None s r h e = absurd (let z : ◌≡◌ {A = ℕ} 0 1 = cc in omega arith)
 
 turn : (s : List ℕ) (r : Progress) → Sound s r → is_more r.next ≡ true → Turn (left s r) (told_of s r) (lines s r) s (after_of s r)
 unfolding told_of after_of
@@ -151,11 +150,9 @@ poured_told : (ns s : List ℕ) (r : Progress) → Sound s r → Told (left s r)
 poured_told [] s r h = stay s r h
 poured_told (n ∷ ns) s r h = let t = piece-of n s r h in move t (poured_told ns s (piece_of n s r).run t.sound)
 
-none-lines : (n : Next) (s : List ℕ) (r : Progress) → is_more n ≡ false → lines_as n s r ≡ 0
-none-lines (next.Header k) s r e = absurd (let z : ◌≡◌ {A = ℕ} 0 1 = cc in omega arith)
-none-lines next.Step s r e = absurd (let z : ◌≡◌ {A = ℕ} 0 1 = cc in omega arith)
-none-lines (next.Stop n) s r e = absurd (let z : ◌≡◌ {A = ℕ} 0 1 = cc in omega arith)
-none-lines next.Nothing s r e = refl
+none-lines : (n : Option Next) (s : List ℕ) (r : Progress) → is_more n ≡ false → lines_as n s r ≡ 0
+none-lines (Some n) s r e = absurd (let z : ◌≡◌ {A = ℕ} 0 1 = cc in omega arith)
+none-lines None s r e = refl
 
 poured_fewer : (ns s : List ℕ) (r : Progress) → Sound s r → Roomy ns → lines s (poured_by ns s r).run ≤ lines s r - length ns
 poured_fewer [] s r h g = omega arith
@@ -197,8 +194,7 @@ start-lines s =
 -- ---- for a program that fills until there is no more
 start-more : (s : List ℕ) → is_more (start_of s).next ≡ true
 unfolding start_of
-start-more s =
-    decide (ltb most_bytes (length s)) (λ e. rw e) (λ e. rw e (decide (eqb (made_of s).answer.number 0) (λ f. rw f) (λ f. rw f)))
+start-more s = refl
 
 module _ (s : List ℕ) (r : Progress) (a b : List ℕ) (f : Filled) (p : Fills s r a b f) where
   filled_in : f.used ≤ length b

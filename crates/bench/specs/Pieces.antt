@@ -1,5 +1,5 @@
 -- The listing piece by piece: where it stands, the line told there, and the whole lines that go into a buffer.
-use Rattle.std.specs.Prelude.{ℕ, zero, suc, ◌+◌, ◌-◌, ◌≤◌, ◌<◌, ◌≡◌, Bool, true, false, cond, List, [], ◌∷◌, ◌++◌, length, get_or, take, drop, eqb, leb, ltb}
+use Rattle.std.specs.Prelude.{ℕ, zero, suc, ◌+◌, ◌-◌, ◌≤◌, ◌<◌, ◌≡◌, Bool, true, false, cond, List, [], ◌∷◌, ◌++◌, length, get_or, take, drop, eqb, leb, ltb, Option, Some, None}
 use Rattle.records.specs.declared.TaskNo.{TaskNo}
 use Rattle.executive.specs.declared.Table.{Table}
 use Rattle.executive.specs.Configuration.{configuration_in}
@@ -17,7 +17,7 @@ abbrev pub line_room : ℕ
 line_room = 64
 
 -- ---- where the listing stands
-abbrev pub with_next : Next → Progress → Progress
+abbrev pub with_next : Option Next → Progress → Progress
 with_next n r = record { next = n; at = r.at; number = r.number; table = r.table }
 
 -- what is told first, of an input of that length whose configuration gave that number and that active task
@@ -26,18 +26,16 @@ first_of n k active = cond (ltb most_bytes n) (next.Stop 12) (cond (eqb k 0) (ne
 
 unfoldable pub start_of : List ℕ → Progress
 start_of s = record {
-  next = first_of (length s) (made_of s).answer.number (made_of s).answer.active;
+  next = Some (first_of (length s) (made_of s).answer.number (made_of s).answer.active);
   at = configuration_in s;
   number = 1;
   table = (made_of s).table;
 }
 
 -- is there more to tell?
-abbrev pub is_more : Next → Bool
-is_more (next.Header k) = true
-is_more next.Step = true
-is_more (next.Stop n) = true
-is_more next.Nothing = false
+abbrev pub is_more : Option Next → Bool
+is_more (Some n) = true
+is_more None = false
 
 -- ---- the line told there, and where the listing stands after it
 -- the number after n; no listing comes to the last one that a number of four bytes can be
@@ -50,25 +48,25 @@ left_in s r = drop r.at s
 
 abbrev pub stepped : ℕ → List ℕ → Progress → Progress
 stepped w s r = record {
-  next = next.Step;
+  next = Some next.Step;
   at = r.at + w;
   number = after r.number;
   table = (step_of r.table (take w (left_in s r))).table;
 }
 
-abbrev pub told_as : Next → List ℕ → Progress → List ℕ
-told_as (next.Header k) s r = header_of r.table k
-told_as next.Step s r =
+abbrev pub told_as : Option Next → List ℕ → Progress → List ℕ
+told_as (Some (next.Header k)) s r = header_of r.table k
+told_as (Some next.Step) s r =
     cond (eqb (whole_of (left_in s r)) 0) (last_of (left_in s r))
     (line_of r.number (get_or (left_in s r) 0 0) (step_of r.table (take (whole_of (left_in s r)) (left_in s r))).answer)
-told_as (next.Stop n) s r = stop_of n
-told_as next.Nothing s r = []
+told_as (Some (next.Stop n)) s r = stop_of n
+told_as None s r = []
 
-abbrev pub after_as : Next → List ℕ → Progress → Progress
-after_as (next.Header k) s r = with_next next.Step r
-after_as next.Step s r = cond (eqb (whole_of (left_in s r)) 0) (with_next next.Nothing r) (stepped (whole_of (left_in s r)) s r)
-after_as (next.Stop n) s r = with_next next.Nothing r
-after_as next.Nothing s r = r
+abbrev pub after_as : Option Next → List ℕ → Progress → Progress
+after_as (Some (next.Header k)) s r = with_next (Some next.Step) r
+after_as (Some next.Step) s r = cond (eqb (whole_of (left_in s r)) 0) (with_next None r) (stepped (whole_of (left_in s r)) s r)
+after_as (Some (next.Stop n)) s r = with_next None r
+after_as None s r = r
 
 unfoldable pub told_of : List ℕ → Progress → List ℕ
 told_of s r = told_as r.next s r
@@ -118,21 +116,21 @@ pub record FillsFrom (n : ℕ) (s : List ℕ) (r : Progress) (a b : List ℕ) (f
 
 -- ---- where a listing can stand, and how much is left of it
 -- the number of a step has room to count those that are left
-abbrev pub SoundAs : Next → List ℕ → Progress → Type 0
-SoundAs (next.Header k) s r = r.number + length (left_in s r) < 4294967296
-SoundAs next.Step s r = r.number + length (left_in s r) < 4294967296
-SoundAs (next.Stop n) s r = Unit {0}
-SoundAs next.Nothing s r = Unit {0}
+abbrev pub SoundAs : Option Next → List ℕ → Progress → Type 0
+SoundAs (Some (next.Header k)) s r = r.number + length (left_in s r) < 4294967296
+SoundAs (Some next.Step) s r = r.number + length (left_in s r) < 4294967296
+SoundAs (Some (next.Stop n)) s r = Unit {0}
+SoundAs None s r = Unit {0}
 
 abbrev pub Sound : List ℕ → Progress → Type 0
 Sound s r = SoundAs r.next s r
 
 -- no more lines are left than this
-abbrev pub lines_as : Next → List ℕ → Progress → ℕ
-lines_as (next.Header k) s r = length (left_in s r) + 2
-lines_as next.Step s r = length (left_in s r) + 1
-lines_as (next.Stop n) s r = 1
-lines_as next.Nothing s r = 0
+abbrev pub lines_as : Option Next → List ℕ → Progress → ℕ
+lines_as (Some (next.Header k)) s r = length (left_in s r) + 2
+lines_as (Some next.Step) s r = length (left_in s r) + 1
+lines_as (Some (next.Stop n)) s r = 1
+lines_as None s r = 0
 
 abbrev pub lines : List ℕ → Progress → ℕ
 lines s r = lines_as r.next s r

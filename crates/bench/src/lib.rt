@@ -8,21 +8,19 @@ mod lines;
 pub mod listing;
 mod steps;
 
-// What is told next: the header, with the task that is active in the fresh table; a step; a stop with its number;
-// nothing.
+// What is told next: the header, with the task that is active in the fresh table; a step; a stop with its number.
 #[derive(Clone, Copy)]
 pub enum Next {
     Header(TaskNo),
     Step,
     Stop(u8),
-    Nothing,
 }
 
-// Where a listing stands: what is told next, where in the input the next step begins, that step's number, and the
-// table.
+// Where a listing stands: what is told next, if anything is, where in the input the next step begins, that step's
+// number, and the table.
 #[derive(Clone, Copy)]
 pub struct Progress {
-    pub next: Next,
+    pub next: Option<Next>,
     pub at: usize,
     pub number: u32,
     pub table: Table,

@@ -18,13 +18,13 @@ pub(crate) fn header_line(
     requires { at + 64 ≤ length out.old }
     ensures { Adds out.old at out.new result (header_by granule tasks active.0) }
 {
-    let a = glyphs::text(out, at, b"granule ");
-    let b = glyphs::decimal(out, a, granule as u64);
-    let c = glyphs::text(out, b, b" tasks ");
-    let d = glyphs::decimal(out, c, tasks as u64);
-    let e = glyphs::text(out, d, b" active ");
-    let f = glyphs::decimal(out, e, active.0 as u64);
-    glyphs::put(out, f, 10)
+    let at = glyphs::text(out, at, b"granule ");
+    let at = glyphs::decimal(out, at, u64::from(granule));
+    let at = glyphs::text(out, at, b" tasks ");
+    let at = glyphs::decimal(out, at, u64::from(tasks));
+    let at = glyphs::text(out, at, b" active ");
+    let at = glyphs::decimal(out, at, u64::from(active.0));
+    glyphs::put(out, at, b'\n')
 }
 
 // A step's number, its kind in hex, answer, ZVC, active.
@@ -32,17 +32,16 @@ pub(crate) fn step_line(out: &mut [u8], at: usize, number: u32, kind: u8, answer
     requires { at + 64 ≤ length out.old }
     ensures { Adds out.old at out.new result (line_of number kind answer) }
 {
-    let a = glyphs::decimal(out, at, number as u64);
-    let b = glyphs::put(out, a, 32);
-    let c = glyphs::hex(out, b, kind);
-    let d = glyphs::put(out, c, 32);
-    let e = glyphs::decimal(out, d, answer.number as u64);
-    let f = glyphs::put(out, e, 32);
-    let g = glyphs::bits(out, f, answer.z, answer.v, answer.c);
-    let h = glyphs::put(out, g, 32);
-    let active = answer.active;
-    let i = glyphs::decimal(out, h, active.0 as u64);
-    glyphs::put(out, i, 10)
+    let at = glyphs::decimal(out, at, u64::from(number));
+    let at = glyphs::put(out, at, b' ');
+    let at = glyphs::hex(out, at, kind);
+    let at = glyphs::put(out, at, b' ');
+    let at = glyphs::decimal(out, at, u64::from(answer.number));
+    let at = glyphs::put(out, at, b' ');
+    let at = glyphs::bits(out, at, answer.z, answer.v, answer.c);
+    let at = glyphs::put(out, at, b' ');
+    let at = glyphs::decimal(out, at, u64::from(answer.active.0));
+    glyphs::put(out, at, b'\n')
 }
 
 // stop and a number.
@@ -50,9 +49,9 @@ pub(crate) fn stop_line(out: &mut [u8], at: usize, n: u8) -> usize
     requires { at + 64 ≤ length out.old }
     ensures { Adds out.old at out.new result (stop_of n) }
 {
-    let a = glyphs::text(out, at, b"stop ");
-    let b = glyphs::decimal(out, a, n as u64);
-    glyphs::put(out, b, 10)
+    let at = glyphs::text(out, at, b"stop ");
+    let at = glyphs::decimal(out, at, u64::from(n));
+    glyphs::put(out, at, b'\n')
 }
 
 // end.

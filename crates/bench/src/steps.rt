@@ -1,44 +1,43 @@
-// The steps of an input: how long the one at a place is, and what is told where there is no whole one.
-ghost use Rattle.std.specs.Prelude.{◌≡◌, ◌+◌, ◌≤◌, length, drop};
+// The steps of an input: how long the one is that some bytes begin with, and what is told where there is no whole one.
+ghost use Rattle.std.specs.Prelude.{◌≡◌, ◌+◌, ◌≤◌, ◌<◌, length, MatchOption};
 ghost use Rattle.text.specs.Glyphs.{Adds};
-ghost use Rattle.bench.specs.Listing.{call_length, whole_of, last_of};
+ghost use Rattle.bench.specs.Listing.{step_length, whole_of, last_of};
 
 use crate::lines;
-use records::{Kind, kinds};
+use records::{kinds, reading};
 
-// The length of a step of a kind; 0 for what is no call's.
-fn call_length(kind: Kind) -> usize
-    ensures { result ≡ call_length kind }
+// The length that the first byte promises; 0 for what is no call's kind.
+fn step_length(left: &[u8]) -> usize
+    ensures { result ≡ step_length left.now }
 {
+    let kind = kinds::kind_of(reading::byte_at(left, 0));
     if kinds::is_call(kind) {
-        return kinds::length_of(kind);
+        kinds::length_of(kind)
+    } else {
+        0
     }
-    0
 }
 
-// The length of the whole step at a place; 0 where there is none.
-pub(crate) fn whole_at(input: &[u8], at: usize) -> usize
-    ensures { result ≡ whole_of (drop at input.now) }
+// The length of the whole step that some bytes begin with, if they do.
+pub(crate) fn whole_of(left: &[u8]) -> Option<usize>
+    ensures { MatchOption result (whole_of left.now ≡ 0) (λ n. (0 < n) × (n ≡ whole_of left.now)) }
 {
-    if input.len() <= at {
-        return 0;
+    match step_length(left) {
+        0 => None,
+        n if left.len() < n => None,
+        n => Some(n),
     }
-    let n = call_length(kinds::kind_of(input[at]));
-    if input.len() - at < n {
-        return 0;
-    }
-    n
 }
 
-// The line told at a place where there is no whole step.
-pub(crate) fn last_line(input: &[u8], at: usize, out: &mut [u8], used: usize) -> usize
+// The line told where no whole step is left.
+pub(crate) fn last_line(left: &[u8], out: &mut [u8], used: usize) -> usize
     requires { used + 64 ≤ length out.old }
-    ensures { Adds out.old used out.new result (last_of (drop at input.now)) }
+    ensures { Adds out.old used out.new result (last_of left.now) }
 {
-    if input.len() <= at {
+    if left.is_empty() {
         return lines::end_line(out, used);
     }
-    if call_length(kinds::kind_of(input[at])) == 0 {
+    if step_length(left) == 0 {
         return lines::stop_line(out, used, 4);
     }
     lines::stop_line(out, used, 3)

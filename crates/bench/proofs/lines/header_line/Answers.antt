@@ -6,12 +6,12 @@ use Rattle.bench.proofs.lines.header_line.Goals as goal
 
 pub returns : goal.returns
 returns c =
-    let a = c.args in
-    let l = header_short a.granule a.tasks a.active.0 (omega arith) (omega arith) (omega (arith, c.well_formed)) in
-    put_then (omega (arith, l, c.requires)) c.text-a.ensures
-    (λ h. put_then h c.decimal-b.ensures
-    (λ h. put_then h c.text-c.ensures
-    (λ h. put_then h c.decimal-d.ensures
-    (λ h. put_then h c.text-e.ensures
-    (λ h. put_then h c.decimal-f.ensures
-    (λ h. put_last c.put.ensures h))))))
+    let l = header_short c.from.result c.from-2.result c.from-3.result (omega arith) (omega arith) (omega (arith, c.well_formed)) in
+    rw (← c.from.ensures, ← c.from-2.ensures, ← c.from-3.ensures) (
+    put_then (omega (arith, l, c.requires)) c.text-at.ensures
+    (λ h. put_then h c.decimal-at.ensures
+    (λ h. put_then h c.text-at-2.ensures
+    (λ h. put_then h c.decimal-at-2.ensures
+    (λ h. put_then h c.text-at-3.ensures
+    (λ h. put_then h c.decimal-at-3.ensures
+    (λ h. put_last c.put.ensures h)))))))

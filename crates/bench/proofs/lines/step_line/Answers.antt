@@ -10,16 +10,17 @@ unfolding line_of
 returns c =
     let a = c.args in
     let l = line-short a.number a.kind a.answer (omega arith) (omega (arith, c.well_formed)) (omega (arith, c.well_formed)) in
-    put_then (omega (arith, l, c.requires)) c.decimal-a.ensures
-    (λ h. put_then h c.put-b.ensures
-    (λ h. put_then h c.hex-c.ensures
-    (λ h. put_then h c.put-d.ensures
-    (λ h. put_then h c.decimal-e.ensures
-    (λ h. put_then h c.put-f.ensures
-    (λ h. put_then h c.bits-g.ensures
-    (λ h. put_then h c.put-h.ensures
-    (λ h. put_then h c.decimal-i.ensures
-    (λ h. put_last c.put.ensures h)))))))))
+    rw (← c.from.ensures, ← c.from-2.ensures, ← c.from-3.ensures) (
+    put_then (omega (arith, rw (← c.from.ensures, ← c.from-2.ensures, ← c.from-3.ensures) at l, c.requires)) c.decimal-at.ensures
+    (λ h. put_then h c.put-at.ensures
+    (λ h. put_then h c.hex-at.ensures
+    (λ h. put_then h c.put-at-2.ensures
+    (λ h. put_then h c.decimal-at-2.ensures
+    (λ h. put_then h c.put-at-3.ensures
+    (λ h. put_then h c.bits-at.ensures
+    (λ h. put_then h c.put-at-4.ensures
+    (λ h. put_then h c.decimal-at-3.ensures
+    (λ h. put_last c.put.ensures h))))))))))
 
 pub shape_of-out : goal.shape_of-out
 shape_of-out c = (returns c).size

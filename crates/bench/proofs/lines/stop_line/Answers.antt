@@ -6,7 +6,7 @@ use Rattle.bench.proofs.lines.stop_line.Goals as goal
 
 pub returns : goal.returns
 returns c =
-    let l = stop-short c.args.n (omega arith) in
-    put_then (omega (arith, l, c.requires)) c.text-a.ensures
-    (λ h. put_then h c.decimal-b.ensures
-    (λ h. put_last c.put.ensures h))
+    let l = stop-short c.from.result (omega arith) in
+    rw (← c.from.ensures) (put_then (omega (arith, l, c.requires)) c.text-at.ensures
+    (λ h. put_then h c.decimal-at.ensures
+    (λ h. put_last c.put.ensures h)))

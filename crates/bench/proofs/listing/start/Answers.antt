@@ -14,4 +14,4 @@ slice_bounds-fresh-end c =
 
 pub returns : goal.returns
 unfolding start_of
-returns c = rw (c.first-next.ensures, c.fresh-made.ensures, c.length_in-at.ensures)
+returns c = rw (c.first.ensures, c.fresh-made.ensures, c.length_in-at.ensures)

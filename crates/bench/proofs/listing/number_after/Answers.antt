@@ -1,8 +1,0 @@
-use borrow.Author.Tests.{le-ltb, lt-ltb}
-use Rattle.bench.proofs.listing.number_after.Goals as goal
-
-pub returns-then-n-lt4294967295 : goal.returns-then-n-lt4294967295
-returns-then-n-lt4294967295 c = rw (lt-ltb c.args.n 4294967295 c.if-n-lt4294967295.true)
-
-pub returns : goal.returns
-returns c = rw (le-ltb c.args.n 4294967295 c.if-n-lt4294967295.false)
