@@ -1,5 +1,5 @@
 -- The listing piece by piece: where it stands, the line told there, and the whole lines that go into a buffer.
-use Rattle.std.specs.Prelude.{ℕ, zero, suc, ◌+◌, ◌-◌, ◌≤◌, ◌<◌, ◌≡◌, Bool, true, false, cond, List, [], ◌∷◌, ◌++◌, length, get_or, take, drop, eqb, leb, ltb, Option, Some, None}
+use Rattle.std.specs.Prelude.{ℕ, zero, suc, ◌+◌, ◌-◌, ◌≤◌, ◌<◌, ◌≡◌, Bool, true, false, cond, List, [], ◌∷◌, ◌++◌, length, get_or, take, drop, eqb, leb, ltb, Option, Some, None, is_some}
 use Rattle.records.specs.declared.TaskNo.{TaskNo}
 use Rattle.executive.specs.declared.Table.{Table}
 use Rattle.executive.specs.Configuration.{configuration_in}
@@ -34,8 +34,7 @@ start_of s = record {
 
 -- is there more to tell?
 abbrev pub is_more : Option Next → Bool
-is_more (Some n) = true
-is_more None = false
+is_more n = is_some n
 
 -- ---- the line told there, and where the listing stands after it
 -- the number after n; no listing comes to the last one that a number of four bytes can be

@@ -13,15 +13,12 @@ const PIECE: usize = 65536;
 fn tell(input: &[u8], writer: &mut impl Write) -> io::Result<()> {
     let mut out = [0u8; PIECE];
     let mut run = listing::start(input);
-    loop {
+    while run.next.is_some() {
         let filled = listing::fill(input, run, &mut out);
-        let used = filled.used;
-        writer.write_all(&out[..used])?;
-        if !filled.more {
-            return Ok(());
-        }
+        writer.write_all(&out[..filled.used])?;
         run = filled.run;
     }
+    Ok(())
 }
 
 fn main(rt: HostRuntime) -> io::Result<()> {

@@ -2,13 +2,12 @@
 // error which entries were changed, or why nothing was. A read or a write that fails ends it with that error.
 #![tactic(auto)]
 
+use image::IMAGE;
 use mender::telling;
 use std::io;
 use std::io::Write;
 
-// The bytes of an image, and of a list.
-const IMAGE: usize = 1555;
-
+// The bytes of a list.
 const LIST: usize = 33;
 
 // Room for any text.

@@ -1,11 +1,11 @@
 -- Small laws of tests, sums and lists, below all else.
 use Prim.Native.Nat.{ℕ, zero, suc, ◌≤◌, ◌<◌, zero-le}
-use mathlib.Core.Path.{◌≡◌, refl, sym, ap}
+use mathlib.Core.Path.{◌≡◌, refl, ap}
 use mathlib.Core.Bool.{Bool, true, false, cond}
 use mathlib.Core.List.{List, [], ◌∷◌, map}
 use native.Mathlib.Omega.{arith}
 use lib.ListN.{length, get_or, set}
-use Rattle.executive.specs.Lists.{one, sum_of, ◌and◌, all_of}
+use Rattle.executive.specs.Lists.{one, sum_of, all_of}
 pub use Rattle.executive.proofs.Assured.{eqb_self, eqb_swap, and_true, true_and, sum-set, line-pad, length-pad}
 
 pub never : {A : Type 0} → false ≡ true → A
@@ -14,10 +14,6 @@ never e = absurd (let z : ◌≡◌ {A = ℕ} 0 1 = cc in omega arith)
 pub decide : {A : Type 0} (b : Bool) → (b ≡ true → A) → (b ≡ false → A) → A
 decide true f g = f refl
 decide false f g = g refl
-
-pub and_none : (a b : Bool) → b ≡ false → false ≡ (a and b)
-and_none true b e = sym e
-and_none false b e = refl
 
 pub one-small : (b : Bool) → one b ≤ 1
 one-small true = omega arith

@@ -2,15 +2,14 @@
 use Prim.Native.Nat.{ℕ, zero, suc, ◌+◌, ◌≤◌, ◌<◌}
 use mathlib.Core.Path.{◌≡◌, refl, ap, ◌∙◌}
 use mathlib.Core.Bool.{Bool, true, false, cond}
-use mathlib.Core.List.{List, [], ◌∷◌, ◌++◌, map}
+use mathlib.Core.List.{List, [], ◌∷◌, ◌++◌}
 use native.Mathlib.Omega.{arith}
 use native.Mathlib.Numerals.{add-one}
 use lib.ListN.{length, get_or, set, take, drop, drop_of_length-le}
 use lib.Seq.{drop-cons}
 use Rattle.executive.specs.declared.Task.{Task}
-use Rattle.executive.specs.Lists.{one, sum_of}
+use Rattle.executive.specs.Lists.{one}
 use Rattle.executive.specs.Places.{no_task}
-pub use Rattle.executive.proofs.Assured.{every-turn, every-not, every-end}
 use Rattle.executive.specs.States.{ready, is_of}
 use Rattle.scan.specs.declared.Entry.{Entry}
 use Rattle.scan.specs.declared.Best.{Best}
@@ -35,16 +34,6 @@ module _ (es : List Entry) (i : ℕ) (b : Best) where
   unfolding scanned
   scan_end h = rw (ended no_entry es i h) refl
 
--- ---- a count
-module _ {A : Type 0} (f : A → ℕ) (d : A) (xs : List A) (i : ℕ) where
-  pub sum-on : i < length xs → sum_of f (drop i xs) ≡ f (get_or xs i d) + sum_of f (drop (i + 1) xs)
-  unfolding sum_of
-  sum-on h = rw (opened d xs i h) refl
-
-  pub sum-end : length xs ≤ i → sum_of f (drop i xs) ≡ 0
-  unfolding sum_of
-  sum-end h = rw (ended d xs i h) refl
-
 -- ---- an array that is filled from the front
 pub take_more : {A : Type 0} (out : List A) (i : ℕ) (x : A) (r : List A) → i < length out → take (i + 1) (set out i x) ++ r ≡ take i out ++ (x ∷ r)
 take_more out i x r h = rw add-one (go out i h)
@@ -59,13 +48,6 @@ take_all [] zero h = refl
 take_all [] (suc i) h = absurd (omega arith)
 take_all (x ∷ xs) zero h = absurd (omega arith)
 take_all (x ∷ xs) (suc i) h = ap (λ (l : List _). x ∷ l) (take_all xs i (omega arith))
-
-module _ {A B : Type 0} (f : A → B) (d : A) (xs : List A) (i : ℕ) where
-  pub map_on : i < length xs → map f (drop i xs) ≡ f (get_or xs i d) ∷ map f (drop (i + 1) xs)
-  map_on h = ap (map f) (opened d xs i h)
-
-  pub map-end : length xs ≤ i → map f (drop i xs) ≡ []
-  map-end h = ap (map f) (ended d xs i h)
 
 -- ---- the fresh table's numbers
 module _ (ts : List Task) (i n : ℕ) where

@@ -10,10 +10,7 @@ use std::io::Write;
 use why::{Reasons, following, telling};
 
 // The bytes of a question: the task's number and an image.
-const QUESTION: usize = 1556;
-
-// One byte more than a question has.
-const MOST: usize = 1557;
+const QUESTION: usize = 1 + image::IMAGE;
 
 // Room for any answer.
 const ROOM: usize = 32768;
@@ -27,21 +24,19 @@ fn tell(reasons: Reasons, clock: Millis, writer: &mut impl Write) -> io::Result<
 
 // Answers a question: 1 where it has another length, or its bytes are no image of a well-formed table.
 fn answer(question: &[u8], writer: &mut impl Write) -> io::Result<()> {
-    if question.len() != QUESTION {
-        return tell(following::no_table(), Millis(0), writer);
+    match question {
+        [task, image @ ..] if image::check(image) == 0 => {
+            let table = loading::load(image);
+            let reasons = following::explain(table, TaskNo(*task));
+            tell(reasons, table.rest.clock, writer)
+        }
+        _ => tell(following::no_table(), Millis(0), writer),
     }
-    let image = &question[1..];
-    if image::check(image) != 0 {
-        return tell(following::no_table(), Millis(0), writer);
-    }
-    let table = loading::load(image);
-    let clock = table.rest.clock;
-    let reasons = following::explain(table, TaskNo(question[0]));
-    tell(reasons, clock, writer)
 }
 
+// One byte more than a question has is read, so that a longer one is told apart.
 fn main(rt: HostRuntime) -> io::Result<()> {
-    let mut question = [0u8; MOST];
+    let mut question = [0u8; QUESTION + 1];
     let n = input::read_full(&mut rt.stdin(), &mut question)?;
     answer(&question[..n], &mut rt.stdout())
 }

@@ -1,9 +1,8 @@
-use Rattle.std.proofs.Common.{◌≡◌, true}
-use Rattle.bench.specs.Pieces.{is_more, Sound, lines}
+use Rattle.bench.specs.Pieces.{Sound, lines}
 use Rattle.bench_program.proofs.tell.Given as goal
 
-abbrev pub invariant-loop-run : goal.invariant-loop-run
-invariant-loop-run g l = Sound l.input l.run × (is_more l.run.next ≡ true)
+abbrev pub invariant-loop-out : goal.invariant-loop-out
+invariant-loop-out g l = Sound l.input l.run
 
-abbrev pub decreases-loop-run : goal.decreases-loop-run
-decreases-loop-run g l = lines l.input l.run
+abbrev pub decreases-loop-out : goal.decreases-loop-out
+decreases-loop-out g l = lines l.input l.run
