@@ -10,10 +10,6 @@ returns-then-not-has_room c =
     let s = c.args in
     puts_none s.out.now s.at (decimal_of s.n) (leb-false _ _ (rw (← c.digit_count-count.ensures) (sym c.has_room.ensures ∙ c.if-not-has_room.true)))
 
-pub digits-requires : goal.digits-requires
-digits-requires c =
-    leb-true _ _ (rw (← c.digit_count-count.ensures) (sym c.has_room.ensures ∙ c.if-not-has_room.false))
-
 pub returns : goal.returns
 returns c =
     adds-puts c.args.out.now c.args.at (decimal_of c.args.n)
