@@ -1,5 +1,6 @@
 -- The laws: rows, lists that close up, turns; those of the code's loops and tests; then those of the passes, by subject.
 pub mod Rows
+pub mod Searching
 pub mod Filters
 pub mod Turns
 pub mod CodeTests

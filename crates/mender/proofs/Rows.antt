@@ -1,11 +1,10 @@
--- Rows: how long one is, what stands at a place, when it is a given list, and the loop that fills one.
+-- Rows: how long one is, what stands at a place, and when it is a given list.
 use Prim.Native.Nat.{ℕ, zero, suc, ◌+◌, ◌≤◌, ◌<◌}
-use mathlib.Core.Path.{◌≡◌, refl, sym, ap, ◌∙◌}
-use mathlib.Core.List.{List, ◌++◌}
+use mathlib.Core.Path.{◌≡◌, refl, ap, ◌∙◌}
+use mathlib.Core.List.{List}
 use native.Mathlib.Omega.{arith}
-use lib.ListN.{length, take, drop, set, get_or, get_or-eq_default}
+use lib.ListN.{length, get_or, get_or-eq_default}
 use lib.Seq.{ext_get_or}
-use Rattle.executive.proofs.Assured.{fill-turn, fill_end}
 use Rattle.mender.specs.Rows.{row}
 
 module _ {A : Type 0} (f : ℕ → A) where
@@ -32,14 +31,3 @@ module _ {A : Type 0} (f : ℕ → A) where
   row_same d xs h =
       ext_get_or d (row f (length xs) 0) xs (row-length (length xs) 0)
       (λ j g. let l : length (row f (length xs) 0) ≡ length xs = row-length (length xs) 0 in row_at d (length xs) j (omega arith) ∙ h j (omega arith))
-
-  -- the loop that fills it, over a list y
-  module _ (d : A) (n : ℕ) (y : List A) (l : length y ≡ n) where
-    pub row-turn : (q : List A) (i : ℕ) (v : A) → i < n → q ≡ take i (row f n 0) ++ drop i y → v ≡ f i
-        → set q i v ≡ take (i + 1) (row f n 0) ++ drop (i + 1) y
-    row-turn q i v h e ev =
-        let m : length (row f n 0) ≡ n = row-length n 0 in
-        fill-turn (row f n 0) y q i v d e (omega arith) (omega arith) (ev ∙ sym (row_at d n i h))
-
-    pub row-end : (q : List A) (i : ℕ) → n ≤ i → q ≡ take i (row f n 0) ++ drop i y → q ≡ row f n 0
-    row-end q i h e = let m : length (row f n 0) ≡ n = row-length n 0 in fill_end (row f n 0) y q i e (omega arith) (omega arith)

@@ -1,6 +1,7 @@
 -- The definitions: the own rules of an entry, the five passes, the rounds, the rebuilding, the list, the mending, its text,
 -- and what is promised of it.
 pub mod Rows
+pub mod Filled
 pub mod Rules
 pub mod Passes
 pub mod Rounds

@@ -1,27 +1,28 @@
 -- The list of the entries that differ: by task number, each once, with the first rule that it broke.
-use Rattle.std.specs.Prelude.{ℕ, suc, ◌+◌, cond, List, [], ◌∷◌, ◌++◌, eqb, ltb, length, get_or, set}
+use Rattle.std.specs.Prelude.{ℕ, suc, cond, List, [], ◌∷◌, ◌++◌, eqb, ltb, get_or}
 use Rattle.records.specs.declared.TaskNo.{TaskNo}
 use Rattle.executive.specs.declared.Task.{Task}
 use Rattle.executive.specs.Numbers.{most_tasks}
-use Rattle.executive.specs.Lists.{pad, each}
+use Rattle.executive.specs.Lists.{each}
 use Rattle.executive.specs.Places.{nobody, no_task}
 use Rattle.executive.specs.States.{state_kind}
 use Rattle.mender.specs.declared.Note.{Note}
-use Rattle.mender.specs.declared.notes.Notes.{Notes}
+use Rattle.mender.specs.declared.filled.Filled.{Filled}
+use Rattle.mender.specs.Filled.{filled_of, filled_with}
 use Rattle.mender.specs.Rules.{range_rule, link_rule, lost_link}
 
 abbrev pub no_note : Note
 no_note = record { task = nobody; rule = 0 }
 
 -- notes as they stand in the list: some of them, and one more where the rule is not 0
-abbrev pub noted_of : List Note → Notes
-noted_of ns = record { list = pad most_tasks no_note ns; noted = length ns }
+abbrev pub noted_of : List Note → Filled Note most_tasks
+noted_of ns = filled_of most_tasks no_note ns
 
 abbrev pub note_of : TaskNo → ℕ → Note
 note_of k r = record { task = k; rule = r }
 
-abbrev pub noted_with : TaskNo → ℕ → Notes → Notes
-noted_with k r l = cond (eqb r 0) l (record { list = set l.list l.noted (note_of k r); noted = l.noted + 1 })
+abbrev pub noted_with : TaskNo → ℕ → Filled Note most_tasks → Filled Note most_tasks
+noted_with k r l = cond (eqb r 0) l (filled_with (note_of k r) l)
 
 -- of n tasks, an entry that was e and is f now, and broke the own rule b: that rule; else, where its link was cleared, the
 -- range's where the link was over the task count and else the links' own; else, where its state is another one, that of a

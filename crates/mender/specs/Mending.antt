@@ -1,10 +1,10 @@
 -- The mending of a table: refused with 17, nothing to do, or the rounds, the rebuilding and the list.
 use Rattle.std.specs.Prelude.{ℕ, ◌≤◌, ◌≡◌, Bool, cond, List, [], length}
 use Rattle.executive.specs.declared.Table.{Table}
-use Rattle.executive.specs.Numbers.{most_queued, most_sent, most_granule}
+use Rattle.executive.specs.Numbers.{most_tasks, most_queued, most_sent, most_granule}
 use Rattle.executive.specs.Check.{in_bounds, is_well_formed}
 use Rattle.mender.specs.declared.Note.{Note}
-use Rattle.mender.specs.declared.notes.Notes.{Notes}
+use Rattle.mender.specs.declared.filled.Filled.{Filled}
 use Rattle.mender.specs.declared.Mended.{Mended}
 use Rattle.mender.specs.Rules.{own_rules}
 use Rattle.mender.specs.Rounds.{rounds_of, enough}
@@ -12,8 +12,8 @@ use Rattle.mender.specs.Rebuilding.{rebuilt}
 use Rattle.mender.specs.Listing.{noted_of, notes_of}
 
 -- a number, a table and a list
-abbrev pub answered_by : ℕ → Table → Notes → Mended
-answered_by n t l = record { number = n; table = t; list = l.list; noted = l.noted }
+abbrev pub answered_by : ℕ → Table → Filled Note most_tasks → Mended
+answered_by n t l = record { number = n; table = t; list = l.places; noted = l.taken }
 
 abbrev pub answered : ℕ → Table → List Note → Mended
 answered n t ns = answered_by n t (noted_of ns)

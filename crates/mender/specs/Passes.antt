@@ -1,5 +1,5 @@
 -- The five passes of a round, each on what the one before left, by task number or place, ascending.
-use Rattle.std.specs.Prelude.{ℕ, zero, suc, ◌+◌, Bool, true, false, not, cond, ◌||◌, List, eqb, leb, length, get_or, set, replicate}
+use Rattle.std.specs.Prelude.{ℕ, zero, suc, Bool, true, false, not, cond, ◌||◌, List, eqb, leb, get_or, set, replicate}
 use Rattle.records.specs.declared.TaskNo.{TaskNo}
 use Rattle.executive.specs.declared.Millis.{Millis}
 use Rattle.executive.specs.declared.State.{State}
@@ -7,23 +7,20 @@ use Rattle.executive.specs.declared.State.TheVariants.{Dormant, Ready}
 use Rattle.executive.specs.declared.Task.{Task}
 use Rattle.executive.specs.declared.Request.{Request}
 use Rattle.executive.specs.declared.Sub.{Sub}
-use Rattle.executive.specs.declared.Message.{Message}
 use Rattle.executive.specs.declared.Mail.{Mail}
 use Rattle.executive.specs.declared.Rest.{Rest}
 use Rattle.executive.specs.declared.Table.{Table}
-use Rattle.executive.specs.Numbers.{most_tasks, most_queued, most_sent, flag_count, sub_count, highest}
-use Rattle.executive.specs.Lists.{pad, each, ◌and◌}
+use Rattle.executive.specs.Numbers.{most_tasks, most_queued, flag_count, sub_count, highest}
+use Rattle.executive.specs.Lists.{each, ◌and◌}
 use Rattle.executive.specs.Places.{nobody, never, no_task, no_request, task_at}
 use Rattle.executive.specs.States.{await_start, await_end, await_sub, awaited_of, is_of, is_dormant}
 use Rattle.executive.specs.Entries.{with_state}
 use Rattle.executive.specs.Rest.{remade, with_subs, with_post}
 use Rattle.executive.specs.Pool.{with_requests}
-use Rattle.executive.specs.Messages.{no_message, no_mail, with_letters}
+use Rattle.executive.specs.Messages.{no_mail, with_letters}
 use Rattle.executive.specs.Subprograms.{no_subprogram}
 use Rattle.executive.specs.Letters.{all_that}
 use Rattle.executive.specs.Check.{is_task, is_nobody, target_busy, message_in_range, alarm_right}
-use Rattle.mender.specs.declared.closing.Pooled.{Pooled}
-use Rattle.mender.specs.declared.closing.Posted.{Posted}
 use Rattle.mender.specs.declared.links.Runs.{Runs}
 use Rattle.mender.specs.declared.links.Asked.{Asked}
 use Rattle.mender.specs.declared.links.Links.{Links}
@@ -63,19 +60,6 @@ own_pass bs t =
 -- is not in range
 abbrev pub keeps_request : ℕ → List Task → Request → Bool
 keeps_request n ts q = leb q.priority highest and is_task n q.target and target_busy ts q
-
--- requests and messages as they close up, first to last: some of them, and one more
-abbrev pub pooled_of : List Request → Pooled
-pooled_of ps = record { pool = pad most_queued no_request ps; queued = length ps }
-
-abbrev pub pooled_with : Request → Pooled → Pooled
-pooled_with q p = record { pool = set p.pool p.queued q; queued = p.queued + 1 }
-
-abbrev pub posted_of : List Message → Posted
-posted_of ms = record { messages = pad most_sent no_message ms; sent = length ms }
-
-abbrev pub posted_with : Message → Posted → Posted
-posted_with m p = record { messages = set p.messages p.sent m; sent = p.sent + 1 }
 
 unfoldable pub queued_pass : Table → Table
 queued_pass t =

@@ -1,11 +1,26 @@
 // The entries after the first pass and after the last, each by its place.
 ghost use Rattle.std.specs.Prelude.{◌≡◌, get_or};
 ghost use Rattle.executive.specs.Subprograms.{no_subprogram};
-ghost use Rattle.executive.specs.Check.{is_nobody};
-ghost use Rattle.mender.specs.Passes.{own_kept, slept, entry_after, mail_after, entries_after, mails_after, awaits_link, is_lost, waiter_after, waiters_after};
+ghost use Rattle.executive.specs.Check.{is_nobody, is_task};
+ghost use Rattle.mender.specs.Passes.{is_holder, own_kept, slept, entry_after, mail_after, entries_after, mails_after, awaits_link, is_lost, waiter_after, waiters_after};
 
 use executive::{Mail, Millis, State, Sub, Task, entries, messages, places, states};
 use records::TaskNo;
+use std::array;
+
+// Whether a number names one of the tasks.
+pub(crate) fn is_task(count: u8, k: TaskNo) -> bool
+    ensures { result ≡ is_task count k }
+{
+    0 < k.0 && k.0 <= count
+}
+
+// Whether it names a task that is not dormant.
+pub(crate) fn is_busy(tasks: [Task; 16], count: u8, k: TaskNo) -> bool
+    ensures { result ≡ is_holder count tasks k }
+{
+    is_task(count, k) && !states::is_dormant(places::task_at(tasks, k).state)
+}
 
 // The own priority; one over 15 becomes 0.
 fn own_kept(e: Task) -> u8
@@ -60,31 +75,13 @@ fn mail_after(count: u8, k: u8, b: u8, x: Mail) -> Mail
 pub(crate) fn entries_after(count: u8, broken: [u8; 16], tasks: [Task; 16]) -> [Task; 16]
     ensures { result ≡ entries_after count broken tasks }
 {
-    let mut out = tasks;
-    let mut i: usize = 0;
-    while i < 16 {
-        let b = broken[i];
-        let e = tasks[i];
-        let f = entry_after(count, i as u8 + 1, b, e);
-        out[i] = f;
-        i += 1;
-    }
-    out
+    array::from_fn(|i| entry_after(count, i as u8 + 1, broken[i], tasks[i]))
 }
 
 pub(crate) fn mails_after(count: u8, broken: [u8; 16], mail: [Mail; 16]) -> [Mail; 16]
     ensures { result ≡ mails_after count broken mail }
 {
-    let mut out = mail;
-    let mut i: usize = 0;
-    while i < 16 {
-        let b = broken[i];
-        let x = mail[i];
-        let y = mail_after(count, i as u8 + 1, b, x);
-        out[i] = y;
-        i += 1;
-    }
-    out
+    array::from_fn(|i| mail_after(count, i as u8 + 1, broken[i], mail[i]))
 }
 
 // Whether nobody is inside subprogram m; past the last there is a free one.
@@ -132,14 +129,5 @@ fn waiter_after(subs: [Sub; 8], named: bool, e: Task) -> Task
 pub(crate) fn waiters_after(subs: [Sub; 8], named: [bool; 16], tasks: [Task; 16]) -> [Task; 16]
     ensures { result ≡ waiters_after subs named tasks }
 {
-    let mut out = tasks;
-    let mut i: usize = 0;
-    while i < 16 {
-        let b = named[i];
-        let e = tasks[i];
-        let f = waiter_after(subs, b, e);
-        out[i] = f;
-        i += 1;
-    }
-    out
+    array::from_fn(|i| waiter_after(subs, named[i], tasks[i]))
 }

@@ -7,6 +7,7 @@ use records::TaskNo;
 
 mod closing;
 mod entries;
+mod filled;
 mod lines;
 mod links;
 pub mod mending;

@@ -3,6 +3,7 @@
 ghost use Rattle.std.specs.Prelude.{◌≡◌, ◌<◌};
 ghost use Rattle.mender.specs.Passes.{named_at, marked, stands, unlinked, run_turn, linked_runs, startless, endless, start_turn, end_turn, request_turn, linked_requests, link_pass};
 
+use crate::entries;
 use executive::{Request, Table, Task, places, states};
 use records::TaskNo;
 
@@ -57,21 +58,14 @@ fn mark(named: [bool; 16], w: TaskNo) -> [bool; 16]
 }
 
 // Whether a link of task or target j to w stands, where w is to be in a state of a kind.
+#[tactic(auto, unfolding(crate::specs::Passes::stands))]
 fn stands(tasks: [Task; 16], named: [bool; 16], count: u8, kind: u8, j: u8, w: TaskNo) -> bool
     ensures { result ≡ stands count tasks named kind j w }
 {
-    if w.0 == 0 {
-        return false;
-    }
-    if count < w.0 {
-        return false;
-    }
-    if j == w.0 {
-        return false;
-    }
-    let e = places::task_at(tasks, w);
-    let s = e.state;
-    states::is_of(s, kind) && !named_at(named, w)
+    entries::is_task(count, w)
+        && j != w.0
+        && states::is_of(places::task_at(tasks, w).state, kind)
+        && !named_at(named, w)
 }
 
 fn unlinked(mut e: Task) -> Task
@@ -107,10 +101,8 @@ fn linked_runs(tasks: [Task; 16], count: u8) -> Runs
         tasks,
         named: [false; 16],
     };
-    let mut i: usize = 0;
-    while i < 16 {
+    for i in 0..16 {
         r = run_turn(r, i, count);
-        i += 1;
     }
     r
 }
@@ -187,10 +179,8 @@ fn linked_requests(tasks: [Task; 16], pool: [Request; 32], named: [bool; 16], co
     ensures { result ≡ linked_requests count tasks pool named }
 {
     let mut l = Links { pool, named };
-    let mut i: usize = 0;
-    while i < 32 {
+    for i in 0..32 {
         l = request_turn(l, tasks, count, i);
-        i += 1;
     }
     l
 }

@@ -4,19 +4,19 @@ ghost use Rattle.mender.specs.Rounds.{round};
 ghost use Rattle.mender.specs.Rebuilding.{rebuilt};
 ghost use Rattle.mender.specs.Mending.{answered, notes_at, Mends, answered_by};
 
-use crate::notes::Notes;
-use crate::{Mended, lines, notes, passes, rules as own};
+use crate::filled::Filled;
+use crate::{Mended, Note, lines, notes, passes, rules as own};
 use executive::{Table, rules};
 
-fn answer(number: u8, table: Table, l: Notes) -> Mended
+fn answer(number: u8, table: Table, l: Filled<Note, 16>) -> Mended
     ensures { result ≡ answered_by number table l }
 {
-    let list = l.list;
+    let list = l.places;
     Mended {
         number,
         table,
         list,
-        noted: l.noted,
+        noted: l.taken,
     }
 }
 

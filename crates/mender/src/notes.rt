@@ -3,6 +3,7 @@ ghost use Rattle.std.specs.Prelude.{◌≡◌, [], ◌<◌};
 ghost use Rattle.mender.specs.Listing.{note_rule, notes_of, noted_of, noted_with};
 
 use crate::Note;
+use crate::filled::Filled;
 use executive::{Task, states};
 use records::TaskNo;
 
@@ -10,13 +11,6 @@ const NO_NOTE: Note = Note {
     task: TaskNo(0),
     rule: 0,
 };
-
-// The first `noted` places are taken.
-#[derive(Clone, Copy)]
-pub(crate) struct Notes {
-    pub(crate) list: [Note; 16],
-    pub(crate) noted: u8,
-}
 
 // The rule with which an entry is noted that was e, is f now, and broke the own rule b; 0 where it is as it was.
 fn note_rule(count: u8, b: u8, e: Task, f: Task) -> u8
@@ -42,41 +36,44 @@ fn note_rule(count: u8, b: u8, e: Task, f: Task) -> u8
 }
 
 // No note yet.
-pub(crate) fn none() -> Notes
+pub(crate) fn none() -> Filled<Note, 16>
     ensures { result ≡ noted_of [] }
 {
-    Notes {
-        list: [NO_NOTE; 16],
-        noted: 0,
+    Filled {
+        places: [NO_NOTE; 16],
+        taken: 0,
     }
 }
 
 // One more note, where a rule was broken.
-fn with_note(l: Notes, k: TaskNo, rule: u8) -> Notes
-    requires { l.noted < 16 }
+fn with_note(l: Filled<Note, 16>, k: TaskNo, rule: u8) -> Filled<Note, 16>
+    requires { l.taken < 16 }
     ensures { result ≡ noted_with k rule l }
 {
     if rule == 0 {
         return l;
     }
-    let mut list = l.list;
-    let n = l.noted;
-    list[n as usize] = Note { task: k, rule };
-    Notes { list, noted: n + 1 }
+    let mut places = l.places;
+    let n = l.taken;
+    places[n as usize] = Note { task: k, rule };
+    Filled {
+        places,
+        taken: n + 1,
+    }
 }
 
-pub(crate) fn notes_of(count: u8, broken: [u8; 16], given: [Task; 16], mended: [Task; 16]) -> Notes
+pub(crate) fn notes_of(
+    count: u8,
+    broken: [u8; 16],
+    given: [Task; 16],
+    mended: [Task; 16],
+) -> Filled<Note, 16>
     ensures { result ≡ noted_of (notes_of count broken given mended) }
 {
     let mut l = none();
-    let mut i: usize = 0;
-    while i < 16 {
-        let b = broken[i];
-        let e = given[i];
-        let f = mended[i];
-        let rule = note_rule(count, b, e, f);
+    for i in 0..16 {
+        let rule = note_rule(count, broken[i], given[i], mended[i]);
         l = with_note(l, TaskNo(i as u8 + 1), rule);
-        i += 1;
     }
     l
 }

@@ -1,12 +1,12 @@
 // The passes of a round, each on what the one before left: own entries, messages and requests, links, subprograms and
 // alarms, waiters.
 ghost use Rattle.std.specs.Prelude.{◌≡◌};
-ghost use Rattle.mender.specs.Passes.{own_pass, queued_pass, is_holder, sub_after, alarm_after, subs_after, alarms_after, held_pass, waiter_pass, link_pass};
+ghost use Rattle.mender.specs.Passes.{own_pass, queued_pass, sub_after, alarm_after, subs_after, alarms_after, held_pass, waiter_pass, link_pass};
 ghost use Rattle.mender.specs.Rounds.{settled};
 
 use crate::links::Linked;
 use crate::{closing, entries, links};
-use executive::{Millis, Sub, Table, Task, places, rules, states};
+use executive::{Millis, Sub, Table, Task, rules};
 use records::TaskNo;
 
 // The first pass; `broken` has the own rule that each entry breaks.
@@ -36,36 +36,21 @@ fn queued_pass(mut t: Table) -> Table
     let kept = closing::kept_requests(tasks, count, asked);
     let sent = rest.messages;
     let posted = closing::kept_messages(count, sent);
-    let pool = kept.pool;
-    let messages = posted.messages;
+    let pool = kept.places;
+    let messages = posted.places;
     rest.pool = pool;
-    rest.queued = kept.queued;
+    rest.queued = kept.taken;
     rest.messages = messages;
-    rest.sent = posted.sent;
+    rest.sent = posted.taken;
     t.rest = rest;
     t
-}
-
-// A task of the table that is not dormant.
-fn is_holder(tasks: [Task; 16], count: u8, k: TaskNo) -> bool
-    ensures { result ≡ is_holder count tasks k }
-{
-    if k.0 == 0 {
-        return false;
-    }
-    if count < k.0 {
-        return false;
-    }
-    let e = places::task_at(tasks, k);
-    let s = e.state;
-    !states::is_dormant(s)
 }
 
 // The subprogram, freed where its holder is not busy.
 fn sub_after(tasks: [Task; 16], count: u8, mut s: Sub) -> Sub
     ensures { result ≡ sub_after count tasks s }
 {
-    if is_holder(tasks, count, s.holder) {
+    if entries::is_busy(tasks, count, s.holder) {
         return s;
     }
     let nobody = TaskNo(0);
@@ -85,29 +70,13 @@ fn alarm_after(now: Millis, a: Millis) -> Millis
 fn subs_after(tasks: [Task; 16], count: u8, subs: [Sub; 8]) -> [Sub; 8]
     ensures { result ≡ subs_after count tasks subs }
 {
-    let mut out = subs;
-    let mut i: usize = 0;
-    while i < 8 {
-        let s = subs[i];
-        let freed = sub_after(tasks, count, s);
-        out[i] = freed;
-        i += 1;
-    }
-    out
+    subs.map(|s| sub_after(tasks, count, s))
 }
 
 fn alarms_after(now: Millis, alarms: [Millis; 32]) -> [Millis; 32]
     ensures { result ≡ alarms_after now.0 alarms }
 {
-    let mut out = alarms;
-    let mut i: usize = 0;
-    while i < 32 {
-        let a = alarms[i];
-        let right = alarm_after(now, a);
-        out[i] = right;
-        i += 1;
-    }
-    out
+    alarms.map(|a| alarm_after(now, a))
 }
 
 // The fourth pass.

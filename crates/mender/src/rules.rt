@@ -5,6 +5,7 @@ ghost use Rattle.mender.specs.Rules.{numbers_kept, zeros_kept, unfit, none_fits,
 
 use executive::{Mail, Message, Rest, Table, Task, messages, rules, states};
 use records::TaskNo;
+use std::array;
 
 fn numbers_kept(e: Task, x: Mail, count: u8) -> bool
     ensures { result ≡ numbers_kept count e x }
@@ -27,15 +28,7 @@ fn zeros_kept(e: Task, x: Mail) -> bool
 fn all_unfit(places: [Message; 32], k: TaskNo, s: TaskNo) -> bool
     ensures { result ≡ all_of (unfit k.0 s.0) places }
 {
-    let mut i: usize = 0;
-    while i < 32 {
-        let m = places[i];
-        if messages::is_fit(m, k, s) {
-            return false;
-        }
-        i += 1;
-    }
-    true
+    places.iter().all(|m| !messages::is_fit(*m, k, s))
 }
 
 fn none_fits(e: Task, places: [Message; 32], k: TaskNo) -> bool
@@ -100,17 +93,5 @@ fn own_rule(r: Rest, k: TaskNo, e: Task, x: Mail) -> u8
 pub(crate) fn own_rules(t: Table) -> [u8; 16]
     ensures { result ≡ own_rules t }
 {
-    let tasks = t.tasks;
-    let rest = t.rest;
-    let mail = rest.mail;
-    let mut out = [0u8; 16];
-    let mut i: usize = 0;
-    while i < 16 {
-        let e = tasks[i];
-        let x = mail[i];
-        let b = own_rule(rest, TaskNo(i as u8 + 1), e, x);
-        out[i] = b;
-        i += 1;
-    }
-    out
+    array::from_fn(|i| own_rule(t.rest, TaskNo(i as u8 + 1), t.tasks[i], t.rest.mail[i]))
 }

@@ -49,12 +49,10 @@ fn note_lines(out: &mut [u8], at: usize, list: [u8; 33], count: usize) -> usize
     ensures { Adds out.old at out.new result (note_lines list count) × (result ≤ at + 1472) }
 {
     let mut place = at;
-    let mut i: usize = 0;
-    while i < count {
+    for i in 0..count {
         let task = list[i * 2 + 1];
         let rule = list[i * 2 + 2];
         place = note_line(out, place, task, rule);
-        i += 1;
     }
     place
 }

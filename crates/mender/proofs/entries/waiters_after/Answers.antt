@@ -1,46 +1,12 @@
-use mathlib.Core.Path.{refl}
 use mathlib.Core.Bool.{false}
-use native.Mathlib.Omega.{arith}
 use lib.ListN.{get_or}
+use Rattle.std.proofs.Common.{rules}
 use Rattle.executive.specs.Places.{no_task}
 use Rattle.mender.specs.Passes.{waiter_after}
-use Rattle.mender.proofs.Rows.{row-turn, row-end}
+use Rattle.mender.proofs.CodeRows.{made_row}
 use Rattle.mender.proofs.entries.waiters_after.Goals as goal
-
-pub loop-i-preserved : goal.loop-i-preserved
-loop-i-preserved c =
-    let v = c.loop-i in
-    let l = c.well_formed.1.1.0.1.0.1 in
-    let a = c.args in
-    (omega arith, row-turn (λ j. waiter_after a.subs (get_or a.named j false) (get_or a.tasks j no_task)) no_task 16 a.tasks l v.out v.i _ c.loop-i-test.true v.invariant.1 c.waiter_after-f.ensures)
 
 pub returns : goal.returns
 returns c =
-    let v = c.loop-i in
-    let l = c.well_formed.1.1.0.1.0.1 in
     let a = c.args in
-    row-end (λ j. waiter_after a.subs (get_or a.named j false) (get_or a.tasks j no_task)) no_task 16 a.tasks l v.out v.i c.loop-i-test.false v.invariant.1
-
-pub loop-i-init : goal.loop-i-init
-loop-i-init c = (omega arith, refl)
-
-pub bounds-named-i : goal.bounds-named-i
-bounds-named-i c = omega arith
-
-pub offset_bounds-tasks-i : goal.offset_bounds-tasks-i
-offset_bounds-tasks-i c = omega arith
-
-pub bounds-tasks-i : goal.bounds-tasks-i
-bounds-tasks-i c = omega arith
-
-pub offset_bounds-out-i : goal.offset_bounds-out-i
-offset_bounds-out-i c = omega arith
-
-pub bounds-out-i : goal.bounds-out-i
-bounds-out-i c = omega arith
-
-pub overflow_add-i : goal.overflow_add-i
-overflow_add-i c = omega arith
-
-pub loop-i-smaller : goal.loop-i-smaller
-loop-i-smaller c = omega arith
+    made_row (λ i. waiter_after a.subs (get_or a.named i false) (get_or a.tasks i no_task)) no_task 16 (λ i h y q k. search rules) c.from_fn.ensures.items

@@ -1,11 +1,8 @@
-use Prim.Native.Nat.{◌-◌, ◌≤◌}
+use Prim.Native.Nat.{◌-◌}
 use mathlib.Core.Path.{◌≡◌}
 use Rattle.executive.specs.Lists.{each}
 use Rattle.mender.specs.Passes.{run_turn}
 use Rattle.mender.proofs.links.linked_runs.Given as goal
 
 abbrev pub invariant-loop-i : goal.invariant-loop-i
-invariant-loop-i l = (l.i ≤ 16) × (each (run_turn l.count) (16 - l.i) l.i l.r ≡ each (run_turn l.count) 16 0 l.initial.r)
-
-abbrev pub decreases-loop-i : goal.decreases-loop-i
-decreases-loop-i l = 16 - l.i
+invariant-loop-i l = each (run_turn l.count) (16 - l.i) l.i l.r ≡ each (run_turn l.count) 16 0 l.initial.r

@@ -7,8 +7,5 @@ use Rattle.mender.proofs.notes.notes_of.Given as goal
 
 abbrev pub invariant-loop-i : goal.invariant-loop-i
 invariant-loop-i l =
-    (l.i ≤ 16) × (l.l ≡ noted_of (standing l.l)) × (l.l.noted ≤ l.i)
+    (l.l ≡ noted_of (standing l.l)) × (l.l.taken ≤ l.i)
     × (each (note_turn l.count l.broken l.given l.mended) (16 - l.i) l.i (standing l.l) ≡ notes_of l.count l.broken l.given l.mended)
-
-abbrev pub decreases-loop-i : goal.decreases-loop-i
-decreases-loop-i l = 16 - l.i

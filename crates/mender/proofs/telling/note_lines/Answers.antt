@@ -8,25 +8,24 @@ use Rattle.mender.proofs.telling.note_lines.Goals as goal
 pub loop-i-init : goal.loop-i-init
 loop-i-init c =
     let a = c.args in
-    (omega arith, named (lines_none a.list) (nothing a.out.now a.at), omega arith)
+    (named (lines_none a.list) (nothing a.out.now a.at), omega arith)
 
 pub note_line-place-requires : goal.note_line-place-requires
 note_line-place-requires c =
     let v = c.loop-i in
-    omega (arith, v.invariant.0, v.invariant.1.size, v.invariant.2, c.loop-i-test.true, c.requires.0, c.requires.1)
+    omega (arith, v.invariant.0.size, v.invariant.1, c.requires.0, c.requires.1)
 
 pub loop-i-preserved : goal.loop-i-preserved
 loop-i-preserved c =
     let a = c.args in
     let v = c.loop-i in
-    (omega arith, named (lines_more a.list v.i) (then v.invariant.1 c.note_line-place.ensures.0), omega (arith, v.invariant.2, c.note_line-place.ensures.1))
+    (named (lines_more a.list v.i) (then v.invariant.0 c.note_line-place.ensures.0), omega (arith, v.invariant.1, c.note_line-place.ensures.1))
 
 pub shape_of-out : goal.shape_of-out
-shape_of-out c = c.loop-i.invariant.1.size
+shape_of-out c = c.loop-i.invariant.0.size
 
 pub returns : goal.returns
 returns c =
     let v = c.loop-i in
-    let a = c.args in
-    let e : v.i ≡ a.count = omega (arith, v.invariant.0, c.loop-i-test.false) in
-    (named (ap (note_lines a.list) e) v.invariant.1, omega (arith, v.invariant.2, e, c.requires.1))
+    let e : v.i ≡ c.args.count = omega arith in
+    (named (ap (note_lines c.args.list) e) v.invariant.0, omega arith)
