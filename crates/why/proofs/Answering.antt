@@ -1,9 +1,10 @@
 -- The answer by its three cases, and its numbers.
 use Prim.Native.Nat.{ℕ, zero, suc, ◌≤◌, ◌<◌}
 use mathlib.Core.Path.{◌≡◌, refl}
-use mathlib.Core.Bool.{true, false}
+use mathlib.Core.Bool.{true, false, ◌||◌}
 use native.Mathlib.Omega.{arith}
-use borrow.Author.Tests.{lt-ltb, le-ltb, le-leb, lt-leb}
+use borrow.Author.Tests.{eqb-true, eqb-false, ltb-true, ltb-false, lt-ltb, le-ltb, le-leb, lt-leb}
+use lib.Dec.{eqb, ltb}
 use Rattle.records.specs.declared.TaskNo.{TaskNo}
 use Rattle.executive.specs.declared.Table.{Table}
 use Rattle.executive.specs.Check.{Checked, is_well_formed}
@@ -11,7 +12,7 @@ use Rattle.executive.specs.WellFormed.{WellFormed}
 use Rattle.executive.proofs.Assured.{decided}
 use Rattle.why.specs.Causes.{Sized}
 use Rattle.why.specs.Paths.{refusal, task_path, explained}
-use Rattle.why.proofs.Searching.{decide}
+use Rattle.why.proofs.Searching.{decide, never}
 
 -- a well-formed table's lines lie within their arrays
 pub sized : (t : Table) → WellFormed t → Sized t
@@ -52,3 +53,14 @@ module _ (t : Table) (k : TaskNo) where
     pub answer_path : 0 < k.0 → k.0 ≤ t.rest.count → explained t k ≡ task_path 16 t k (refusal 0 false)
     unfolding explained
     answer_path h g = rw (passes t w, lt-ltb 0 k.0 h, le-leb k.0 t.rest.count g) refl
+
+    -- by the test of the task's number
+    pub answer-none : (eqb k.0 0 || ltb t.rest.count k.0) ≡ true → explained t k ≡ refusal 6 true
+    answer-none h =
+        decide (eqb k.0 0) (λ e. answer-nobody (eqb-true k.0 0 e))
+        (λ e. let g = rw e at h in answer-over (eqb-false k.0 0 e) (ltb-true t.rest.count k.0 g))
+
+    pub answer-some : (eqb k.0 0 || ltb t.rest.count k.0) ≡ false → explained t k ≡ task_path 16 t k (refusal 0 false)
+    answer-some h =
+        decide (eqb k.0 0) (λ e. let g = rw e at h in absurd (never g))
+        (λ e. let g = rw e at h in answer_path (omega (arith, eqb-false k.0 0 e)) (omega (arith, ltb-false t.rest.count k.0 g)))

@@ -1,12 +1,17 @@
--- The first of a list that passes a test: the turns of a loop that looks for it, and that it is the only one.
+-- The first of a list that passes a test: that the library's search finds it, and that it is the only one.
 use Prim.Native.Nat.{ℕ, zero, suc, ◌+◌, ◌-◌, ◌≤◌, ◌<◌}
 use mathlib.Core.Path.{◌≡◌, refl, sym, ap, ◌∙◌}
-use mathlib.Core.Bool.{Bool, true, false}
+use mathlib.Core.Bool.{Bool, true, false, cond, not}
 use mathlib.Core.List.{List, [], ◌∷◌}
 use native.Mathlib.Omega.{arith}
-use native.Mathlib.Numerals.{add-one}
-use lib.ListN.{length, drop, get_or, drop_of_length-le}
-use lib.Seq.{drop-cons}
+use borrow.Author.Tests.{ltb-true, ltb-false}
+use lib.Dec.{ltb}
+use lib.ListN.{length, get_or}
+use Rattle.std.specs.declared.option.Option.{Option}
+use Rattle.std.specs.declared.option.Option.TheVariants.{None, Some}
+use Rattle.std.specs.List.{position_or_len}
+use Rattle.std.specs.Option.{MatchOption, unwrap_or}
+use Rattle.std.proofs.lemmas.List.Sums.{prefix_len-le-length}
 use Rattle.executive.specs.Lists.{one, sum_of, next_of}
 
 -- by cases of a test
@@ -17,30 +22,39 @@ decide false f g = g refl
 pub never : true ≡ false → ⊥
 never e = let z : ◌≡◌ {A = ℕ} 0 1 = cc in omega arith
 
+-- ---- the library's search
+module _ {A : Type 0} (t : A → Bool) where
+  few : (l : List A) → position_or_len t l ≤ length l
+  few l = prefix_len-le-length (λ x. not (t x)) l
+
+  counted : (b : ℕ) (l : List A) → position_or_len t l + b ≡ next_of t b l
+  unfolding next_of
+  counted b [] = omega arith
+  counted b (x ∷ xs) = go (t x) (counted (suc b) xs)
+    where
+      go : (c : Bool) → position_or_len t xs + suc b ≡ next_of t (suc b) xs → cond (not c) (1 + position_or_len t xs) 0 + b ≡ cond c b (next_of t (suc b) xs)
+      go true h = omega arith
+      go false h = omega (arith, h)
+
+  module _ (l : List A) (r : Option ℕ) (e : r ≡ cond (ltb (position_or_len t l) (length l)) (Some (position_or_len t l)) None) where
+    -- with the list's length for none, counted from b
+    pub next-or : (b n m : ℕ) → n ≡ length l → m ≡ unwrap_or r n + b → m ≡ next_of t b l
+    next-or b n m h g = g ∙ ap (λ i. i + b) (rw e (go (ltb (position_or_len t l) (length l)) refl)) ∙ counted b l
+      where
+        go : (c : Bool) → ltb (position_or_len t l) (length l) ≡ c → unwrap_or (cond c (Some (position_or_len t l)) None) n ≡ position_or_len t l
+        go true y = refl
+        go false y = omega (arith, few l, ltb-false _ _ y)
+
+    -- as an answer, f being how an index is told
+    pub next-where : (b : ℕ) (f : ℕ → ℕ) → ((i : ℕ) → f i ≡ i + b) → MatchOption r (next_of t b l ≡ f (length l)) (λ i. (i < length l) × (next_of t b l ≡ f i))
+    next-where b f h = rw e (go (ltb (position_or_len t l) (length l)) refl)
+      where
+        go : (c : Bool) → ltb (position_or_len t l) (length l) ≡ c
+            → MatchOption (cond c (Some (position_or_len t l)) None) (next_of t b l ≡ f (length l)) (λ i. (i < length l) × (next_of t b l ≡ f i))
+        go true y = (ltb-true _ _ y, sym (counted b l) ∙ sym (h _))
+        go false y = let z : length l ≡ position_or_len t l = omega (arith, few l, ltb-false _ _ y) in sym (counted b l) ∙ sym (h _) ∙ ap f (sym z)
+
 module _ {A : Type 0} (t : A → Bool) (d : A) where
-  -- ---- the turns: i places of the list are looked at, and the first place has the number b
-  module _ (l : List A) (b : ℕ) where
-    abbrev pub Looks : ℕ → Type 0
-    Looks i = (i ≤ length l) × (next_of t (i + b) (drop i l) ≡ next_of t b l)
-
-    pub look-start : Looks 0
-    look-start = let z : 0 + b ≡ b = omega arith in (omega arith, rw z refl)
-
-    pub look_hit : (i m : ℕ) → m ≡ i + b → i < length l → Looks i → t (get_or l i d) ≡ true → m ≡ next_of t b l
-    unfolding next_of
-    look_hit i m e h v y = let z : next_of t (i + b) (drop i l) ≡ i + b = rw (drop-cons l i d h, y) refl in e ∙ sym z ∙ v.1
-
-    pub look-on : (i : ℕ) → i < length l → Looks i → t (get_or l i d) ≡ false → Looks (i + 1)
-    unfolding next_of
-    look-on i h v y =
-        let z : next_of t (i + b) (drop i l) ≡ next_of t (suc (i + b)) (drop (suc i) l) = rw (drop-cons l i d h, y) refl in
-        let n : i + 1 + b ≡ suc (i + b) = omega arith in
-        (omega arith, rw (n, add-one i) (sym z ∙ v.1))
-
-    pub look-over : (i m : ℕ) → m ≡ i + b → length l ≤ i → Looks i → m ≡ next_of t b l
-    unfolding next_of
-    look-over i m e h v = let z : next_of t (i + b) (drop i l) ≡ i + b = rw (drop_of_length-le l {i = i} h) refl in e ∙ sym z ∙ v.1
-
   -- ---- how many pass: with some, the first is one of them; with at most one, there is no other
   abbrev pub passing : List A → ℕ
   passing l = sum_of (λ (x : A). one (t x)) l

@@ -1,5 +1,5 @@
 -- The text of an answer, piece by piece.
-use Prim.Native.Nat.{ℕ, ◌+◌, ◌-◌, ◌/◌, ◌%◌, ◌^◌, ◌<◌}
+use Prim.Native.Nat.{ℕ, ◌+◌, ◌-◌, ◌/◌, ◌%◌, ◌^◌, ◌<◌, min}
 use mathlib.Core.Path.{◌≡◌, refl, sym, ap, ◌∙◌}
 use mathlib.Core.Bool.{cond}
 use mathlib.Core.List.{List, [], ◌∷◌, ◌++◌, append_assoc, append-nil}
@@ -8,8 +8,9 @@ use native.Mathlib.Numerals.{add-one}
 use native.Mathlib.Nat.{div-one, pow-suc, div-div-eq-div-mul}
 use borrow.Author.Tests.{eq-eqb, ne_eqb}
 use lib.Dec.{eqb}
-use lib.ListN.{length, get_or, take, drop}
-use lib.Seq.{take-suc}
+use lib.ListN.{length, get_or, take, drop, length-drop}
+use lib.Seq.{take-suc, take_all}
+use Rattle.std.proofs.lemmas.List.{take_min, drop_min}
 use Rattle.executive.specs.declared.Millis.{Millis}
 use Rattle.text.specs.Glyphs.{decimal_of}
 use Rattle.why.specs.declared.Step.{Step}
@@ -72,6 +73,13 @@ pub ring-some : (l : List Step) → 0 < length l → ring_word ++ (task_numbers 
 unfolding ring_line
 ring-some [] h = absurd (omega arith)
 ring-some (x ∷ xs) h = refl
+
+-- ---- the slices that are told
+pub path_part : (r : Reasons) (n : ℕ) → length r.steps ≡ 16 → n ≡ min r.length 16 → take n r.steps ≡ path_in r
+path_part r n l e = ap (λ m. take m r.steps) e ∙ rw l at (take_min r.length r.steps)
+
+pub ring_part : (xs : List Step) (s m : ℕ) → m ≡ min s (length xs) → take (length xs - m) (drop m xs) ≡ drop s xs
+ring_part xs s m e = take_all (length xs - m) (drop m xs) (omega (arith, length-drop m xs)) ∙ ap (λ i. drop i xs) e ∙ drop_min s xs
 
 -- ---- the whole
 module _ (r : Reasons) (clock : Millis) where

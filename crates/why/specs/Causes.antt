@@ -1,5 +1,5 @@
 -- Why a task is not running, as it is computed; and, apart from that, what it means that a cause holds of a task.
-use Rattle.std.specs.Prelude.{ℕ, zero, suc, ◌-◌, ◌≤◌, ◌<◌, ◌≡◌, ◌↔◌, Bool, true, false, cond, List, eqb, leb, length, get_or}
+use Rattle.std.specs.Prelude.{ℕ, zero, suc, ◌-◌, ◌≤◌, ◌<◌, ◌≡◌, ◌↔◌, Bool, true, false, cond, List, Option, Some, None, MatchOption, ◌+◌, eqb, leb, length, get_or}
 use Rattle.std.specs.Int.Bits.{bit_and}
 use Rattle.records.specs.declared.TaskNo.{TaskNo}
 use Rattle.records.specs.declared.SubNo.{SubNo}
@@ -40,6 +40,10 @@ waiter_of at_start r = cond at_start r.start_waiter.0 r.end_waiter.0
 -- the place, from 1, of the first request that names task k so; the first task whose run does. Past the last where none
 unfoldable pub named_at : Bool → ℕ → List Request → ℕ
 named_at at_start k rs = next_of (λ (r : Request). eqb k (waiter_of at_start r)) 1 rs
+
+-- the same as an index; none where no request names it
+abbrev pub NamedAt : Bool → ℕ → List Request → Option ℕ → Type 0
+NamedAt at_start k rs r = MatchOption r (named_at at_start k rs ≡ length rs + 1) (λ i. (i < length rs) × (named_at at_start k rs ≡ i + 1))
 
 unfoldable pub run_at : ℕ → List Task → ℕ
 run_at k ts = next_of (λ (e : Task). eqb k e.end_waiter.0) 1 ts
@@ -125,6 +129,20 @@ Names (cause.EndOfRequest p i) j = i.0 ≡ j
 Names (cause.EndOfRun i) j = i.0 ≡ j
 Names (cause.Subprogram m i) j = i.0 ≡ j
 Names (cause.Message s) j = ⊥
+
+-- the task that it names, as an answer
+abbrev pub awaited : Cause → Option TaskNo
+awaited cause.Dormant = None
+awaited cause.Active = None
+awaited (cause.Ready n) = None
+awaited (cause.Paused at) = None
+awaited (cause.Due at) = None
+awaited (cause.Flags m x) = None
+awaited (cause.Start p j) = Some j
+awaited (cause.EndOfRequest p j) = Some j
+awaited (cause.EndOfRun j) = Some j
+awaited (cause.Subprogram m j) = Some j
+awaited (cause.Message s) = None
 
 -- some cause that names j holds of k
 abbrev pub WaitsOn : Table → ℕ → ℕ → Type 0

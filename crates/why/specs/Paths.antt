@@ -1,5 +1,5 @@
 -- The path from a task along what each waits for, and the answer to a question.
-use Rattle.std.specs.Prelude.{ℕ, zero, suc, ◌+◌, ◌-◌, ◌≡◌, Bool, true, false, cond, List, eqb, ltb, take, drop, set, replicate}
+use Rattle.std.specs.Prelude.{ℕ, zero, suc, ◌+◌, ◌-◌, ◌<◌, ◌≡◌, Bool, true, false, cond, List, Option, MatchOption, eqb, ltb, length, take, drop, set, replicate}
 use Rattle.records.specs.declared.TaskNo.{TaskNo}
 use Rattle.executive.specs.declared.Table.{Table}
 use Rattle.executive.specs.Numbers.{most_tasks}
@@ -11,8 +11,8 @@ use Rattle.why.specs.declared.Cause.{Cause}
 use Rattle.why.specs.declared.Cause.TheVariants as cause
 use Rattle.why.specs.declared.Step.{Step}
 use Rattle.why.specs.declared.Reasons.{Reasons}
-use Rattle.why.specs.declared.On.{On}
-use Rattle.why.specs.declared.On.TheVariants as on
+use Rattle.why.specs.On.{On}
+use Rattle.why.specs.On as on
 use Rattle.why.specs.Causes.{target_at, holder_at, cause_of}
 
 abbrev pub no_step : Step
@@ -25,6 +25,10 @@ refusal n v = record { number = n; v = v; steps = replicate most_tasks no_step; 
 -- the place of task k among the first n steps; n where it is none of them
 unfoldable pub met_at : ℕ → ℕ → List Step → ℕ
 met_at k n steps = next_of (λ (s : Step). eqb k s.task.0) 0 (take n steps)
+
+-- the same among all of some steps, as an index; none where it is none of them
+abbrev pub MetAt : ℕ → List Step → Option ℕ → Type 0
+MetAt k steps r = MatchOption r (next_of (λ (s : Step). eqb k s.task.0) 0 steps ≡ length steps) (λ i. (i < length steps) × (next_of (λ (s : Step). eqb k s.task.0) 0 steps ≡ i))
 
 -- one step more; a ring from a place on
 abbrev pub longer : Reasons → TaskNo → Cause → Reasons

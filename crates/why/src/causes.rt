@@ -1,25 +1,17 @@
 // Why a task is not running: its state and, where it waits for another, the request or the run that names it, or the
 // subprogram that the other holds.
-ghost use Rattle.std.specs.Prelude.{◌≡◌, ◌≤◌, take};
-ghost use Rattle.why.specs.Causes.{Sized, ahead_in, waiter_of, named_at, run_at, target_at, holder_at, missing, ready_cause, start_cause, end_cause, sub_cause, cause_of};
+ghost use Rattle.std.specs.Prelude.{◌≡◌, ◌≤◌, length};
+ghost use Rattle.why.specs.Causes.{Sized, ahead_in, waiter_of, NamedAt, run_at, holder_at, missing, ready_cause, start_cause, end_cause, sub_cause, cause_of, awaited};
 
 use crate::Cause;
 use executive::{Request, State, Sub, Table, Task, places};
 use records::{SubNo, TaskNo};
 
 // How many in the queue stand ahead of a task.
-fn ahead(queue: [TaskNo; 16], ready: u8, k: TaskNo) -> u8
-    requires { ready ≤ 16 }
-    ensures { result ≡ ahead_in k.0 (take ready queue) }
+fn ahead(queue: &[TaskNo], k: TaskNo) -> usize
+    ensures { (result ≡ ahead_in k.0 queue.now) × (result ≤ length queue.now) }
 {
-    let mut i: u8 = 0;
-    while i < ready {
-        if k.0 == queue[i as usize].0 {
-            return i;
-        }
-        i += 1;
-    }
-    i
+    queue.iter().position(|x| k.0 == x.0).unwrap_or(queue.len())
 }
 
 // Whom a request names as the waiter for its start, or else for the end of the run that it begins.
@@ -32,55 +24,26 @@ fn waiter_of(q: Request, at_start: bool) -> TaskNo
     q.end_waiter
 }
 
-// The place, from 1, of the first queued request that names a task so; one past the last where none does.
-fn named_at(pool: [Request; 32], queued: u8, at_start: bool, k: TaskNo) -> u8
-    requires { queued ≤ 32 }
-    ensures { result ≡ named_at at_start k.0 (take queued pool) }
+// The place of the first request that names a task so.
+fn named_at(pool: &[Request], at_start: bool, k: TaskNo) -> Option<usize>
+    ensures { NamedAt at_start k.0 pool.now result }
 {
-    let mut i: u8 = 0;
-    while i < queued {
-        let q = pool[i as usize];
-        let w = waiter_of(q, at_start);
-        if k.0 == w.0 {
-            return i + 1;
-        }
-        i += 1;
-    }
-    i + 1
+    pool.iter().position(|q| k.0 == waiter_of(*q, at_start).0)
 }
 
 // The first task whose run names a task as the waiter for its end; 17 where none does.
 fn run_at(tasks: [Task; 16], k: TaskNo) -> u8
     ensures { result ≡ run_at k.0 tasks }
 {
-    let mut i: u8 = 0;
-    while i < 16 {
-        let e = tasks[i as usize];
-        if k.0 == e.end_waiter.0 {
-            return i + 1;
-        }
-        i += 1;
-    }
-    i + 1
-}
-
-// The task of the queued request at a place, from 1; nobody where there is none.
-pub(crate) fn target_at(pool: [Request; 32], queued: u8, place: u8) -> TaskNo
-    requires { queued ≤ 32 }
-    ensures { result ≡ target_at place (take queued pool) }
-{
-    if place == 0 {
-        return TaskNo(0);
-    }
-    if queued < place {
-        return TaskNo(0);
-    }
-    let q = pool[(place - 1) as usize];
-    q.target
+    let i = tasks
+        .iter()
+        .position(|e| k.0 == e.end_waiter.0)
+        .unwrap_or(16);
+    i as u8 + 1
 }
 
 // The holder of a subprogram; nobody where it is free, and where there is none of that number.
-pub(crate) fn holder_at(subs: [Sub; 8], m: SubNo) -> TaskNo
+fn holder_at(subs: [Sub; 8], m: SubNo) -> TaskNo
     ensures { result ≡ holder_at m.0 subs }
 {
     if 7 < m.0 {
@@ -98,39 +61,37 @@ fn missing_of(flags: u32, mask: u32) -> u32
 }
 
 // A ready task is active or stands behind others.
-fn by_queue(queue: [TaskNo; 16], ready: u8, k: TaskNo) -> Cause
-    requires { ready ≤ 16 }
-    ensures { result ≡ ready_cause (ahead_in k.0 (take ready queue)) }
+fn by_queue(queue: &[TaskNo], k: TaskNo) -> Cause
+    requires { length queue.now ≤ 16 }
+    ensures { result ≡ ready_cause (ahead_in k.0 queue.now) }
 {
-    let n = ahead(queue, ready, k);
+    let n = ahead(queue, k);
     if n == 0 {
         return Cause::Active;
     }
-    Cause::Ready(n)
+    Cause::Ready(n as u8)
 }
 
 // A task that waits for the start of the request that names it.
-fn by_start(pool: [Request; 32], queued: u8, k: TaskNo) -> Cause
-    requires { queued ≤ 32 }
-    ensures { result ≡ start_cause k.0 (take queued pool) }
+fn by_start(pool: &[Request], k: TaskNo) -> Cause
+    requires { length pool.now ≤ 32 }
+    ensures { result ≡ start_cause k.0 pool.now }
 {
-    let p = named_at(pool, queued, true, k);
-    let j = target_at(pool, queued, p);
-    Cause::Start(p, j)
+    match named_at(pool, true, k) {
+        Some(i) => Cause::Start(i as u8 + 1, pool[i].target),
+        None => Cause::Start(pool.len() as u8 + 1, TaskNo(0)),
+    }
 }
 
 // A task that waits for the end of the run of the request, or of the task, that names it.
-fn by_end(tasks: [Task; 16], pool: [Request; 32], queued: u8, k: TaskNo) -> Cause
-    requires { queued ≤ 32 }
-    ensures { result ≡ end_cause k.0 tasks (take queued pool) }
+fn by_end(tasks: [Task; 16], pool: &[Request], k: TaskNo) -> Cause
+    requires { length pool.now ≤ 32 }
+    ensures { result ≡ end_cause k.0 tasks pool.now }
 {
-    let p = named_at(pool, queued, false, k);
-    if queued < p {
-        let j = run_at(tasks, k);
-        return Cause::EndOfRun(TaskNo(j));
+    match named_at(pool, false, k) {
+        Some(i) => Cause::EndOfRequest(i as u8 + 1, pool[i].target),
+        None => Cause::EndOfRun(TaskNo(run_at(tasks, k))),
     }
-    let j = target_at(pool, queued, p);
-    Cause::EndOfRequest(p, j)
 }
 
 // A task that waits for a subprogram.
@@ -146,24 +107,30 @@ pub(crate) fn cause_of(t: Table, k: TaskNo) -> Cause
     requires { Sized t }
     ensures { result ≡ cause_of t k.0 }
 {
-    let tasks = t.tasks;
-    let queue = t.queue;
-    let pool = t.rest.pool;
-    let queued = t.rest.queued;
-    let e = places::task_at(tasks, k);
-    let s = e.state;
-    match s {
+    let queue = &t.queue[..t.ready as usize];
+    let pool = &t.rest.pool[..t.rest.queued as usize];
+    match places::task_at(t.tasks, k).state {
         State::Dormant => Cause::Dormant,
-        State::Ready => by_queue(queue, t.ready, k),
+        State::Ready => by_queue(queue, k),
         State::Paused(at) => Cause::Paused(at),
         State::Due(at) => Cause::Due(at),
         State::Flags(mode, mask) => Cause::Flags(mode, missing_of(t.rest.flags, mask)),
-        State::AwaitStart => by_start(pool, queued, k),
-        State::AwaitEnd => by_end(tasks, pool, queued, k),
-        State::AwaitSub(m) => {
-            let subs = t.rest.subs;
-            by_sub(subs, m)
-        }
+        State::AwaitStart => by_start(pool, k),
+        State::AwaitEnd => by_end(t.tasks, pool, k),
+        State::AwaitSub(m) => by_sub(t.rest.subs, m),
         State::AwaitMessage(s) => Cause::Message(s),
+    }
+}
+
+// The task that a cause names.
+pub(crate) fn awaited(cause: Cause) -> Option<TaskNo>
+    ensures { result ≡ awaited cause }
+{
+    match cause {
+        Cause::Start(_, j) | Cause::EndOfRequest(_, j) => Some(j),
+        Cause::EndOfRun(j) | Cause::Subprogram(_, j) => Some(j),
+        Cause::Dormant | Cause::Active | Cause::Ready(_) => None,
+        Cause::Paused(_) | Cause::Due(_) => None,
+        Cause::Flags(_, _) | Cause::Message(_) => None,
     }
 }

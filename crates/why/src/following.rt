@@ -1,10 +1,11 @@
-// The path from a task to whom it waits for, by two functions that call each other along the waiting chain.
-ghost use Rattle.std.specs.Prelude.{◌≡◌, ◌≤◌, ◌<◌, length};
+// The path from a task to whom it waits for.
+ghost use Rattle.std.specs.Prelude.{◌≡◌, false, ◌≤◌, ◌<◌, length};
+ghost use Rattle.executive.specs.Numbers.{most_tasks};
 ghost use Rattle.why.specs.Causes.{Sized};
-ghost use Rattle.why.specs.Paths.{met_at, longer, closed, unmet, task_path, link_path, refusal, Explains, IsNoTable};
+ghost use Rattle.why.specs.Paths.{MetAt, longer, closed, task_path, refusal, Explains, IsNoTable};
 
-use crate::{Cause, On, Reasons, Step, causes};
-use executive::Table;
+use crate::{Cause, Reasons, Step, causes};
+use executive::{Table, refusals};
 use records::TaskNo;
 
 // A blank step.
@@ -33,20 +34,11 @@ pub fn no_table() -> Reasons
     none(1, false)
 }
 
-// The place of a task on a path; the path's length where it has not been met.
-fn met_at(steps: [Step; 16], length: u8, k: TaskNo) -> u8
-    requires { length ≤ 16 }
-    ensures { result ≡ met_at k.0 length steps }
+// The place of a task on a path.
+fn met_at(path: &[Step], k: TaskNo) -> Option<usize>
+    ensures { MetAt k.0 path.now result }
 {
-    let mut i: u8 = 0;
-    while i < length {
-        let s = steps[i as usize];
-        if k.0 == s.task.0 {
-            return i;
-        }
-        i += 1;
-    }
-    i
+    path.iter().position(|s| k.0 == s.task.0)
 }
 
 // The path with one step more.
@@ -82,56 +74,25 @@ fn with_ring(path: Reasons, place: u8) -> Reasons
     }
 }
 
-// Goes on at a task: a task that has been met closes a ring; any other is a step, and leads on to what it waits for.
-#[cycle(follow_link_follow_task)]
-fn follow_task(t: Table, k: TaskNo, path: Reasons) -> Reasons
-    requires { Sized t × (path.length ≤ 16) }
-    ensures { result ≡ task_path (unmet path) t k path }
+// The path from a task: a task that has been met closes a ring; any other is a step, and leads on to whom its cause names.
+fn path_from(t: Table, k: TaskNo) -> Reasons
+    requires { Sized t }
+    ensures { result ≡ task_path most_tasks t k (refusal 0 false) }
 {
-    let steps = path.steps;
-    let place = met_at(steps, path.length, k);
-    if place < path.length {
-        return with_ring(path, place);
-    }
-    if 16 <= path.length {
-        return path;
-    }
-    let cause = causes::cause_of(t, k);
-    let on = with_step(path, k, cause);
-    match cause {
-        Cause::Dormant => on,
-        Cause::Active => on,
-        Cause::Ready(_) => on,
-        Cause::Paused(_) => on,
-        Cause::Due(_) => on,
-        Cause::Flags(_, _) => on,
-        Cause::Start(p, _) => follow_link(t, On::Request(p), on),
-        Cause::EndOfRequest(p, _) => follow_link(t, On::Request(p), on),
-        Cause::EndOfRun(j) => follow_link(t, On::Run(j), on),
-        Cause::Subprogram(m, _) => follow_link(t, On::Held(m), on),
-        Cause::Message(_) => on,
-    }
-}
-
-// Goes on at the task of what is waited for.
-#[cycle(follow_link_follow_task)]
-fn follow_link(t: Table, on: On, path: Reasons) -> Reasons
-    requires { Sized t × (path.length ≤ 16) }
-    ensures { result ≡ link_path (unmet path) t on path }
-{
-    match on {
-        On::Request(p) => {
-            let pool = t.rest.pool;
-            let k = causes::target_at(pool, t.rest.queued, p);
-            follow_task(t, k, path)
+    let mut path = none(0, false);
+    let mut next = Some(k);
+    while let Some(k) = next {
+        if let Some(place) = met_at(&path.steps[..path.length as usize], k) {
+            return with_ring(path, place as u8);
         }
-        On::Run(k) => follow_task(t, k, path),
-        On::Held(m) => {
-            let subs = t.rest.subs;
-            let k = causes::holder_at(subs, m);
-            follow_task(t, k, path)
+        if 16 <= path.length {
+            return path;
         }
+        let cause = causes::cause_of(t, k);
+        path = with_step(path, k, cause);
+        next = causes::awaited(cause);
     }
+    path
 }
 
 // Why a task is not running: 1 where the table is not well formed, 6 with V where it has no such task, else the path.
@@ -141,12 +102,8 @@ pub fn explain(table: Table, task: TaskNo) -> Reasons
     if table.check() != 0 {
         return none(1, false);
     }
-    if task.0 == 0 {
+    if refusals::no_such_task(table.rest.count, task) {
         return none(6, true);
     }
-    if table.rest.count < task.0 {
-        return none(6, true);
-    }
-    let start = none(0, false);
-    follow_task(table, task, start)
+    path_from(table, task)
 }

@@ -1,5 +1,5 @@
 // The answer as text: it is put together in a buffer of its own, and handed out whole or not at all.
-ghost use Rattle.std.specs.Prelude.{◌≡◌, cond, ◌∷◌, [], ◌+◌, ◌-◌, ◌%◌, ◌≤◌, eqb, length, take, drop};
+ghost use Rattle.std.specs.Prelude.{◌≡◌, cond, ◌∷◌, [], ◌+◌, ◌%◌, ◌≤◌, eqb, length};
 ghost use Rattle.text.specs.Glyphs.{Adds, decimal_of};
 ghost use Rattle.why.specs.Texts.{worded_of, said_of, bits_of, mode_words, message_words, cause_text, step_line, step_lines, task_numbers, ring_line, text_of, Tells};
 
@@ -55,11 +55,9 @@ fn bits(out: &mut [u8], at: usize, x: u32) -> usize
 {
     let mut place = at;
     let mut left = x;
-    let mut n: u8 = 0;
-    while n < 32 {
+    for n in 0..32 {
         place = bit(out, place, left, n);
-        left = left / 2;
-        n += 1;
+        left /= 2;
     }
     place
 }
@@ -154,71 +152,44 @@ fn step_line(out: &mut [u8], at: usize, step: Step) -> usize
     glyphs::put(out, b, 10)
 }
 
-// The lines of the first steps.
-fn step_lines(out: &mut [u8], at: usize, steps: [Step; 16], count: usize) -> usize
-    requires { (at + 28672 ≤ length out.old) × (count ≤ 16) }
-    ensures { Adds out.old at out.new result (step_lines (take count steps))
+// The lines of some steps.
+fn step_lines(out: &mut [u8], at: usize, steps: &[Step]) -> usize
+    requires { (at + 28672 ≤ length out.old) × (length steps.now ≤ 16) }
+    ensures { Adds out.old at out.new result (step_lines steps.now)
         × (result ≤ at + 28672) }
 {
     let mut place = at;
-    let mut i: usize = 0;
-    while i < count {
-        let s = steps[i];
-        place = step_line(out, place, s);
-        i += 1;
+    for s in steps {
+        place = step_line(out, place, *s);
     }
     place
 }
 
-// The tasks of some of the first steps, a blank before each.
-fn task_numbers(out: &mut [u8], at: usize, steps: [Step; 16], from: usize, count: usize) -> usize
-    requires { (at + 832 ≤ length out.old) × (from ≤ count) × (count ≤ 16) }
-    ensures { Adds out.old at out.new result (task_numbers (drop from (take count steps)))
+// The tasks of some steps, a blank before each.
+fn task_numbers(out: &mut [u8], at: usize, steps: &[Step]) -> usize
+    requires { (at + 832 ≤ length out.old) × (length steps.now ≤ 16) }
+    ensures { Adds out.old at out.new result (task_numbers steps.now)
         × (result ≤ at + 832) }
 {
     let mut place = at;
-    let mut i: usize = 0;
-    while i < count - from {
-        let s = steps[from + i];
-        let task = s.task;
-        place = worded(out, place, b" ", task.0 as u64);
-        i += 1;
+    for s in steps {
+        place = worded(out, place, b" ", s.task.0 as u64);
     }
     place
 }
 
 // The line of the ring; none where there is no ring.
-fn ring_line(out: &mut [u8], at: usize, steps: [Step; 16], from: usize, count: usize) -> usize
-    requires { (at + 896 ≤ length out.old) × (count ≤ 16) }
-    ensures { Adds out.old at out.new result (ring_line (drop from (take count steps)))
+fn ring_line(out: &mut [u8], at: usize, ring: &[Step]) -> usize
+    requires { (at + 896 ≤ length out.old) × (length ring.now ≤ 16) }
+    ensures { Adds out.old at out.new result (ring_line ring.now)
         × (result ≤ at + 896) }
 {
-    if count <= from {
+    if ring.is_empty() {
         return at;
     }
     let a = glyphs::text(out, at, b"ring");
-    let b = task_numbers(out, a, steps, from, count);
+    let b = task_numbers(out, a, ring);
     glyphs::put(out, b, 10)
-}
-
-// How many of sixteen places are steps, where n are said to be.
-fn at_most(steps: [Step; 16], n: u8) -> usize
-    ensures { (take result steps ≡ take n steps) × (result ≤ 16) }
-{
-    if 16 < n {
-        return 16;
-    }
-    n as usize
-}
-
-// Where the ring begins.
-fn ring_start(length: u8, ring: u8) -> usize
-    ensures { result ≡ length - ring }
-{
-    if length < ring {
-        return 0;
-    }
-    (length - ring) as usize
 }
 
 // The whole text, at the start of a buffer that has room for any.
@@ -229,12 +200,11 @@ fn told(out: &mut [u8], reasons: Reasons, clock: Millis) -> usize
     if reasons.number != 0 {
         return said(out, 0, b"refused ", reasons.number as u64, b"\n");
     }
-    let steps = reasons.steps;
-    let count = at_most(steps, reasons.length);
-    let from = ring_start(reasons.length, reasons.ring);
+    let path = &reasons.steps[..(reasons.length as usize).min(16)];
+    let start = reasons.length.saturating_sub(reasons.ring) as usize;
     let a = said(out, 0, b"clock ", clock.0, b" ms\n");
-    let b = step_lines(out, a, steps, count);
-    ring_line(out, b, steps, from, count)
+    let b = step_lines(out, a, path);
+    ring_line(out, b, &path[start.min(path.len())..])
 }
 
 // The answer as text, at the start of a buffer: its length, or 0 and nothing written where it does not fit.

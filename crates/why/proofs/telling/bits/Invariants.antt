@@ -1,5 +1,5 @@
 -- `telling::bits` meets its contract: bit after bit, what is left is the word shifted.
-use Prim.Native.Nat.{◌+◌, ◌-◌, ◌*◌, ◌≤◌}
+use Prim.Native.Nat.{◌+◌, ◌*◌, ◌≤◌}
 use mathlib.Core.Path.{◌≡◌}
 use Rattle.text.specs.Glyphs.{Adds}
 use Prim.Native.Nat.{◌/◌, ◌^◌}
@@ -7,7 +7,4 @@ use Rattle.why.specs.Texts.{bits_of}
 use Rattle.why.proofs.telling.bits.Given as goal
 
 abbrev pub invariant-loop-n : goal.invariant-loop-n
-invariant-loop-n l = (l.n ≤ 32) × (l.left ≡ l.x / 2 ^ l.n) × Adds l.initial.out l.at l.out l.place (bits_of l.x l.n) × (l.place ≤ l.at + 52 * l.n)
-
-abbrev pub decreases-loop-n : goal.decreases-loop-n
-decreases-loop-n l = 32 - l.n
+invariant-loop-n l = (l.left ≡ l.x / 2 ^ l.n) × Adds l.initial.out l.at l.out l.place (bits_of l.x l.n) × (l.place ≤ l.at + 52 * l.n)
