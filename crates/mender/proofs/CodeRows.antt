@@ -2,12 +2,13 @@
 use Prim.Native.Nat.{ℕ, zero, suc, ◌+◌, ◌≤◌, ◌<◌}
 use mathlib.Core.Path.{◌≡◌, sym, ap, ◌∙◌}
 use mathlib.Core.Bool.{Bool, true, false}
-use mathlib.Core.List.{List}
+use mathlib.Core.List.{List, map}
 use mathlib.Core.Path.{subst}
 use native.Mathlib.Omega.{arith}
 use denote.Param.Members.{Mut, Called}
 use lib.ListN.{length, take, set, get_or}
 use lib.Seq.{ext_get_or}
+use Rattle.std.proofs.lemmas.List.{get_or-map, length-map, map-id}
 use Rattle.std.specs.Array.{IsFromFnResult, IsFromFnResultFrom, IsMapOf, MapsFrom}
 use Rattle.executive.specs.Letters.{all_that}
 use Rattle.executive.proofs.Assured.{get_d_within}
@@ -39,21 +40,27 @@ module _ {A : Type 0} (f : A → Bool) (d : A) (n : ℕ) (p : List A) (l : lengt
     pub closed-end : n ≤ i → record { places = q; taken = m } ≡ filled_of n d (all_that f p)
     closed-end h = c ∙ ap (filled_of n d) (passed-end f d n p l i h)
 
--- an array that calls at its places made is a row, where each call gives what a function does and leaves the closure as it was
-module _ {F B : Type 0} (g : Mut F (ℕ × Unit {0}) B) (f : F) (h : ℕ → B) (d : B) (n : ℕ) (ys : List B)
-    (one : (i : ℕ) → i < n → (y : B) (q : F) → Called g f (i, tt) y q → (y ≡ h i) × (q ≡ f)) where
-  made_at : (m i : ℕ) → i + m ≤ n → IsFromFnResultFrom g f ys i m → (j k : ℕ) → j < m → k ≡ i + j → get_or ys k d ≡ h k
+-- an array that calls at its places made is a row, as v sees it, where each call gives what a function does and leaves the
+-- closure as it was
+module _ {F B C : Type 0} (g : Mut F (ℕ × Unit {0}) B) (f : F) (v : B → C) (h : ℕ → C) (d : B) (n : ℕ) (ys : List B)
+    (one : (i : ℕ) → i < n → (y : B) (q : F) → Called g f (i, tt) y q → (v y ≡ h i) × (q ≡ f)) where
+  made_at : (m i : ℕ) → i + m ≤ n → IsFromFnResultFrom g f ys i m → (j k : ℕ) → j < m → k ≡ i + j → v (get_or ys k d) ≡ h k
   made_at zero i b c j k l e = absurd (omega arith)
-  made_at (suc m) i b c zero k l e = let z : i ≡ k = omega arith in rw (← z) (c.2.1 d ∙ (one i (omega arith) c.1 c.0 c.3).0)
+  made_at (suc m) i b c zero k l e = let z : i ≡ k = omega arith in rw (← z) (ap v (c.2.1 d) ∙ (one i (omega arith) c.1 c.0 c.3).0)
   made_at (suc m) i b c (suc j) k l e =
       let r : IsFromFnResultFrom g f ys (i + 1) m = subst (λ (q : F). IsFromFnResultFrom g q ys (i + 1) m) (one i (omega arith) c.1 c.0 c.3).1 c.4 in
       made_at m (i + 1) (omega arith) r j k (omega arith) (omega arith)
 
+pub made_seen : {F B C : Type 0} {g : Mut F (ℕ × Unit {0}) B} {f : F} {ys : List B} (v : B → C) (h : ℕ → C) (d : B) (n : ℕ)
+    → ((i : ℕ) → i < n → (y : B) (q : F) → Called g f (i, tt) y q → (v y ≡ h i) × (q ≡ f)) → IsFromFnResult g f ys n → map v ys ≡ row h n 0
+made_seen {g = g} {f = f} {ys = ys} v h d n one c =
+    let m : length (map v ys) ≡ n = length-map ys v ∙ c.long in
+    ext_get_or (v d) (map v ys) (row h n 0) (m ∙ sym (row-length h n 0))
+    (λ j l. let k : j < n = omega (arith, m) in get_or-map v ys j d (v d) (omega (arith, c.long)) ∙ made_at g f v h d n ys one n 0 (omega arith) c.each j j k (omega arith) ∙ sym (row_at h (v d) n j k))
+
 pub made_row : {F B : Type 0} {g : Mut F (ℕ × Unit {0}) B} {f : F} {ys : List B} (h : ℕ → B) (d : B) (n : ℕ)
     → ((i : ℕ) → i < n → (y : B) (q : F) → Called g f (i, tt) y q → (y ≡ h i) × (q ≡ f)) → IsFromFnResult g f ys n → ys ≡ row h n 0
-made_row {g = g} {f = f} {ys = ys} h d n one c =
-    ext_get_or d ys (row h n 0) (c.long ∙ sym (row-length h n 0))
-    (λ j l. let k : j < n = omega (arith, c.long) in made_at g f h d n ys one n 0 (omega arith) c.each j j k (omega arith) ∙ sym (row_at h d n j k))
+made_row {ys = ys} h d n one c = sym (map-id ys) ∙ made_seen (λ x. x) h d n one c
 
 -- so is one that `map` made of another
 module _ {F A B : Type 0} (g : Mut F (A × Unit {0}) B) (f : F) (h : A → B) (a : A) (d : B) (xs : List A) (ys : List B)

@@ -7,6 +7,10 @@ use native.Mathlib.Omega.{arith}
 use borrow.Author.Tests.{lt-ltb, le-ltb, le-leb, lt-leb}
 use Rattle.records.specs.declared.TaskNo.{TaskNo}
 use Rattle.executive.specs.Check.{is_task}
+use lib.Dec.{eqb}
+use Rattle.mender.specs.declared.Rule.{Rule}
+use Rattle.mender.specs.declared.Rule.TheVariants as rule
+use Rattle.mender.specs.Rules.{number_of}
 
 module _ {A : Type 0} where
   pub yes : {z : A} (b : Bool) (x y : A) → b ≡ true → z ≡ x → z ≡ cond b x y
@@ -24,3 +28,14 @@ module _ (n : ℕ) (k : TaskNo) where
 
   pub task-is : k.0 ≢ 0 → k.0 ≤ n → is_task n k ≡ true
   task-is e h = rw (lt-ltb 0 k.0 (omega (arith, e)), le-leb k.0 n h) refl
+
+-- ---- a rule has a number
+pub has_number : (r : Rule) → eqb (number_of r) 0 ≡ false
+has_number rule.Range = refl
+has_number rule.Time = refl
+has_number rule.Start = refl
+has_number rule.Mask = refl
+has_number rule.Link = refl
+has_number rule.Dormant = refl
+has_number rule.Message = refl
+has_number rule.Lost = refl

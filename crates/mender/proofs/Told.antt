@@ -37,13 +37,6 @@ module _ (l : List ℕ) where
   unfolding note_lines
   lines_more i = rw (add-one i) refl
 
-  -- how many
-  pub noted-most : 16 < get_or l 0 0 → 16 ≡ noted_in l
-  noted-most h = no _ _ _ (lt-leb (get_or l 0 0) 16 h) refl
-
-  pub noted-all : get_or l 0 0 ≤ 16 → get_or l 0 0 ≡ noted_in l
-  noted-all h = yes _ _ _ (le-leb (get_or l 0 0) 16 h) refl
-
   -- the whole
   module _ (number : ℕ) (same : Bool) where
     pub text-refused : number ≢ 0 → refused_line number ≡ text_of number same l

@@ -1,5 +1,5 @@
 -- The own rules of a task's entry, which is its fields and its mail: the first one that it breaks, its links aside.
-use Rattle.std.specs.Prelude.{ℕ, suc, ◌≤◌, ◌<◌, ◌≡◌, ◌≢◌, ◌⊎◌, Bool, true, not, cond, List, leb}
+use Rattle.std.specs.Prelude.{ℕ, suc, ◌≤◌, ◌<◌, ◌≡◌, ◌≢◌, ◌⊎◌, Bool, true, not, cond, List, Option, Some, None, map, leb}
 use Rattle.executive.specs.declared.State.{State}
 use Rattle.executive.specs.declared.State.TheVariants.{Dormant}
 use Rattle.executive.specs.declared.Task.{Task}
@@ -14,6 +14,8 @@ use Rattle.executive.specs.States.{await_sub, await_message, awaited_of, is_of, 
 use Rattle.executive.specs.Messages.{no_mail, fits, mail_at}
 use Rattle.executive.specs.WellFormed.{Timely, Unmet, Zeros, fitting}
 use Rattle.executive.specs.Check.{numbers_in_range, mail_in_range, is_zero, is_blank, is_no_mail, task_timely, is_started, task_unmet}
+use Rattle.mender.specs.declared.Rule.{Rule}
+use Rattle.mender.specs.declared.Rule.TheVariants as rule
 use Rattle.mender.specs.Rows.{row}
 
 -- ---- the rules that a list names: 1 to 9 as 01's sentence on a well-formed table runs, then 02's: 10 subprograms, 11
@@ -41,6 +43,24 @@ message_rule = 11
 
 abbrev pub lost_link : ℕ
 lost_link = 13
+
+-- a rule's number, and that of an answer: 0 for none
+abbrev pub number_of : Rule → ℕ
+number_of rule.Range = range_rule
+number_of rule.Time = time_rule
+number_of rule.Start = start_rule
+number_of rule.Mask = mask_rule
+number_of rule.Link = link_rule
+number_of rule.Dormant = dormant_rule
+number_of rule.Message = message_rule
+number_of rule.Lost = lost_link
+
+abbrev pub rule_number : Option Rule → ℕ
+rule_number None = 0
+rule_number (Some r) = number_of r
+
+abbrev pub numbers_of : List (Option Rule) → List ℕ
+numbers_of rs = map rule_number rs
 
 -- ---- the tests of an entry e with the mail x: its numbers among n tasks; its zeros while it is dormant; whether no message
 -- at any place fits task k where its state is to wait for one

@@ -2,8 +2,10 @@
 ghost use Rattle.std.specs.Prelude.{◌≡◌, get_or};
 ghost use Rattle.executive.specs.Subprograms.{no_subprogram};
 ghost use Rattle.executive.specs.Check.{is_nobody, is_task};
+ghost use Rattle.mender.specs.Rules.{rule_number, numbers_of};
 ghost use Rattle.mender.specs.Passes.{is_holder, own_kept, slept, entry_after, mail_after, entries_after, mails_after, awaits_link, is_lost, waiter_after, waiters_after};
 
+use crate::Rule;
 use executive::{Mail, Millis, State, Sub, Task, entries, messages, places, states};
 use records::TaskNo;
 use std::array;
@@ -47,39 +49,38 @@ fn slept(e: Task) -> Task
     }
 }
 
-// The entry of task k, which breaks the own rule b, or none where b is 0.
-fn entry_after(count: u8, k: u8, b: u8, e: Task) -> Task
-    ensures { result ≡ entry_after count k b e }
+// The entry of task k, which breaks the own rule b.
+#[tactic(auto, using(crate::proofs::CodeTests::has_number), unfolding(crate::specs::Passes::entry_after))]
+fn entry_after(count: u8, k: u8, b: Option<Rule>, e: Task) -> Task
+    ensures { result ≡ entry_after count k (rule_number b) e }
 {
     if count < k {
         return places::NO_TASK;
     }
-    if b == 0 {
-        return e;
+    match b {
+        Some(_) => slept(e),
+        None => e,
     }
-    slept(e)
 }
 
-fn mail_after(count: u8, k: u8, b: u8, x: Mail) -> Mail
-    ensures { result ≡ mail_after count k b x }
+#[tactic(auto, using(crate::proofs::CodeTests::has_number), unfolding(crate::specs::Passes::mail_after))]
+fn mail_after(count: u8, k: u8, b: Option<Rule>, x: Mail) -> Mail
+    ensures { result ≡ mail_after count k (rule_number b) x }
 {
-    if count < k {
-        return messages::NO_MAIL;
-    }
-    if b == 0 {
+    if k <= count && b.is_none() {
         return x;
     }
     messages::NO_MAIL
 }
 
-pub(crate) fn entries_after(count: u8, broken: [u8; 16], tasks: [Task; 16]) -> [Task; 16]
-    ensures { result ≡ entries_after count broken tasks }
+pub(crate) fn entries_after(count: u8, broken: [Option<Rule>; 16], tasks: [Task; 16]) -> [Task; 16]
+    ensures { result ≡ entries_after count (numbers_of broken) tasks }
 {
     array::from_fn(|i| entry_after(count, i as u8 + 1, broken[i], tasks[i]))
 }
 
-pub(crate) fn mails_after(count: u8, broken: [u8; 16], mail: [Mail; 16]) -> [Mail; 16]
-    ensures { result ≡ mails_after count broken mail }
+pub(crate) fn mails_after(count: u8, broken: [Option<Rule>; 16], mail: [Mail; 16]) -> [Mail; 16]
+    ensures { result ≡ mails_after count (numbers_of broken) mail }
 {
     array::from_fn(|i| mail_after(count, i as u8 + 1, broken[i], mail[i]))
 }

@@ -1,4 +1,4 @@
-// Lines at the front of an array: its first places are taken.
+// Lines at the front of an array: its first places are taken. Requests, messages and notes stand so.
 ghost use Rattle.std.specs.Prelude.{◌≡◌, Bool};
 ghost use Rattle.executive.specs.Letters.{all_that};
 ghost use Rattle.mender.specs.Filled.{filled_of};
@@ -17,7 +17,8 @@ pub(crate) fn closed_up<T: Copy, F: Fn(T) -> bool>(
     stays: F,
 ) -> Filled<T, 32>
     requires { F.IsAlwaysCallable stays }
-    ensures { (f : T → Bool) → ((x : T) (b : Bool) → F.post stays x b → b ≡ f x) → result ≡ filled_of 32 free (all_that f given) }
+    ensures { (f : T → Bool) → ((x : T) (b : Bool) → F.post stays x b → b ≡ f x)
+        → result ≡ filled_of 32 free (all_that f given) }
 {
     let mut places = [free; 32];
     let mut taken: u8 = 0;

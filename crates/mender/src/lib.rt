@@ -17,6 +17,19 @@ mod promises;
 mod rules;
 pub mod telling;
 
+// The rules that a note may name; the number of each is what the list has.
+#[derive(Clone, Copy)]
+enum Rule {
+    Range,
+    Time,
+    Start,
+    Mask,
+    Link,
+    Dormant,
+    Message,
+    Lost,
+}
+
 // A task whose entry differs, and the number of the rule that it broke first, or 13 for a waiter whose link was lost.
 #[derive(Clone, Copy)]
 pub struct Note {

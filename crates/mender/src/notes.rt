@@ -1,9 +1,10 @@
 // The list of the entries that differ, by task number.
 ghost use Rattle.std.specs.Prelude.{◌≡◌, [], ◌<◌};
+ghost use Rattle.mender.specs.Rules.{rule_number, numbers_of};
 ghost use Rattle.mender.specs.Listing.{note_rule, notes_of, noted_of, noted_with};
 
-use crate::Note;
 use crate::filled::Filled;
+use crate::{Note, Rule, rules};
 use executive::{Task, states};
 use records::TaskNo;
 
@@ -12,27 +13,24 @@ const NO_NOTE: Note = Note {
     rule: 0,
 };
 
-// The rule with which an entry is noted that was e, is f now, and broke the own rule b; 0 where it is as it was.
-fn note_rule(count: u8, b: u8, e: Task, f: Task) -> u8
-    ensures { result ≡ note_rule count b e f }
+// The rule with which an entry is noted that was e, is f now, and broke the own rule b; none where it is as it was.
+#[tactic(auto, using(crate::proofs::CodeTests::has_number), unfolding(crate::specs::Listing::note_rule))]
+fn note_rule(count: u8, b: Option<Rule>, e: Task, f: Task) -> Option<Rule>
+    ensures { rule_number result ≡ note_rule count (rule_number b) e f }
 {
-    if b != 0 {
-        return b;
+    if let Some(rule) = b {
+        return Some(rule);
     }
-    let was = e.end_waiter;
-    let is = f.end_waiter;
-    if was.0 != is.0 {
-        if count < was.0 {
-            return 1;
+    if e.end_waiter.0 != f.end_waiter.0 {
+        if count < e.end_waiter.0 {
+            return Some(Rule::Range);
         }
-        return 7;
+        return Some(Rule::Link);
     }
-    let before = e.state;
-    let after = f.state;
-    if states::kind_of(before) == states::kind_of(after) {
-        return 0;
+    if states::kind_of(e.state) == states::kind_of(f.state) {
+        return None;
     }
-    13
+    Some(Rule::Lost)
 }
 
 // No note yet.
@@ -46,29 +44,31 @@ pub(crate) fn none() -> Filled<Note, 16>
 }
 
 // One more note, where a rule was broken.
-fn with_note(l: Filled<Note, 16>, k: TaskNo, rule: u8) -> Filled<Note, 16>
+fn with_note(l: Filled<Note, 16>, k: TaskNo, rule: Option<Rule>) -> Filled<Note, 16>
     requires { l.taken < 16 }
-    ensures { result ≡ noted_with k rule l }
+    ensures { result ≡ noted_with k (rule_number rule) l }
 {
-    if rule == 0 {
-        return l;
-    }
-    let mut places = l.places;
-    let n = l.taken;
-    places[n as usize] = Note { task: k, rule };
-    Filled {
-        places,
-        taken: n + 1,
+    match rule {
+        Some(rule) => {
+            let mut places = l.places;
+            let rule = rules::number_of(rule);
+            places[l.taken as usize] = Note { task: k, rule };
+            Filled {
+                places,
+                taken: l.taken + 1,
+            }
+        }
+        None => l,
     }
 }
 
 pub(crate) fn notes_of(
     count: u8,
-    broken: [u8; 16],
+    broken: [Option<Rule>; 16],
     given: [Task; 16],
     mended: [Task; 16],
 ) -> Filled<Note, 16>
-    ensures { result ≡ noted_of (notes_of count broken given mended) }
+    ensures { result ≡ noted_of (notes_of count (numbers_of broken) given mended) }
 {
     let mut l = none();
     for i in 0..16 {

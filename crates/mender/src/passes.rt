@@ -2,16 +2,17 @@
 // alarms, waiters.
 ghost use Rattle.std.specs.Prelude.{◌≡◌};
 ghost use Rattle.mender.specs.Passes.{own_pass, queued_pass, sub_after, alarm_after, subs_after, alarms_after, held_pass, waiter_pass, link_pass};
+ghost use Rattle.mender.specs.Rules.{numbers_of};
 ghost use Rattle.mender.specs.Rounds.{settled};
 
 use crate::links::Linked;
-use crate::{closing, entries, links};
+use crate::{Rule, closing, entries, links};
 use executive::{Millis, Sub, Table, Task, rules};
 use records::TaskNo;
 
 // The first pass; `broken` has the own rule that each entry breaks.
-fn own_pass(mut t: Table, broken: [u8; 16]) -> Table
-    ensures { result ≡ own_pass broken t }
+fn own_pass(mut t: Table, broken: [Option<Rule>; 16]) -> Table
+    ensures { result ≡ own_pass (numbers_of broken) t }
 {
     let mut rest = t.rest;
     let count = rest.count;
@@ -119,8 +120,8 @@ fn settle(l: Linked) -> Table
 }
 
 // A round; `broken` has the own rule that each entry breaks.
-pub(crate) fn round(t: Table, broken: [u8; 16]) -> Table
-    ensures { result ≡ settled (link_pass (queued_pass (own_pass broken t))) }
+pub(crate) fn round(t: Table, broken: [Option<Rule>; 16]) -> Table
+    ensures { result ≡ settled (link_pass (queued_pass (own_pass (numbers_of broken) t))) }
 {
     let own = own_pass(t, broken);
     let queued = queued_pass(own);

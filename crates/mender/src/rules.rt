@@ -1,8 +1,9 @@
 // The own rules of a task's entry: the first one that it breaks.
 ghost use Rattle.std.specs.Prelude.{◌≡◌};
 ghost use Rattle.executive.specs.Lists.{all_of};
-ghost use Rattle.mender.specs.Rules.{numbers_kept, zeros_kept, unfit, none_fits, first_broken, past_broken, own_rule, own_rules};
+ghost use Rattle.mender.specs.Rules.{numbers_kept, zeros_kept, unfit, none_fits, first_broken, past_broken, own_rule, own_rules, number_of, rule_number, numbers_of};
 
+use crate::Rule;
 use executive::{Mail, Message, Rest, Table, Task, messages, rules, states};
 use records::TaskNo;
 use std::array;
@@ -42,46 +43,62 @@ fn none_fits(e: Task, places: [Message; 32], k: TaskNo) -> bool
     all_unfit(places, k, TaskNo(from))
 }
 
-// The first own rule that the entry of a task within the count breaks; 0 where it breaks none.
-fn first_broken(r: Rest, k: TaskNo, e: Task, x: Mail) -> u8
-    ensures { result ≡ first_broken r k.0 e x }
+// The number of a rule, as a list has it. A list's bytes are the C interface: only here a rule becomes a number.
+pub(crate) fn number_of(rule: Rule) -> u8
+    ensures { result ≡ number_of rule }
 {
-    let s = e.state;
-    let now = r.clock;
+    match rule {
+        Rule::Range => 1,
+        Rule::Time => 3,
+        Rule::Start => 4,
+        Rule::Mask => 5,
+        Rule::Link => 7,
+        Rule::Dormant => 8,
+        Rule::Message => 11,
+        Rule::Lost => 13,
+    }
+}
+
+// The first own rule that the entry of a task within the count breaks.
+#[tactic(auto, unfolding(crate::specs::Rules::first_broken))]
+fn first_broken(r: Rest, k: TaskNo, e: Task, x: Mail) -> Option<Rule>
+    ensures { rule_number result ≡ first_broken r k.0 e x }
+{
     if !numbers_kept(e, x, r.count) {
-        return 1;
+        return Some(Rule::Range);
     }
-    if !rules::is_timely(s, now) {
-        return 3;
+    if !rules::is_timely(e.state, r.clock) {
+        return Some(Rule::Time);
     }
-    if now.0 < e.start.0 {
-        return 4;
+    if r.clock.0 < e.start.0 {
+        return Some(Rule::Start);
     }
-    if !rules::is_unmet(s, r.flags) {
-        return 5;
+    if !rules::is_unmet(e.state, r.flags) {
+        return Some(Rule::Mask);
     }
     if !zeros_kept(e, x) {
-        return 8;
+        return Some(Rule::Dormant);
     }
-    let places = r.messages;
-    if !none_fits(e, places, k) {
-        return 11;
+    if !none_fits(e, r.messages, k) {
+        return Some(Rule::Message);
     }
-    0
+    None
 }
 
 // An entry past the task count is zero.
-fn past_broken(e: Task, x: Mail) -> u8
-    ensures { result ≡ past_broken e x }
+#[tactic(auto, unfolding(crate::specs::Rules::past_broken))]
+fn past_broken(e: Task, x: Mail) -> Option<Rule>
+    ensures { rule_number result ≡ past_broken e x }
 {
     if rules::is_blank(e) && rules::is_no_mail(x) {
-        return 0;
+        return None;
     }
-    1
+    Some(Rule::Range)
 }
 
-fn own_rule(r: Rest, k: TaskNo, e: Task, x: Mail) -> u8
-    ensures { result ≡ own_rule r k.0 e x }
+#[tactic(auto, unfolding(crate::specs::Rules::own_rule))]
+fn own_rule(r: Rest, k: TaskNo, e: Task, x: Mail) -> Option<Rule>
+    ensures { rule_number result ≡ own_rule r k.0 e x }
 {
     if r.count < k.0 {
         return past_broken(e, x);
@@ -90,8 +107,8 @@ fn own_rule(r: Rest, k: TaskNo, e: Task, x: Mail) -> u8
 }
 
 // The own rule that each entry breaks, by place.
-pub(crate) fn own_rules(t: Table) -> [u8; 16]
-    ensures { result ≡ own_rules t }
+pub(crate) fn own_rules(t: Table) -> [Option<Rule>; 16]
+    ensures { numbers_of result ≡ own_rules t }
 {
     array::from_fn(|i| own_rule(t.rest, TaskNo(i as u8 + 1), t.tasks[i], t.rest.mail[i]))
 }

@@ -5,7 +5,7 @@ ghost use Rattle.mender.specs.Telling.{rule_words, note_line, note_lines, noted_
 
 use text::glyphs;
 
-// The words of a rule, of up to 80 bytes.
+// The words of a rule, of up to 80 bytes. The rule is the byte that a list has: any byte may come from the C interface.
 fn rule_words(out: &mut [u8], at: usize, rule: u8) -> usize
     requires { at + 80 ≤ length out.old }
     ensures { Adds out.old at out.new result (rule_words rule) × (result ≤ at + 80) }
@@ -49,6 +49,7 @@ fn note_lines(out: &mut [u8], at: usize, list: [u8; 33], count: usize) -> usize
     ensures { Adds out.old at out.new result (note_lines list count) × (result ≤ at + 1472) }
 {
     let mut place = at;
+    // By index: the definition `note_lines` reads the list's bytes by place.
     for i in 0..count {
         let task = list[i * 2 + 1];
         let rule = list[i * 2 + 2];
@@ -61,10 +62,7 @@ fn note_lines(out: &mut [u8], at: usize, list: [u8; 33], count: usize) -> usize
 fn noted_in(list: [u8; 33]) -> usize
     ensures { (result ≡ noted_in list) × (result ≤ 16) }
 {
-    if 16 < list[0] {
-        return 16;
-    }
-    list[0] as usize
+    (list[0] as usize).min(16)
 }
 
 // A refusal's line.

@@ -74,7 +74,7 @@ fn with_ring(path: Reasons, place: u8) -> Reasons
     }
 }
 
-// The path from a task: a task that has been met closes a ring; any other is a step, and leads on to whom its cause names.
+// The path from a task: one that has been met closes a ring; any other is a step, and leads on to whom its cause names.
 fn path_from(t: Table, k: TaskNo) -> Reasons
     requires { Sized t }
     ensures { result ≡ task_path most_tasks t k (refusal 0 false) }
