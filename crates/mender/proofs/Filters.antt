@@ -6,17 +6,11 @@ use mathlib.Core.Bool.{Bool, true, false, cond}
 use mathlib.Core.List.{List, [], ◌∷◌, ◌++◌, append-nil}
 use native.Mathlib.Omega.{arith}
 use native.Mathlib.Numerals.{add-one}
-use lib.ListN.{length, take, set, get_or, replicate}
+use lib.ListN.{length, take, set, get_or}
 use lib.Seq.{take-suc, take_all}
 use Rattle.executive.specs.Lists.{all_of, pad}
 use Rattle.executive.specs.Letters.{all_that}
 use Rattle.executive.proofs.Assured.{pad-more, take-le}
-
--- free places alone
-pub padded_none : {A : Type 0} (d : A) (n : ℕ) → replicate n d ≡ pad n d []
-unfolding pad
-padded_none d zero = refl
-padded_none d (suc n) = ap (λ xs. d ∷ xs) (padded_none d n)
 
 module _ {A : Type 0} (f : A → Bool) where
   pub that_length : (xs : List A) → length (all_that f xs) ≤ length xs

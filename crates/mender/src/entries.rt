@@ -104,6 +104,7 @@ fn awaits_link(s: State) -> bool
 }
 
 // Whether a waiter waits in vain: no link names it, or its subprogram is free.
+#[tactic(auto, unfolding(crate::specs::Passes::is_lost))]
 fn is_lost(subs: [Sub; 8], named: bool, s: State) -> bool
     ensures { result ≡ is_lost subs named s }
 {
@@ -117,6 +118,7 @@ fn is_lost(subs: [Sub; 8], named: bool, s: State) -> bool
     is_free(subs, m)
 }
 
+#[tactic(auto, unfolding(crate::specs::Passes::waiter_after))]
 fn waiter_after(subs: [Sub; 8], named: bool, e: Task) -> Task
     ensures { result ≡ waiter_after subs named e }
 {

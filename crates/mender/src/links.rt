@@ -124,6 +124,7 @@ fn endless(mut q: Request) -> Request
 }
 
 // The waiter for a request's start.
+#[tactic(auto, unfolding(crate::specs::Passes::start_turn))]
 fn start_turn(a: Asked, tasks: [Task; 16], count: u8) -> Asked
     ensures { result ≡ start_turn count tasks a }
 {
@@ -142,6 +143,7 @@ fn start_turn(a: Asked, tasks: [Task; 16], count: u8) -> Asked
 }
 
 // The waiter for its end; where it names one for its start, it names no other.
+#[tactic(auto, unfolding(crate::specs::Passes::end_turn))]
 fn end_turn(a: Asked, tasks: [Task; 16], count: u8) -> Asked
     ensures { result ≡ end_turn count tasks a }
 {
@@ -160,6 +162,7 @@ fn end_turn(a: Asked, tasks: [Task; 16], count: u8) -> Asked
 }
 
 // The request at place i.
+#[tactic(auto, unfolding(crate::specs::Passes::request_turn))]
 fn request_turn(l: Links, tasks: [Task; 16], count: u8, i: usize) -> Links
     requires { i < 32 }
     ensures { result ≡ request_turn count tasks l i }
@@ -186,6 +189,7 @@ fn linked_requests(tasks: [Task; 16], pool: [Request; 32], named: [bool; 16], co
 }
 
 // The third pass.
+#[tactic(auto, unfolding(crate::specs::Passes::link_pass))]
 pub(crate) fn link_pass(mut t: Table) -> Linked
     ensures { result ≡ link_pass t }
 {

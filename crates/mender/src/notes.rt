@@ -34,6 +34,7 @@ fn note_rule(count: u8, b: Option<Rule>, e: Task, f: Task) -> Option<Rule>
 }
 
 // No note yet.
+#[tactic(auto, unfolding(executive::specs::Lists::pad))]
 pub(crate) fn none() -> Filled<Note, 16>
     ensures { result ≡ noted_of [] }
 {

@@ -11,6 +11,7 @@ use executive::{Millis, Sub, Table, Task, rules};
 use records::TaskNo;
 
 // The first pass; `broken` has the own rule that each entry breaks.
+#[tactic(auto, unfolding(crate::specs::Passes::own_pass))]
 fn own_pass(mut t: Table, broken: [Option<Rule>; 16]) -> Table
     ensures { result ≡ own_pass (numbers_of broken) t }
 {
@@ -27,6 +28,7 @@ fn own_pass(mut t: Table, broken: [Option<Rule>; 16]) -> Table
 }
 
 // The second pass.
+#[tactic(auto, unfolding(crate::specs::Passes::queued_pass))]
 fn queued_pass(mut t: Table) -> Table
     ensures { result ≡ queued_pass t }
 {
@@ -81,6 +83,7 @@ fn alarms_after(now: Millis, alarms: [Millis; 32]) -> [Millis; 32]
 }
 
 // The fourth pass.
+#[tactic(auto, unfolding(crate::specs::Passes::held_pass))]
 fn held_pass(mut t: Table) -> Table
     ensures { result ≡ held_pass t }
 {
@@ -98,6 +101,7 @@ fn held_pass(mut t: Table) -> Table
 }
 
 // The fifth pass; `named` has who is named by a link.
+#[tactic(auto, unfolding(crate::specs::Passes::waiter_pass))]
 fn waiter_pass(mut t: Table, named: [bool; 16]) -> Table
     ensures { result ≡ waiter_pass named t }
 {
@@ -110,6 +114,7 @@ fn waiter_pass(mut t: Table, named: [bool; 16]) -> Table
 }
 
 // The last two passes, with what the links left.
+#[tactic(auto, unfolding(crate::specs::Rounds::settled))]
 fn settle(l: Linked) -> Table
     ensures { result ≡ settled l }
 {

@@ -50,9 +50,3 @@ ahead-items ts k (x ∷ xs) = decide (eqb k x.0) (λ e. rw e refl) (λ e. rw e (
 pub cause-at : (t : Table) (k : ℕ) {e : Task} {s : State} {c : Cause} → e ≡ task_at t.tasks k → e.state ≡ s → c ≡ cause_in t k s → c ≡ cause_of t k
 unfolding cause_of
 cause-at t k e f h = h ∙ ap (cause_in t k) (sym f ∙ ap (λ (x : Task). x.state) e)
-
--- ---- an element that there is, whatever stands past the last
-pub get_d_within : {A : Type 0} (xs : List A) (i : ℕ) (d e : A) → i < length xs → get_or xs i d ≡ get_or xs i e
-get_d_within [] i d e h = absurd (omega arith)
-get_d_within (x ∷ xs) zero d e h = refl
-get_d_within (x ∷ xs) (suc i) d e h = get_d_within xs i d e (omega arith)
