@@ -16,8 +16,8 @@ use Rattle.executive.specs.States.{await_start, await_end, is_of}
 use Rattle.executive.specs.WellFormed.{starts_of, ends_of, runs_of}
 use Rattle.executive.specs.Check.{is_nobody, names_others}
 use Rattle.executive.proofs.Assured.{and_true, true_and, of-not, not-zero}
-use Rattle.mender.specs.declared.links.Asked.{Asked}
-use Rattle.mender.specs.declared.links.Links.{Links}
+use Rattle.mender.specs.Links.{Asked}
+use Rattle.mender.specs.Links.{Links}
 use Rattle.mender.specs.Passes.{named_at, marked, stands, startless, endless, start_turn, end_turn, request_turn, linked_requests}
 use Rattle.mender.proofs.Turns.{each_keeps}
 use Rattle.mender.proofs.Sums.{sum-next-set}

@@ -8,12 +8,13 @@ use native.Mathlib.Numerals.{add-one}
 use lib.ListN.{length, get_or, set, get_or-eq_default}
 use lib.Seq.{set_out}
 use Rattle.executive.specs.declared.Task.{Task}
+use Rattle.executive.specs.declared.Request.{Request}
 use Rattle.executive.specs.declared.Sub.{Sub}
-use Rattle.executive.specs.Places.{nobody, no_task, entry_place}
+use Rattle.executive.specs.Places.{nobody, no_task, no_request, entry_place}
 use Rattle.executive.specs.States.{await_end}
 use Rattle.executive.proofs.Assured.{read-place, set-place}
-use Rattle.mender.specs.declared.links.Runs.{Runs}
-use Rattle.mender.specs.Passes.{named_at, marked, stands, unlinked, run_turn, is_holder, sub_after}
+use Rattle.mender.specs.Links.{Runs, Asked, asked_of, links_of}
+use Rattle.mender.specs.Passes.{named_at, marked, stands, unlinked, run_turn, start_turn, end_turn, request_turn, is_holder, sub_after}
 use Rattle.mender.proofs.CodeTests.{yes, no}
 
 -- who is named, by place
@@ -48,6 +49,13 @@ module _ (n : ℕ) (r : Runs) (i : ℕ) (b : Bool) (e : b ≡ stands n r.tasks r
       → record { tasks = set r.tasks i u; named = r.named } ≡ run_turn n r i
   unfolding run_turn
   run_ends t u f = no _ _ _ (by_number ∙ t) (ap (λ (x : Task). record { tasks = set r.tasks i x; named = r.named }) f)
+
+-- the request at place i, after both of its turns
+pub request_turned : (n : ℕ) (ts : List Task) (p : List Request) (bs : List Bool) (i : ℕ) (q r : Request) (cs ds : List Bool)
+    → asked_of q cs ≡ start_turn n ts (asked_of (get_or p i no_request) bs) → asked_of r ds ≡ end_turn n ts (asked_of q cs)
+    → links_of (set p i r) ds ≡ request_turn n ts (links_of p bs) i
+unfolding request_turn
+request_turned n ts p bs i q r cs ds e f = ap (λ (a : Asked). links_of (set p i a.request) a.named) (f ∙ ap (end_turn n ts) e)
 
 -- a subprogram whose holder is busy, and one that is freed
 module _ (n : ℕ) (ts : List Task) (s : Sub) where

@@ -21,8 +21,8 @@ use Rattle.executive.specs.Messages.{mail_at}
 use Rattle.executive.specs.WellFormed.{ends_of}
 use Rattle.executive.specs.Check.{is_task, is_free, names_others}
 use Rattle.executive.proofs.Assured.{and_true, not-zero, every_make, blank-pad, free-is, length-pad, take-le, Lt, lt_yes, lt_no, ltb-is}
-use Rattle.mender.specs.declared.links.Runs.{Runs}
-use Rattle.mender.specs.declared.links.Links.{Links}
+use Rattle.mender.specs.Links.{Runs}
+use Rattle.mender.specs.Links.{Links}
 use Rattle.mender.specs.Rules.{own_rule, first_broken}
 use Rattle.mender.specs.Passes.{keeps_request, unlinked, linked_runs, linked_requests, link_pass}
 use Rattle.mender.proofs.Passed.{Owned, Queued, Linked}

@@ -19,7 +19,7 @@ use Rattle.executive.specs.States.{await_start, await_end, state_kind, is_of}
 use Rattle.executive.specs.WellFormed.{runs_of}
 use Rattle.executive.specs.Check.{is_task}
 use Rattle.executive.proofs.Assured.{and_true, true_and, not-of, of-not, not-zero}
-use Rattle.mender.specs.declared.links.Runs.{Runs}
+use Rattle.mender.specs.Links.{Runs}
 use Rattle.mender.specs.Passes.{named_at, marked, stands, unlinked, run_turn, none_named, linked_runs}
 use Rattle.mender.proofs.Turns.{each_keeps}
 use Rattle.mender.proofs.Sums.{sum-next, sum-next-set}

@@ -20,9 +20,9 @@ use Rattle.executive.specs.States.{await_start, await_end, is_dormant}
 use Rattle.executive.specs.Entries.{with_state}
 use Rattle.executive.specs.Messages.{mail_at}
 use Rattle.executive.specs.Check.{is_nobody}
-use Rattle.mender.specs.declared.links.Runs.{Runs}
-use Rattle.mender.specs.declared.links.Asked.{Asked}
-use Rattle.mender.specs.declared.links.Links.{Links}
+use Rattle.mender.specs.Links.{Runs}
+use Rattle.mender.specs.Links.{Asked}
+use Rattle.mender.specs.Links.{Links}
 use Rattle.mender.specs.declared.links.Linked.{Linked}
 use Rattle.mender.specs.Rules.{own_rules, own_rule_at}
 use Rattle.mender.specs.Passes.{entry_after, mail_after, own_pass, queued_pass, marked, unlinked, startless, endless, run_turn, linked_runs, stands, start_turn, end_turn, request_turn, linked_requests, link_pass, held_pass, is_lost, waiter_after, waiter_pass, named_at}

@@ -22,9 +22,9 @@ use Rattle.executive.specs.Messages.{mail_at}
 use Rattle.executive.specs.WellFormed.{starts_of, ends_of, runs_of}
 use Rattle.executive.specs.Check.{is_nobody}
 use Rattle.executive.proofs.Assured.{false_not_true, true_and, eqb_self, not-zero, one-le, one_true, one-zero, Lt, lt_yes, lt_no, ltb-is, Le, le_yes, le-no, leb-is}
-use Rattle.mender.specs.declared.links.Runs.{Runs}
-use Rattle.mender.specs.declared.links.Asked.{Asked}
-use Rattle.mender.specs.declared.links.Links.{Links}
+use Rattle.mender.specs.Links.{Runs}
+use Rattle.mender.specs.Links.{Asked}
+use Rattle.mender.specs.Links.{Links}
 use Rattle.mender.specs.Passes.{laid, named_at, stands, unlinked, run_turn, none_named, linked_runs, marked, startless, endless, start_turn, end_turn, request_turn, linked_requests, link_pass}
 use Rattle.mender.proofs.Turns.{each_keeps}
 use Rattle.mender.proofs.Passed.{Clean}

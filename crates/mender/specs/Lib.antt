@@ -3,6 +3,7 @@
 pub mod Rows
 pub mod Filled
 pub mod Rules
+pub mod Links
 pub mod Passes
 pub mod Rounds
 pub mod Rebuilding

@@ -21,9 +21,9 @@ use Rattle.executive.specs.Messages.{no_mail, with_letters}
 use Rattle.executive.specs.Subprograms.{no_subprogram}
 use Rattle.executive.specs.Letters.{all_that}
 use Rattle.executive.specs.Check.{is_task, is_nobody, target_busy, message_in_range, alarm_right}
-use Rattle.mender.specs.declared.links.Runs.{Runs}
-use Rattle.mender.specs.declared.links.Asked.{Asked}
-use Rattle.mender.specs.declared.links.Links.{Links}
+use Rattle.mender.specs.Links.{Runs}
+use Rattle.mender.specs.Links.{Asked}
+use Rattle.mender.specs.Links.{Links}
 use Rattle.mender.specs.declared.links.Linked.{Linked}
 use Rattle.mender.specs.Rows.{row}
 
