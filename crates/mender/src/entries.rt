@@ -92,8 +92,7 @@ fn is_free(subs: [Sub; 8], m: u8) -> bool
     if 7 < m {
         return true;
     }
-    let s = subs[m as usize];
-    s.holder.0 == 0
+    subs[m as usize].holder.0 == 0
 }
 
 // Whether a task waits for a start or an end.
@@ -111,19 +110,14 @@ fn is_lost(subs: [Sub; 8], named: bool, s: State) -> bool
     if awaits_link(s) {
         return !named;
     }
-    if !states::is_of(s, states::AWAIT_SUB) {
-        return false;
-    }
-    let m = states::awaited_of(s);
-    is_free(subs, m)
+    states::is_of(s, states::AWAIT_SUB) && is_free(subs, states::awaited_of(s))
 }
 
 #[tactic(auto, unfolding(crate::specs::Passes::waiter_after))]
 fn waiter_after(subs: [Sub; 8], named: bool, e: Task) -> Task
     ensures { result ≡ waiter_after subs named e }
 {
-    let s = e.state;
-    if is_lost(subs, named, s) {
+    if is_lost(subs, named, e.state) {
         return entries::with_state(e, State::Ready);
     }
     e

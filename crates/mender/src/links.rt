@@ -19,10 +19,7 @@ fn named_at(named: [bool; 16], w: TaskNo) -> bool
     ensures { result ≡ named_at named w.0 }
 {
     let i = places::entry_place(w);
-    if 15 < i {
-        return false;
-    }
-    named[i]
+    i < 16 && named[i]
 }
 
 fn mark(named: &mut [bool; 16], w: TaskNo)

@@ -24,8 +24,7 @@ fn answer(number: u8, table: Table, l: Filled<Note, 16>) -> Mended
 fn as_given(number: u8, table: Table) -> Mended
     ensures { result ≡ answered number table [] }
 {
-    let none = notes::none();
-    answer(number, table, none)
+    answer(number, table, notes::none())
 }
 
 // The table after its rounds, of which one is enough, and the rebuilding, with its list.
@@ -33,11 +32,8 @@ fn mended(table: Table) -> Mended
     ensures { result ≡ answered 0 (rebuilt (round table)) (notes_at table (rebuilt (round table))) }
 {
     let broken = own::own_rules(table);
-    let settled = passes::round(table, broken);
-    let whole = lines::rebuilt(settled);
-    let given = table.tasks;
-    let tasks = whole.tasks;
-    let list = notes::notes_of(table.rest.count, broken, given, tasks);
+    let whole = lines::rebuilt(passes::round(table, broken));
+    let list = notes::notes_of(table.rest.count, broken, table.tasks, whole.tasks);
     answer(0, whole, list)
 }
 

@@ -15,15 +15,9 @@ use records::TaskNo;
 fn own_pass(mut t: Table, broken: [Option<Rule>; 16]) -> Table
     ensures { result ≡ own_pass (numbers_of broken) t }
 {
-    let mut rest = t.rest;
-    let count = rest.count;
-    let given = t.tasks;
-    let posted = rest.mail;
-    let tasks = entries::entries_after(count, broken, given);
-    let mail = entries::mails_after(count, broken, posted);
-    rest.mail = mail;
-    t.tasks = tasks;
-    t.rest = rest;
+    let count = t.rest.count;
+    t.tasks = entries::entries_after(count, broken, t.tasks);
+    t.rest.mail = entries::mails_after(count, broken, t.rest.mail);
     t
 }
 
@@ -32,20 +26,15 @@ fn own_pass(mut t: Table, broken: [Option<Rule>; 16]) -> Table
 fn queued_pass(mut t: Table) -> Table
     ensures { result ≡ queued_pass t }
 {
-    let mut rest = t.rest;
-    let count = rest.count;
-    let tasks = t.tasks;
-    let asked = rest.pool;
-    let kept = closing::kept_requests(tasks, count, asked);
-    let sent = rest.messages;
-    let posted = closing::kept_messages(count, sent);
+    let count = t.rest.count;
+    let kept = closing::kept_requests(t.tasks, count, t.rest.pool);
+    let posted = closing::kept_messages(count, t.rest.messages);
     let pool = kept.places;
     let messages = posted.places;
-    rest.pool = pool;
-    rest.queued = kept.taken;
-    rest.messages = messages;
-    rest.sent = posted.taken;
-    t.rest = rest;
+    t.rest.pool = pool;
+    t.rest.queued = kept.taken;
+    t.rest.messages = messages;
+    t.rest.sent = posted.taken;
     t
 }
 
@@ -53,11 +42,9 @@ fn queued_pass(mut t: Table) -> Table
 fn sub_after(tasks: [Task; 16], count: u8, mut s: Sub) -> Sub
     ensures { result ≡ sub_after count tasks s }
 {
-    if entries::is_busy(tasks, count, s.holder) {
-        return s;
+    if !entries::is_busy(tasks, count, s.holder) {
+        s.holder = TaskNo(0);
     }
-    let nobody = TaskNo(0);
-    s.holder = nobody;
     s
 }
 
@@ -87,16 +74,8 @@ fn alarms_after(now: Millis, alarms: [Millis; 32]) -> [Millis; 32]
 fn held_pass(mut t: Table) -> Table
     ensures { result ≡ held_pass t }
 {
-    let mut rest = t.rest;
-    let tasks = t.tasks;
-    let held = rest.subs;
-    let subs = subs_after(tasks, rest.count, held);
-    let set = rest.alarms;
-    let now = rest.clock;
-    let alarms = alarms_after(now, set);
-    rest.subs = subs;
-    rest.alarms = alarms;
-    t.rest = rest;
+    t.rest.subs = subs_after(t.tasks, t.rest.count, t.rest.subs);
+    t.rest.alarms = alarms_after(t.rest.clock, t.rest.alarms);
     t
 }
 
@@ -105,11 +84,7 @@ fn held_pass(mut t: Table) -> Table
 fn waiter_pass(mut t: Table, named: [bool; 16]) -> Table
     ensures { result ≡ waiter_pass named t }
 {
-    let rest = t.rest;
-    let subs = rest.subs;
-    let given = t.tasks;
-    let tasks = entries::waiters_after(subs, named, given);
-    t.tasks = tasks;
+    t.tasks = entries::waiters_after(t.rest.subs, named, t.tasks);
     t
 }
 
@@ -118,18 +93,13 @@ fn waiter_pass(mut t: Table, named: [bool; 16]) -> Table
 fn settle(l: Linked) -> Table
     ensures { result ≡ settled l }
 {
-    let t = l.table;
-    let named = l.named;
-    let held = held_pass(t);
-    waiter_pass(held, named)
+    waiter_pass(held_pass(l.table), l.named)
 }
 
 // A round; `broken` has the own rule that each entry breaks.
 pub(crate) fn round(t: Table, broken: [Option<Rule>; 16]) -> Table
     ensures { result ≡ settled (link_pass (queued_pass (own_pass (numbers_of broken) t))) }
 {
-    let own = own_pass(t, broken);
-    let queued = queued_pass(own);
-    let linked = links::link_pass(queued);
-    settle(linked)
+    let queued = queued_pass(own_pass(t, broken));
+    settle(links::link_pass(queued))
 }

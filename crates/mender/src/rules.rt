@@ -18,8 +18,7 @@ fn numbers_kept(e: Task, x: Mail, count: u8) -> bool
 fn zeros_kept(e: Task, x: Mail) -> bool
     ensures { result ≡ zeros_kept e x }
 {
-    let s = e.state;
-    if !states::is_dormant(s) {
+    if !states::is_dormant(e.state) {
         return true;
     }
     rules::is_zero(e) && rules::is_no_mail(x)
@@ -35,12 +34,10 @@ fn all_unfit(places: [Message; 32], k: TaskNo, s: TaskNo) -> bool
 fn none_fits(e: Task, places: [Message; 32], k: TaskNo) -> bool
     ensures { result ≡ none_fits k.0 places e.state }
 {
-    let s = e.state;
-    if !states::is_of(s, states::AWAIT_MESSAGE) {
+    if !states::is_of(e.state, states::AWAIT_MESSAGE) {
         return true;
     }
-    let from = states::awaited_of(s);
-    all_unfit(places, k, TaskNo(from))
+    all_unfit(places, k, TaskNo(states::awaited_of(e.state)))
 }
 
 // The number of a rule, as a list has it. A list's bytes are the C interface: only here a rule becomes a number.
