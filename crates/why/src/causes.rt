@@ -31,7 +31,7 @@ fn named_at(pool: &[Request], at_start: bool, k: TaskNo) -> Option<usize>
     pool.iter().position(|q| k.0 == waiter_of(*q, at_start).0)
 }
 
-// The first task whose run names a task as the waiter for its end; 17 where none does.
+// The first task whose run names a task as the waiter for its end; 17 where none does, as the definition `run_at` counts.
 fn run_at(tasks: [Task; 16], k: TaskNo) -> u8
     ensures { result ≡ run_at k.0 tasks }
 {
@@ -49,8 +49,7 @@ fn holder_at(subs: [Sub; 8], m: SubNo) -> TaskNo
     if 7 < m.0 {
         return TaskNo(0);
     }
-    let s = subs[m.0 as usize];
-    s.holder
+    subs[m.0 as usize].holder
 }
 
 // The flags of a mask that are not set.
@@ -98,8 +97,7 @@ fn by_end(tasks: [Task; 16], pool: &[Request], k: TaskNo) -> Cause
 fn by_sub(subs: [Sub; 8], m: SubNo) -> Cause
     ensures { result ≡ sub_cause m subs }
 {
-    let j = holder_at(subs, m);
-    Cause::Subprogram(m, j)
+    Cause::Subprogram(m, holder_at(subs, m))
 }
 
 // Why a task is not running, or that it is.

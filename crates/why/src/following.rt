@@ -14,7 +14,7 @@ const NO_STEP: Step = Step {
     cause: Cause::Dormant,
 };
 
-// No step yet, or none at all, with a number.
+// No step yet, or none at all. The number, and V with it, are the C interface's (docs/CALLS.md, 6), as in `Reasons`.
 fn none(number: u8, v: bool) -> Reasons
     ensures { result ≡ refusal number v }
 {
@@ -42,36 +42,22 @@ fn met_at(path: &[Step], k: TaskNo) -> Option<usize>
 }
 
 // The path with one step more.
-fn with_step(path: Reasons, k: TaskNo, cause: Cause) -> Reasons
+fn with_step(mut path: Reasons, k: TaskNo, cause: Cause) -> Reasons
     requires { path.length < 16 }
     ensures { result ≡ longer path k cause }
 {
-    let n = path.length;
-    let mut steps = path.steps;
-    steps[n as usize] = Step { task: k, cause };
-    Reasons {
-        number: path.number,
-        v: path.v,
-        steps,
-        length: n + 1,
-        ring: path.ring,
-    }
+    path.steps[path.length as usize] = Step { task: k, cause };
+    path.length += 1;
+    path
 }
 
 // The path that leads back to its step at a place: from there on it is a ring.
-fn with_ring(path: Reasons, place: u8) -> Reasons
+fn with_ring(mut path: Reasons, place: u8) -> Reasons
     requires { place ≤ path.length }
     ensures { result ≡ closed path place }
 {
-    let steps = path.steps;
-    let n = path.length;
-    Reasons {
-        number: path.number,
-        v: path.v,
-        steps,
-        length: n,
-        ring: n - place,
-    }
+    path.ring = path.length - place;
+    path
 }
 
 // The path from a task: one that has been met closes a ring; any other is a step, and leads on to whom its cause names.

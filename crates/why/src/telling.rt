@@ -145,10 +145,8 @@ fn step_line(out: &mut [u8], at: usize, step: Step) -> usize
     requires { at + 1792 ≤ length out.old }
     ensures { Adds out.old at out.new result (step_line step) × (result ≤ at + 1792) }
 {
-    let task = step.task;
-    let cause = step.cause;
-    let a = worded(out, at, b"task ", task.0 as u64);
-    let b = cause_text(out, a, cause);
+    let a = worded(out, at, b"task ", step.task.0 as u64);
+    let b = cause_text(out, a, step.cause);
     glyphs::put(out, b, 10)
 }
 
