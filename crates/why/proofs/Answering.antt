@@ -10,13 +10,8 @@ use Rattle.executive.specs.declared.Table.{Table}
 use Rattle.executive.specs.Check.{Checked, is_well_formed}
 use Rattle.executive.specs.WellFormed.{WellFormed}
 use Rattle.executive.proofs.Assured.{decided}
-use Rattle.why.specs.Causes.{Sized}
 use Rattle.why.specs.Paths.{refusal, task_path, explained}
 use Rattle.why.proofs.Searching.{decide, never}
-
--- a well-formed table's lines lie within their arrays
-pub sized : (t : Table) → WellFormed t → Sized t
-sized t w = record { ready = w.numbers.ready; queued = w.numbers.queued }
 
 module _ (t : Table) where
   -- what the check's answer says of its test

@@ -54,12 +54,8 @@ abbrev pub gone_on : (TaskNo → Reasons) → Option TaskNo → Reasons → Reas
 gone_on go None p = p
 gone_on go (Some j) p = go j
 
-module _ (go : TaskNo → Reasons) (r : Option TaskNo) (p q : Reasons) (h : gone_on go r p ≡ q) where
-  pub ended : r ≡ None → p ≡ q
-  ended e = sym (ap (λ x. gone_on go x p) e) ∙ h
-
-  pub led : (k : TaskNo) → r ≡ Some k → go k ≡ q
-  led k e = sym (ap (λ x. gone_on go x p) e) ∙ h
+pub led : (go : TaskNo → Reasons) (r : Option TaskNo) (p q : Reasons) → gone_on go r p ≡ q → (k : TaskNo) → r ≡ Some k → go k ≡ q
+led go r p q h k e = sym (ap (λ x. gone_on go x p) e) ∙ h
 
 module _ (t : Table) (k : ℕ) (go : TaskNo → Reasons) (p : Reasons) where
   goes : (c : Cause) → Type 0

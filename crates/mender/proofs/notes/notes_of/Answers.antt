@@ -22,9 +22,6 @@ loop-i-init c =
     let a = c.args in
     (e ∙ ap noted_of (sym (ap standing e)), omega (arith, ap (λ (l : Filled Note most_tasks). l.taken) e), ap (λ (l : Filled Note most_tasks). each (note_turn a.count (numbers_of a.broken) a.given a.mended) 16 0 (standing l)) e)
 
-pub with_note-l-requires : goal.with_note-l-requires
-with_note-l-requires c = let v = c.loop-i in omega (arith, v.invariant.1)
-
 pub loop-i-preserved : goal.loop-i-preserved
 loop-i-preserved c =
     let a = c.args in

@@ -1,7 +1,7 @@
 -- `following::explain` meets its contract: the check, the task's number, and then the path.
 use native.Mathlib.Omega.{arith}
 use mathlib.Core.Path.{sym, ◌∙◌}
-use Rattle.why.proofs.Answering.{sized, formed-by, ill-by, answer-one, answer-none, answer-some}
+use Rattle.why.proofs.Answering.{formed-by, ill-by, answer-one, answer-none, answer-some}
 use Rattle.why.proofs.following.explain.Goals as goal
 
 pub returns-then-check-ne0 : goal.returns-then-check-ne0
@@ -14,12 +14,6 @@ returns-then-no_such_task c =
     let a = c.args in
     let w = formed-by a.table c.check.result c.check.ensures (omega (arith, c.if-check-ne0.false)) in
     c.none-then-no_such_task.ensures ∙ sym (answer-none a.table a.task w (sym c.no_such_task.ensures ∙ c.if-no_such_task.true))
-
-pub path_from-requires : goal.path_from-requires
-path_from-requires c =
-    let a = c.args in
-    let w = formed-by a.table c.check.result c.check.ensures (omega (arith, c.if-check-ne0.false)) in
-    sized a.table w
 
 pub returns : goal.returns
 returns c =

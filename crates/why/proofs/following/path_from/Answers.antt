@@ -7,11 +7,8 @@ use lib.Seq.{length-take-le}
 use Rattle.executive.proofs.Assured.{take-le}
 use Rattle.why.specs.declared.Reasons.{Reasons}
 use Rattle.why.specs.Paths.{met_at, closed, unmet, task_path}
-use Rattle.why.proofs.Onward.{ended, led, met_is, path_ring, path_full, path_on}
+use Rattle.why.proofs.Onward.{led, met_is, path_ring, path_full, path_on}
 use Rattle.why.proofs.following.path_from.Goals as goal
-
-pub returns : goal.returns
-returns c = ended _ _ _ _ c.loop-next.invariant.1 c.in_default.is
 
 pub returns-in-Some-met_at : goal.returns-in-Some-met_at
 returns-in-Some-met_at c =

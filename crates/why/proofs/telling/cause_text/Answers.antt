@@ -13,18 +13,6 @@ returns-in-Active c =
     let p = put_last c.text-in-Active.ensures (omega (arith, c.requires)) in
     rw c.in-Active.is (p, omega (arith, p.place))
 
-pub returns-in-Ready : goal.returns-in-Ready
-returns-in-Ready c =
-    rw c.in-Ready.is (c.worded.ensures.0, omega (arith, c.worded.ensures.1))
-
-pub returns-in-Paused : goal.returns-in-Paused
-returns-in-Paused c =
-    rw c.in-Paused.is (c.said.ensures.0, omega (arith, c.said.ensures.1))
-
-pub returns-in-Due : goal.returns-in-Due
-returns-in-Due c =
-    rw c.in-Due.is (c.said-in-Due.ensures.0, omega (arith, c.said-in-Due.ensures.1))
-
 pub returns-in-Flags : goal.returns-in-Flags
 returns-in-Flags c =
     rw c.in-Flags.is (then c.mode_words-a.ensures.0 c.bits.ensures.0, omega (arith, c.mode_words-a.ensures.1, c.bits.ensures.1))
@@ -37,14 +25,6 @@ pub returns-in-EndOfRequest : goal.returns-in-EndOfRequest
 returns-in-EndOfRequest c =
     rw c.in-EndOfRequest.is (then c.said-a-in-EndOfRequest.ensures.0 c.number-in-EndOfRequest.ensures.0, omega (arith, c.said-a-in-EndOfRequest.ensures.1, c.number-in-EndOfRequest.ensures.1))
 
-pub returns-in-EndOfRun : goal.returns-in-EndOfRun
-returns-in-EndOfRun c =
-    rw c.in-EndOfRun.is (c.said-in-EndOfRun.ensures.0, omega (arith, c.said-in-EndOfRun.ensures.1))
-
 pub returns-in-Subprogram : goal.returns-in-Subprogram
 returns-in-Subprogram c =
     rw c.in-Subprogram.is (then c.said-a-in-Subprogram.ensures.0 c.number-in-Subprogram.ensures.0, omega (arith, c.said-a-in-Subprogram.ensures.1, c.number-in-Subprogram.ensures.1))
-
-pub returns-in-Message : goal.returns-in-Message
-returns-in-Message c =
-    rw c.in-Message.is (c.message_words.ensures.0, omega (arith, c.message_words.ensures.1))
