@@ -57,13 +57,13 @@ module _ (f : ℕ → Bool) where
 
 -- ---- a test of each element of a list, by its places
 module _ {A : Type 0} (f : A → Bool) (d : A) where
-  each-get : (xs : List A) → all_of f xs ≡ true → (i : ℕ) → i < length xs → f (get_or xs i d) ≡ true
+  pub each-get : (xs : List A) → all_of f xs ≡ true → (i : ℕ) → i < length xs → f (get_or xs i d) ≡ true
   unfolding all_of
   each-get [] e i h = absurd (omega arith)
   each-get (x ∷ xs) e zero h = (both (f x) (all_of f xs) e).0
   each-get (x ∷ xs) e (suc i) h = each-get xs (both (f x) (all_of f xs) e).1 i (omega arith)
 
-  each_make : (xs : List A) → ((i : ℕ) → i < length xs → f (get_or xs i d) ≡ true) → all_of f xs ≡ true
+  pub each_make : (xs : List A) → ((i : ℕ) → i < length xs → f (get_or xs i d) ≡ true) → all_of f xs ≡ true
   unfolding all_of
   each_make [] h = refl
   each_make (x ∷ xs) h = rw (h zero (omega arith)) (each_make xs (λ i l. h (suc i) (omega arith)))

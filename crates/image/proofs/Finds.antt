@@ -1,14 +1,18 @@
 -- The searches on the bytes of an image: what is read at each place, and the laws of the walks.
-use Prim.Native.Nat.{ℕ, suc, ◌+◌, ◌*◌, ◌≤◌, ◌<◌}
+use Prim.Native.Nat.{ℕ, zero, suc, ◌+◌, ◌*◌, ◌≤◌, ◌<◌}
 use mathlib.Core.Path.{◌≡◌, refl, sym, ap, ◌∙◌}
 use mathlib.Core.Bool.{Bool, true, false, not}
-use mathlib.Core.List.{List}
+use mathlib.Core.List.{List, [], ◌∷◌}
 use native.Mathlib.Omega.{arith}
 use native.Mathlib.Numerals.{add-one}
-use borrow.Author.Tests.{eq-eqb, ne_eqb}
+use borrow.Author.Tests.{eq-eqb, ne_eqb, eqb-true, eqb-false}
 use lib.Dec.{eqb}
-use lib.ListN.{length, get_or, take, drop, drop_of_length-le}
-use lib.Seq.{length-take-le, get_or-take, drop-cons}
+use lib.ListN.{length, get_or, take, drop}
+use lib.Seq.{length-take-le, get_or-take}
+use Rattle.std.proofs.Common.{None, Some}
+use Rattle.std.specs.declared.option.Option.{Option}
+use Rattle.std.specs.Bool.{MatchBool}
+use Rattle.std.specs.Option.{unwrap_or}
 use Rattle.records.specs.declared.TaskNo.{TaskNo}
 use Rattle.executive.specs.declared.Request.{Request}
 use Rattle.executive.specs.declared.Sub.{Sub}
@@ -20,9 +24,12 @@ use Rattle.executive.specs.Pool.{place_of}
 use Rattle.executive.specs.Table.{head_of}
 use Rattle.executive.specs.Subprograms.{no_subprogram, sub_at, line_of, holds?, holds_any_of}
 use Rattle.executive.specs.Messages.{no_message, fits}
-use Rattle.executive.proofs.Assured.{next-hit, next-pass, next-end, every-turn, every-not, every-end, head-taken}
+use Rattle.executive.proofs.Assured.{next-hit, next-pass, next-end, head-taken}
 use Rattle.image.specs.Laid.{Laid, LineAt}
+use Rattle.image.proofs.Alike.{decide, never}
+use Rattle.image.proofs.Beheld.{each-get, each_make}
 use Rattle.image.proofs.Parts.{read-laid}
+use Rattle.image.proofs.Ranges.{First}
 use Rattle.image.proofs.RestLaid.{sub_read}
 use Rattle.image.proofs.LoadLaid.{request_read, message_read, sub-line}
 
@@ -68,32 +75,33 @@ module _ {s : List ℕ} (t : Table) (l : Laid s t) where
       let f : get_or s (914 + m * 18 + 2) 0 ≡ (get_or (sub_at t.rest m).line 0 nobody).0 = ap (λ k. get_or s k 0) y ∙ sub-line t l m 0 h (omega arith) in
       (λ j. record { 0 = f j }) ∙ head-taken nobody (sub_at t.rest m).waiting (sub_at t.rest m).line g (l.sizes.lines m)
 
--- ---- the first request for task k, of n
-module _ (k : ℕ) (p : List Request) (n : ℕ) (hn : n ≤ length p) where
-  long : length (take n p) ≡ n
-  long = length-take-le n p hn
-
-  pub first-hit : (i : ℕ) → i < n → place_of k (take n p) ≡ i + place_of k (drop i (take n p)) → k ≡ (get_or p i no_request).target.0 → i ≡ place_of k (take n p)
+-- ---- the first request for task k: its place among those of a list
+module _ (k : ℕ) where
+  place-here : (p : List Request) (i : ℕ) → i < length p → k ≡ (get_or p i no_request).target.0 → ((j : ℕ) → j < i → k ≡ (get_or p j no_request).target.0 → ⊥) → place_of k p ≡ i
   unfolding place_of
-  first-hit i h e x =
-      let m : length (take n p) ≡ n = long in
-      let z : place_of k (drop i (take n p)) ≡ 0 = rw (drop-cons (take n p) i no_request (omega arith), get_or-take n p i no_request h, eq-eqb _ _ x) refl in
-      omega arith
+  place-here [] i h e f = absurd (omega arith)
+  place-here (q ∷ p) zero h e f = rw (eq-eqb k q.target.0 e) refl
+  place-here (q ∷ p) (suc i) h e f = rw (ne_eqb k q.target.0 (f 0 (omega arith))) (ap suc (place-here p i (omega arith) e (λ j g. f (suc j) (omega arith))))
 
-  pub first-miss : (i : ℕ) → i < n → place_of k (take n p) ≡ i + place_of k (drop i (take n p)) → (k ≡ (get_or p i no_request).target.0 → ⊥)
-      → place_of k (take n p) ≡ i + 1 + place_of k (drop (i + 1) (take n p))
+  place-none : (p : List Request) → ((j : ℕ) → j < length p → k ≡ (get_or p j no_request).target.0 → ⊥) → place_of k p ≡ length p
   unfolding place_of
-  first-miss i h e x =
-      let m : length (take n p) ≡ n = long in
-      let z : place_of k (drop i (take n p)) ≡ suc (place_of k (drop (suc i) (take n p))) =
-      rw (drop-cons (take n p) i no_request (omega arith), get_or-take n p i no_request h, ne_eqb _ _ x) refl in
-      rw add-one (omega arith)
+  place-none [] f = refl
+  place-none (q ∷ p) f = rw (ne_eqb k q.target.0 (f 0 (omega arith))) (ap suc (place-none p (λ j g. f (suc j) (omega arith))))
 
-  pub first-none : (i : ℕ) → i ≡ n → place_of k (take n p) ≡ i + place_of k (drop i (take n p)) → i ≡ place_of k (take n p)
-  unfolding place_of
-  first-none i h e =
-      let z : place_of k (take n p) ≡ i + 0 = rw (drop_of_length-le (take n p) {i = i} (rw long (omega arith))) at e in
-      omega arith
+  -- among the first n; x reads each target
+  pub first-place : (p : List Request) (n : ℕ) → n ≤ length p → (x : ℕ → ℕ) → ((i : ℕ) → i < n → x i ≡ (get_or p i no_request).target.0)
+      → (r : Option ℕ) → First (λ i. eqb k (x i)) n r → place_of k (take n p) ≡ unwrap_or r n
+  first-place p n h x read r m =
+      let l : length (take n p) ≡ n = length-take-le n p h in
+      let at : (j : ℕ) → j < n → x j ≡ (get_or (take n p) j no_request).target.0 = λ j b. read j b ∙ sym (ap (λ (q : Request). q.target.0) (get_or-take n p j no_request b)) in
+      let other : (j : ℕ) → j < n → eqb k (x j) ≡ false → k ≡ (get_or (take n p) j no_request).target.0 → ⊥ = λ j b z e. eqb-false k (x j) z (e ∙ sym (at j b)) in
+      go r m l at other
+    where
+      go : (r : Option ℕ) → First (λ i. eqb k (x i)) n r → length (take n p) ≡ n → ((j : ℕ) → j < n → x j ≡ (get_or (take n p) j no_request).target.0)
+          → ((j : ℕ) → j < n → eqb k (x j) ≡ false → k ≡ (get_or (take n p) j no_request).target.0 → ⊥) → place_of k (take n p) ≡ unwrap_or r n
+      go None m l at other = place-none (take n p) (λ j g. let b : j < n = omega arith in other j b (m j b)) ∙ l
+      go (Some i) m l at other =
+          place-here (take n p) i (omega (arith, m.0)) (eqb-true k (x i) m.1 ∙ at i m.0) (λ j g. other j (omega (arith, m.0)) (m.2 j g))
 
 -- ---- the first that passes a test, of n
 module _ {A : Type 0} (t : A → Bool) (d : A) (p : List A) (n : ℕ) (hn : n ≤ length p) (i : ℕ) (e : next_of t i (drop i (take n p)) ≡ next_of t 0 (take n p)) where
@@ -117,19 +125,14 @@ module _ (k s a b : ℕ) (m : Message) (ea : a ≡ m.to.0) (eb : b ≡ m.sender.
   pub fits-from : (r : Bool) → k ≡ a → (s ≡ 0 → ⊥) → r ≡ eqb s b → r ≡ fits k s m
   fits-from r h z e = rw (← ea, ← eb, eq-eqb k a h, ne_eqb s 0 z) e
 
--- ---- whether task k holds any; x is the holder of the one at i
-module _ (k : TaskNo) (ss : List Sub) (i x : ℕ) (ex : x ≡ (get_or ss i no_subprogram).holder.0) (e : all_of (λ (y : Sub). not (holds? k y)) (drop i ss) ≡ all_of (λ (y : Sub). not (holds? k y)) ss) where
-  pub held-here : i < length ss → k.0 ≡ x → true ≡ holds_any_of k ss
-  unfolding holds_any_of
-  held-here h f =
-      let z : all_of (λ (y : Sub). not (holds? k y)) (drop i ss) ≡ false =
-      every-not (λ (y : Sub). not (holds? k y)) no_subprogram ss i h (ap not (eq-eqb k.0 (get_or ss i no_subprogram).holder.0 (f ∙ ex))) in
-      ap not (sym z ∙ e)
-
-  pub held_on : i < length ss → (k.0 ≡ x → ⊥) → all_of (λ (y : Sub). not (holds? k y)) (drop (i + 1) ss) ≡ all_of (λ (y : Sub). not (holds? k y)) ss
-  held_on h f = every-turn (λ (y : Sub). not (holds? k y)) no_subprogram ss i h (ap not (ne_eqb k.0 (get_or ss i no_subprogram).holder.0 (λ g. f (g ∙ sym ex)))) ∙ e
-
-pub held_none : (k : TaskNo) (ss : List Sub) (i : ℕ) → all_of (λ (y : Sub). not (holds? k y)) (drop i ss) ≡ all_of (λ (y : Sub). not (holds? k y)) ss → length ss ≤ i
-    → false ≡ holds_any_of k ss
+-- ---- whether task k holds any; x reads each holder
+pub held-any : (k : TaskNo) (ss : List Sub) (x : ℕ → ℕ) → ((i : ℕ) → i < length ss → x i ≡ (get_or ss i no_subprogram).holder.0) → (r : Bool)
+    → MatchBool r ((i : ℕ) × (i < length ss) × (eqb k.0 (x i) ≡ true)) ((i : ℕ) → i < length ss → eqb k.0 (x i) ≡ false)
+    → r ≡ holds_any_of k ss
 unfolding holds_any_of
-held_none k ss i e h = ap not (sym (every-end (λ (y : Sub). not (holds? k y)) no_subprogram ss i h) ∙ e)
+held-any k ss x read true (i, h, e) =
+    let f : Sub → Bool = λ y. not (holds? k y) in
+    let z : f (get_or ss i no_subprogram) ≡ false = ap not (ap (eqb k.0) (sym (read i h)) ∙ e) in
+    ap not (sym (decide (all_of f ss) (λ g. absurd (never (sym z ∙ each-get f no_subprogram ss g i h))) (λ g. g)))
+held-any k ss x read false m =
+    ap not (sym (each_make (λ (y : Sub). not (holds? k y)) no_subprogram ss (λ i h. ap not (ap (eqb k.0) (sym (read i h)) ∙ m i h))))

@@ -1,10 +1,10 @@
 -- A fresh table made in its image: all zero, the sizes, the tasks dormant, the starts one after the other.
 use Prim.Native.Nat.{ℕ, zero, suc, ◌+◌, ◌-◌, ◌*◌, ◌≤◌, ◌<◌}
 use mathlib.Core.Path.{◌≡◌, refl, sym, ap, subst, ◌∙◌}
-use mathlib.Core.List.{List, [], ◌∷◌, ◌++◌, append-nil}
+use mathlib.Core.List.{List, []}
 use native.Mathlib.Omega.{arith}
 use borrow.Author.Tests.{eq-eqb, ne_eqb}
-use lib.ListN.{length, get_or, drop, set, replicate}
+use lib.ListN.{length, get_or, set, replicate}
 use Rattle.records.specs.Numbers.{bytes_in}
 use Rattle.executive.specs.declared.Request.{Request}
 use Rattle.executive.specs.declared.Sub.{Sub}
@@ -27,21 +27,7 @@ use Rattle.image.specs.Laid.{Laid, with_tasks}
 use Rattle.image.proofs.Parts.{put_laid, entry-laid}
 use Rattle.image.proofs.DoneLaid.{entered-sorted}
 
--- ---- all zero: the first i bytes are, the others are as they were
-zero_more : (i : ℕ) (s : List ℕ) → i < length s → set (replicate i 0 ++ drop i s) i 0 ≡ replicate (suc i) 0 ++ drop (suc i) s
-zero_more i [] h = absurd (omega arith)
-zero_more zero (x ∷ s) h = refl
-zero_more (suc i) (x ∷ s) h = ap (λ (l : List ℕ). 0 ∷ l) (zero_more i s (omega arith))
-
-pub zero_turn : (i : ℕ) (s : List ℕ) {b : List ℕ} → i < length s → b ≡ replicate i 0 ++ drop i s → set b i 0 ≡ replicate (i + 1) 0 ++ drop (i + 1) s
-zero_turn i s h e = let z : i + 1 ≡ suc i = omega arith in rw (e, z) (zero_more i s h)
-
-none_left : (i : ℕ) (s : List ℕ) → length s ≤ i → drop i s ≡ []
-none_left zero [] h = refl
-none_left (suc i) [] h = refl
-none_left zero (x ∷ s) h = absurd (omega arith)
-none_left (suc i) (x ∷ s) h = none_left i s (omega arith)
-
+-- ---- all zero
 -- a blank rest has its arrays' lengths, whatever its sizes
 blank-sizes : (n g : ℕ) → Sizes (with_rest (blank_rest n g) zero_table)
 unfolding pad
@@ -60,8 +46,8 @@ all-zero : replicate image_length 0 ≡ image_of zero_table
 unfolding image_of pad row
 all-zero = refl
 
-pub zero-end : (i : ℕ) (s : List ℕ) {b : List ℕ} → i ≡ image_length → length s ≤ i → b ≡ replicate i 0 ++ drop i s → Laid b zero_table
-zero-end i s z h e = record { image = e ∙ rw (none_left i s h, append-nil {A = ℕ} (replicate i 0), z) all-zero; sizes = blank-sizes 0 0 }
+pub zero-laid : {b : List ℕ} → b ≡ replicate image_length 0 → Laid b zero_table
+zero-laid e = record { image = e ∙ all-zero; sizes = blank-sizes 0 0 }
 
 -- ---- the sizes
 pub sizes-laid : {s r q : List ℕ} (n g : ℕ) → Laid s zero_table → r ≡ written s 433 (bytes_in 1 n) → q ≡ written r 434 (bytes_in 1 g) → Laid q (with_rest (blank_rest n g) zero_table)

@@ -29,6 +29,7 @@ pub mod Searches
 pub mod RingLaid
 pub mod Timings
 pub mod Padded
+pub mod Ranges
 pub mod Answered
 pub mod Explained
 pub mod Histories

@@ -1,19 +1,15 @@
 -- Bytes that read alike load alike, and bytes with 0 behind them read as they did without.
-use Prim.Native.Nat.{ℕ, zero, suc, ◌+◌, ◌*◌, ◌≤◌, ◌<◌}
-use mathlib.Core.Path.{◌≡◌, refl, sym, ap, ap₂, ◌∙◌}
-use mathlib.Core.List.{List, [], ◌∷◌}
+use Prim.Native.Nat.{ℕ, zero, suc, ◌+◌, ◌*◌, ◌≤◌}
+use mathlib.Core.Path.{◌≡◌, refl, ap, ap₂}
+use mathlib.Core.List.{List, [], ◌∷◌, ◌++◌}
 use native.Mathlib.Omega.{arith}
-use lib.Dec.{eqb, ltb}
-use lib.ListN.{length, get_or, set, replicate, get_or-eq_default}
-use lib.Seq.{get_or-set_same, get_or-set_other}
-use borrow.Author.Tests.{eqb-true, eqb-false, ltb-true, ltb-false}
+use lib.ListN.{length, get_or, drop, replicate, length-replicate}
 use Rattle.records.specs.Numbers.{number_of, part, cut}
 use Rattle.image.specs.Blocks.{blocks}
 use Rattle.image.specs.Image.{task_widths, place_widths, head_widths, alarm_widths, request_widths, levels_widths, awaited_widths, sub_widths}
 use Rattle.image.specs.Image.{task_of, place_of, alarm_of, request_of, sub_of, table_of, task_from, place_from, alarm_from, request_from, line_from, sub_from}
 use Rattle.image.specs.Image.{queue_at, head_at, alarms_at, pool_at, levels_at, awaited_at, subs_at, task_length, sub_length, load_of}
 use Rattle.image.specs.Image.{message_widths, sent_widths, mail_widths, message_of, mail_of, message_from, mail_from, messages_at, sent_at, mails_at, message_length, mail_length}
-use Rattle.image.proofs.Alike.{decide}
 
 -- ---- the same elements at each place
 blocks-same : {A : Type 0} (f g : ℕ → A) → ((i : ℕ) → f i ≡ g i) → (w n at : ℕ) → blocks f w n at ≡ blocks g w n at
@@ -55,29 +51,23 @@ module _ (s r : List ℕ) (h : (i : ℕ) → get_or s i 0 ≡ get_or r i 0) wher
       let el = blocks-same (mail_from s) (mail_from r) (λ i. ap mail_of (cut-same mail_widths i)) mail_length 16 mails_at in
       λ i. table_of (eh i) (et i) (eq i) (ea i) (ep i) (eg i) (es i) (em i) (en i) (el i)
 
--- ---- q has the first i bytes of s, and 0 behind them
-pub record Pads (s q : List ℕ) (i : ℕ) : Type 0 where
-  pub there : (j : ℕ) → j < i → get_or q j 0 ≡ get_or s j 0
-  pub behind : (j : ℕ) → i ≤ j → get_or q j 0 ≡ 0
-
-pub zeros-read : (n j : ℕ) → ◌≡◌ {A = ℕ} (get_or (replicate n 0) j 0) 0
+-- ---- bytes with zeros behind them, up to a length of n
+zeros-read : (n j : ℕ) → ◌≡◌ {A = ℕ} (get_or (replicate n 0) j 0) 0
 zeros-read zero j = refl
 zeros-read (suc n) zero = refl
 zeros-read (suc n) (suc j) = zeros-read n j
 
-pub pads_turn : (s q : List ℕ) (i : ℕ) → i < length q → Pads s q i → Pads s (set q i (get_or s i 0)) (i + 1)
-pads_turn s q i l p =
-    record {
-      there =
-          λ j h.
-          decide (eqb j i)
-          (λ e. let z = eqb-true j i e in rw z (get_or-set_same q i (get_or s i 0) 0 l))
-          (λ e. let z = eqb-false j i e in get_or-set_other q i j (get_or s i 0) 0 z ∙ p.there j (omega arith));
-      behind = λ j h. get_or-set_other q i j (get_or s i 0) 0 (λ e. omega arith) ∙ p.behind j (omega arith);
-    }
+padded_long : (s : List ℕ) (n : ℕ) → length s ≤ n → length (s ++ drop (length s) (replicate n 0)) ≡ n
+padded_long [] n h = simp length-replicate
+padded_long (x ∷ s) zero h = absurd (omega arith)
+padded_long (x ∷ s) (suc n) h = ap suc (padded_long s n (omega arith))
 
-pub pads_end : (s q : List ℕ) (i : ℕ) → length s ≤ i → Pads s q i → (j : ℕ) → get_or q j 0 ≡ get_or s j 0
-pads_end s q i l p j =
-    decide (ltb j i)
-    (λ e. p.there j (ltb-true j i e))
-    (λ e. let z = ltb-false j i e in p.behind j z ∙ sym (get_or-eq_default s 0 {n = j} (omega arith)))
+padded_read : (s : List ℕ) (n : ℕ) → length s ≤ n → (j : ℕ) → get_or (s ++ drop (length s) (replicate n 0)) j 0 ≡ get_or s j 0
+padded_read [] n h j = zeros-read n j
+padded_read (x ∷ s) zero h j = absurd (omega arith)
+padded_read (x ∷ s) (suc n) h zero = refl
+padded_read (x ∷ s) (suc n) h (suc j) = padded_read s n (omega arith) j
+
+pub padded : (s q : List ℕ) (n : ℕ) → q ≡ s → length s ≤ n
+    → (length (q ++ drop (length s) (replicate n 0)) ≡ n) × ((j : ℕ) → get_or (q ++ drop (length s) (replicate n 0)) j 0 ≡ get_or s j 0)
+padded s q n e h = rw e (padded_long s n h, padded_read s n h)

@@ -1,8 +1,9 @@
 // Whether some bytes are an image: they have its length, and each task's entry holds the numbers of a state. Any bytes
 // may stand in its other places.
-ghost use Rattle.std.specs.Prelude.{◌≡◌, false, cond, eqb};
-ghost use Rattle.image.specs.Image.{is_image};
+ghost use Rattle.std.specs.Prelude.{◌≡◌, ◌<◌, false, cond, eqb, length};
+ghost use Rattle.image.specs.Image.{image_length, is_image};
 ghost use Rattle.image.specs.Coding.{is_code};
+ghost use Rattle.image.specs.Sound.{code_at};
 
 use crate::{AWAITED, IMAGE, numbers};
 use executive::Millis;
@@ -40,6 +41,17 @@ pub(crate) fn is_code(kind: u8, time: Millis, mask: u32, number: u8) -> bool
     }
 }
 
+// Whether the i-th entry holds the numbers of a state.
+fn holds_code(bytes: &[u8], i: usize) -> bool
+    requires { (length bytes.now ≡ image_length) × (i < 16) }
+    ensures { result ≡ code_at bytes.now i }
+{
+    let at = i * 26;
+    let time = numbers::long_in(bytes, at + 2);
+    let mask = numbers::word_in(bytes, at + 10);
+    is_code(bytes[at + 1], Millis(time), mask, bytes[AWAITED + i])
+}
+
 // Whether the bytes are an image.
 pub(crate) fn is_image(bytes: &[u8]) -> bool
     ensures { result ≡ is_image bytes.now }
@@ -47,20 +59,5 @@ pub(crate) fn is_image(bytes: &[u8]) -> bool
     if bytes.len() != IMAGE {
         return false;
     }
-    let mut i: u8 = 0;
-    while i < 16 {
-        let at = (i as usize) * 26;
-        let time = numbers::long_in(bytes, at + 2);
-        let mask = numbers::word_in(bytes, at + 10);
-        if !is_code(
-            bytes[at + 1],
-            Millis(time),
-            mask,
-            bytes[AWAITED + i as usize],
-        ) {
-            return false;
-        }
-        i += 1;
-    }
-    true
+    (0..16usize).all(|i| holds_code(bytes, i))
 }

@@ -7,6 +7,7 @@ ghost use Rattle.image.specs.Image.{message_from, mail_from, messages_at, mails_
 use crate::{ALARMS, AWAITED, IMAGE, LEVELS, MAIL, MESSAGES, POOL, QUEUE, SENT, SUBS, numbers};
 use executive::{Mail, Message, Millis, Mode, Request, Rest, State, Sub, Table, Task};
 use records::{SubNo, TaskNo, Text};
+use std::array::from_fn;
 
 // The state of a kind, a time, a mask and a number. A byte that is no kind gives a wait for subprogram 255.
 pub(crate) fn state_of(kind: u8, time: Millis, mask: u32, number: u8) -> State
@@ -84,14 +85,7 @@ fn tasks_in(bytes: &[u8]) -> [Task; 16]
     requires { image_length ≤ length bytes.now }
     ensures { result ≡ blocks (task_from bytes.now) 1 16 0 }
 {
-    let first = task_in(bytes, 0);
-    let mut tasks = [first; 16];
-    let mut i: usize = 0;
-    while i < 16 {
-        tasks[i] = task_in(bytes, i);
-        i += 1;
-    }
-    tasks
+    from_fn(|i| task_in(bytes, i))
 }
 
 // The sixteen places of a line: of the queue, of a subprogram.
@@ -99,40 +93,21 @@ fn line_in(bytes: &[u8], at: usize) -> [TaskNo; 16]
     requires { at + 16 ≤ length bytes.now }
     ensures { result ≡ line_from bytes.now at }
 {
-    let mut line = [TaskNo(0); 16];
-    let mut i: usize = 0;
-    while i < 16 {
-        line[i] = TaskNo(numbers::byte_in(bytes, at + i));
-        i += 1;
-    }
-    line
+    from_fn(|i| TaskNo(numbers::byte_in(bytes, at + i)))
 }
 
 fn alarms_in(bytes: &[u8]) -> [Millis; 32]
     requires { image_length ≤ length bytes.now }
     ensures { result ≡ blocks (alarm_from bytes.now) 8 32 alarms_at }
 {
-    let mut alarms = [Millis(0); 32];
-    let mut i: usize = 0;
-    while i < 32 {
-        alarms[i] = Millis(numbers::long_in(bytes, ALARMS + i * 8));
-        i += 1;
-    }
-    alarms
+    from_fn(|i| Millis(numbers::long_in(bytes, ALARMS + i * 8)))
 }
 
 fn pool_in(bytes: &[u8]) -> [Request; 32]
     requires { image_length ≤ length bytes.now }
     ensures { result ≡ blocks (request_from bytes.now) 6 32 pool_at }
 {
-    let first = request_in(bytes, POOL);
-    let mut pool = [first; 32];
-    let mut i: usize = 0;
-    while i < 32 {
-        pool[i] = request_in(bytes, POOL + i * 6);
-        i += 1;
-    }
-    pool
+    from_fn(|i| request_in(bytes, POOL + i * 6))
 }
 
 // The subprogram at a place.
@@ -154,14 +129,7 @@ fn subs_in(bytes: &[u8]) -> [Sub; 8]
     requires { image_length ≤ length bytes.now }
     ensures { result ≡ blocks (sub_from bytes.now) sub_length 8 subs_at }
 {
-    let first = sub_in(bytes, SUBS);
-    let mut subs = [first; 8];
-    let mut i: usize = 0;
-    while i < 8 {
-        subs[i] = sub_in(bytes, SUBS + i * 18);
-        i += 1;
-    }
-    subs
+    from_fn(|i| sub_in(bytes, SUBS + i * 18))
 }
 
 // The waiting message at a place.
@@ -187,14 +155,7 @@ fn messages_in(bytes: &[u8]) -> [Message; 32]
     requires { image_length ≤ length bytes.now }
     ensures { result ≡ blocks (message_from bytes.now) message_length 32 messages_at }
 {
-    let first = message_in(bytes, MESSAGES);
-    let mut messages = [first; 32];
-    let mut i: usize = 0;
-    while i < 32 {
-        messages[i] = message_in(bytes, MESSAGES + i * 11);
-        i += 1;
-    }
-    messages
+    from_fn(|i| message_in(bytes, MESSAGES + i * 11))
 }
 
 // The mail at a place.
@@ -214,14 +175,7 @@ fn mail_in(bytes: &[u8]) -> [Mail; 16]
     requires { image_length ≤ length bytes.now }
     ensures { result ≡ blocks (mail_from bytes.now) mail_length 16 mails_at }
 {
-    let first = mail_at(bytes, MAIL);
-    let mut mail = [first; 16];
-    let mut i: usize = 0;
-    while i < 16 {
-        mail[i] = mail_at(bytes, MAIL + i * 9);
-        i += 1;
-    }
-    mail
+    from_fn(|i| mail_at(bytes, MAIL + i * 9))
 }
 
 // The table of bytes that are as many as an image has, or more.
@@ -265,11 +219,7 @@ fn padded(bytes: &[u8]) -> [u8; IMAGE]
     ensures { (length result ≡ image_length) × ((i : ℕ) → get_or result i 0 ≡ get_or bytes.now i 0) }
 {
     let mut image = [0u8; IMAGE];
-    let mut i: usize = 0;
-    while i < bytes.len() {
-        image[i] = bytes[i];
-        i += 1;
-    }
+    image[..bytes.len()].copy_from_slice(bytes);
     image
 }
 

@@ -10,7 +10,7 @@ ghost use Rattle.executive.specs.Configuration.{blank_rest, zero_table, sleepers
 ghost use Rattle.image.specs.Image.{image_length};
 ghost use Rattle.image.specs.Laid.{Laid, with_tasks};
 
-use crate::{IMAGE, entries, fields, moves, numbers};
+use crate::{entries, fields, moves, numbers};
 use executive::{Millis, configuration, pool};
 use records::TaskNo;
 use records::reading::byte_at;
@@ -20,11 +20,7 @@ fn clear(b: &mut [u8])
     requires { length b.old ≡ image_length }
     ensures { Laid b.new zero_table }
 {
-    let mut i: usize = 0;
-    while i < IMAGE {
-        b[i] = 0;
-        i += 1;
-    }
+    b.fill(0);
 }
 
 // How many tasks there are, and the granule.
@@ -43,11 +39,9 @@ fn set_own(b: &mut [u8], config: &[u8], n: u8)
     ensures { (t : Table) → Laid b.old t → t.tasks ≡ pad 16 no_task []
         → Laid b.new (with_tasks (pad 16 no_task (sleepers config.now n 1)) t) }
 {
-    let mut i: u8 = 0;
-    while i < n {
-        let own = byte_at(config, (i as usize) * 3 + 3);
-        numbers::put_byte(b, (i as usize) * 26, own);
-        i += 1;
+    for i in 0..n as usize {
+        let own = byte_at(config, i * 3 + 3);
+        numbers::put_byte(b, i * 26, own);
     }
 }
 
@@ -80,10 +74,8 @@ fn start_marked(b: &mut [u8], config: &[u8], n: u8)
         → Laid b.new (lit_in_flight (enter_all_in_flight (starters config.now n 1)
         (begin t))).table }
 {
-    let mut k: u8 = 0;
-    while k < n {
+    for k in 0..n {
         start_at(b, config, TaskNo(k + 1));
-        k += 1;
     }
 }
 

@@ -1,6 +1,6 @@
 // Kinds 00 to 05 and 0A decided on the lent bytes of an image: what they look at is read there, and the executive's own
 // function says the rest.
-ghost use Rattle.std.specs.Prelude.{◌≡◌, ◌≤◌, length, take};
+ghost use Rattle.std.specs.Prelude.{◌≡◌, ◌+◌, ◌*◌, ◌<◌, ◌≤◌, length, take, IfSome, unwrap_or};
 ghost use Rattle.records.specs.declared.Call.TheVariants as call;
 ghost use Rattle.executive.specs.declared.Table.{Table};
 ghost use Rattle.executive.specs.Pool.{place_of};
@@ -20,29 +20,17 @@ fn holds_any(b: &[u8], k: TaskNo) -> bool
     requires { length b.now ≡ image_length }
     ensures { (t : Table) → Laid b.now t → result ≡ holds_any_of k t.rest.subs }
 {
-    let mut i: usize = 0;
-    while i < 8 {
-        if k.0 == b[SUBS + i * 18] {
-            return true;
-        }
-        i += 1;
-    }
-    false
+    (0..8usize).any(|i| k.0 == b[SUBS + i * 18])
 }
 
-// The place of the earliest request for a task, of the first n; n where there is none.
-fn first_for(b: &[u8], n: usize, k: TaskNo) -> usize
+// The place of the earliest request for a task, of the first n.
+fn first_for(b: &[u8], n: usize, k: TaskNo) -> Option<usize>
     requires { (length b.now ≡ image_length) × (n ≤ 32) }
-    ensures { (t : Table) → Laid b.now t → result ≡ place_of k.0 (take n t.rest.pool) }
+    ensures place { IfSome result (λ i. i < n) }
+    ensures value { (t : Table) → Laid b.now t
+        → place_of k.0 (take n t.rest.pool) ≡ unwrap_or result n }
 {
-    let mut i: usize = 0;
-    while i < n {
-        if k.0 == b[POOL + i * 6] {
-            return i;
-        }
-        i += 1;
-    }
-    i
+    (0..n).find(|i| k.0 == b[POOL + *i * 6])
 }
 
 // Kind 00.
@@ -56,8 +44,7 @@ pub(crate) fn terminate(b: &[u8], c: TaskNo) -> Decision
     }
     let w = fields::end_waiter(b, c);
     let n = fields::at_most(b[fields::QUEUED], 32) as usize;
-    let i = first_for(b, n, c);
-    if i < n {
+    if let Some(i) = first_for(b, n, c) {
         let q = loading::request_in(b, POOL + i * 6);
         return calls::begins_anew(w, c, q, i);
     }

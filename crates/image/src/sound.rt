@@ -48,10 +48,9 @@ pub(crate) fn begin(b: &[u8]) -> Seen
     if !sound_entries::blank_past(b, count) {
         return BROKEN;
     }
-    let alarms = sound_entries::all_alarms(b, Millis(time));
-    if !alarms.right {
+    let Some(running) = sound_entries::all_alarms(b, Millis(time)) else {
         return BROKEN;
-    }
+    };
     let sets = sound_entries::kind_sets(b, count);
     if !sound_queue::queue_right(b, b[fields::READY], count, sets[1]) {
         return BROKEN;
@@ -59,7 +58,7 @@ pub(crate) fn begin(b: &[u8]) -> Seen
     Seen {
         sets,
         right: true,
-        running: alarms.running,
+        running,
     }
 }
 

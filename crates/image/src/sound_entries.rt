@@ -1,6 +1,6 @@
 // The check in place of the entries and the alarms. Any bytes are held to the rules, as those of the table that they
 // load to, and an entry's numbers besides to those of the state that they make.
-ghost use Rattle.std.specs.Prelude.{◌≡◌, ◌+◌, ◌-◌, ◌*◌, ◌<◌, ◌≤◌, not, true, eqb, ltb, length, get_or};
+ghost use Rattle.std.specs.Prelude.{◌≡◌, ◌+◌, ◌-◌, ◌*◌, ◌<◌, ◌≤◌, not, true, eqb, ltb, length, get_or, is_some, IfSome};
 ghost use Rattle.std.specs.Int.Bits.{bit_and};
 ghost use Rattle.records.specs.Numbers.{number_of, part};
 ghost use Rattle.executive.specs.Lists.{◌and◌, all_of};
@@ -10,7 +10,7 @@ ghost use Rattle.image.specs.Image.{image_length, load_of};
 ghost use Rattle.image.specs.Sound.{tasks_in, noughts, fields_right, state_right, code_at, sound_at, KindsKnown, below};
 ghost use Rattle.image.specs.Marks.{Kinds, Running};
 
-use crate::{ALARMS, AWAITED, QUEUE, SUBS, numbers, zeros};
+use crate::{ALARMS, AWAITED, QUEUE, SUBS, changes, numbers, zeros};
 use executive::{Millis, rules};
 
 // The entry of task k: its own priority, its priority, its waiter and its last scheduled start keep the rules, and its
@@ -144,14 +144,7 @@ pub(crate) fn entries_right(b: &[u8], count: u8, time: Millis, flags: u32) -> bo
     requires { (length b.now ≡ image_length) × (count ≤ 16) }
     ensures { result ≡ below (sound_at b.now count time.0 flags) count }
 {
-    let mut i: u8 = 0;
-    while i < count {
-        if !entry_right(b, i as usize, count, time, flags) {
-            return false;
-        }
-        i += 1;
-    }
-    true
+    (0..count as usize).all(|i| entry_right(b, i, count, time, flags))
 }
 
 // The entries past the task count are zero, and the numbers that their states wait for.
@@ -172,46 +165,29 @@ pub(crate) fn kind_sets(b: &[u8], count: u8) -> [u16; 10]
     ensures { Kinds count result (tasks_in b.now) }
 {
     let mut sets = [0u16; 10];
-    let mut k: u8 = 0;
-    while k < count {
-        let m = b[(k as usize) * 26 + 1] as usize;
+    for k in 0..count as usize {
+        let m = b[k * 26 + 1] as usize;
         sets[m] = sets[m] | (1u16 << (k as u32));
-        k += 1;
     }
     sets
 }
 
-// What a look at the alarms finds: whether each that is running has a stored time, and which are running.
-#[derive(Clone, Copy)]
-pub(crate) struct Alarms {
-    pub(crate) right: bool,
-    pub(crate) running: u32,
-}
-
-// Each alarm that is running has a stored time.
-pub(crate) fn all_alarms(b: &[u8], time: Millis) -> Alarms
+// The alarms that are running, where each of them has a stored time.
+pub(crate) fn all_alarms(b: &[u8], time: Millis) -> Option<u32>
     requires { length b.now ≡ image_length }
-    ensures right_value { result.right ≡ all_of (alarm_right time.0) (load_of b.now).rest.alarms }
-    ensures running { result.right ≡ true → Running result.running (load_of b.now).rest.alarms }
+    ensures right { is_some result ≡ all_of (alarm_right time.0) (load_of b.now).rest.alarms }
+    ensures running { IfSome result (λ running. Running running (load_of b.now).rest.alarms) }
 {
     let mut running: u32 = 0;
-    let mut i: u8 = 0;
-    while i < 32 {
-        let place = ALARMS + (i as usize) * 8;
+    for i in 0..32 {
+        let place = ALARMS + i * 8;
         if zeros::eight(b, place) != 0 {
             let at = numbers::long_in(b, place);
             if !rules::is_stored(Millis(at), time) {
-                return Alarms {
-                    right: false,
-                    running: 0,
-                };
+                return None;
             }
-            running = running | (1u32 << (i as u32));
+            running |= changes::bit_of(i);
         }
-        i += 1;
     }
-    Alarms {
-        right: true,
-        running,
-    }
+    Some(running)
 }

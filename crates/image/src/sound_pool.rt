@@ -1,5 +1,5 @@
 // The check of the pool on the lent bytes: the queued requests, their waiters and those of the runs, the free places.
-ghost use Rattle.std.specs.Prelude.{◌≡◌, true, ℕ, ◌+◌, ◌*◌, ◌≤◌, ◌<◌, length, take};
+ghost use Rattle.std.specs.Prelude.{◌≡◌, true, ℕ, ◌+◌, ◌*◌, ◌≤◌, ◌<◌, length, take, is_some, IfSome};
 ghost use Rattle.executive.specs.Lists.{up_to, all_of};
 ghost use Rattle.executive.specs.Places.{task_at};
 ghost use Rattle.executive.specs.States.{await_start, await_end, is_of, is_dormant};
@@ -48,70 +48,57 @@ pub(crate) fn named(b: &[u8], set: u32, at: usize, step: usize, n: u8, count: u8
     ensures { result ≡ namings count set (names_in b.now step n at) }
 {
     let mut all = set;
-    let mut i: u8 = 0;
-    while i < n {
-        all = with(all, b[at + (i as usize) * step], count);
-        i += 1;
+    for i in 0..n as usize {
+        all = with(all, b[at + i * step], count);
     }
     all
 }
 
-// What a look at the requests finds: whether they keep the rules on one request and name busy tasks only; whom they
-// name as waiters for a start, and, with those of the runs, for an end.
+// Whom the requests name as waiters for a start, and, with those of the runs, for an end.
 #[derive(Clone, Copy)]
 struct Waiters {
-    right: bool,
     starts: u32,
     ends: u32,
 }
 
-// Requests that are not right.
-const WRONG: Waiters = Waiters {
-    right: false,
-    starts: 0,
-    ends: 0,
-};
-
-// Looks at the queued requests; idle has bit k where task k is dormant, and bit 0, and ends those whom the runs name.
-// Most requests name no waiter: four bytes from the argument on tell that at once.
-fn requests_right(b: &[u8], queued: u8, count: u8, idle: u32, ends: u32) -> Waiters
+// Looks at the queued requests: whom they name, where they keep the rules on one request and name busy tasks only. Idle
+// has bit k where task k is dormant, and bit 0, and ends those whom the runs name. Most requests name no waiter: four
+// bytes from the argument on tell that at once.
+fn requests_right(b: &[u8], queued: u8, count: u8, idle: u32, ends: u32) -> Option<Waiters>
     requires { (length b.now ≡ image_length) × (queued ≤ 32) × (count ≤ 16)
         × ((k : ℕ) → k ≤ count → is_set idle k ≡ is_dormant (task_at (tasks_in b.now) k).state) }
-    ensures right_value { result.right ≡ all_of (request_right (tasks_in b.now) count)
+    ensures right { is_some result ≡ all_of (request_right (tasks_in b.now) count)
         (take queued (pool_in b.now)) }
-    ensures starts_value { result.right ≡ true → (result.starts ≡ namings count 0 (names_in b.now 6 queued 708))
-        × (result.ends ≡ namings count ends (names_in b.now 6 queued 709)) }
+    ensures waiters { IfSome result (λ w. (w.starts ≡ namings count 0 (names_in b.now 6 queued 708))
+        × (w.ends ≡ namings count ends (names_in b.now 6 queued 709))) }
 {
     let mut starts: u32 = 0;
     let mut all_ends = ends;
-    let mut i: u8 = 0;
-    while i < queued {
-        let at = POOL + (i as usize) * 6;
+    for i in 0..queued as usize {
+        let at = POOL + i * 6;
         let target = b[at];
         if count < target {
-            return WRONG;
+            return None;
         }
         if (idle >> (target as u32)) & 1 == 1 {
-            return WRONG;
+            return None;
         }
         if 15 < b[at + 1] {
-            return WRONG;
+            return None;
         }
         if 65535 < zeros::quad(b, at + 2) {
             let q = loading::request_in(b, at);
             if !rules::request_fits(q, count) {
-                return WRONG;
+                return None;
             }
             starts = with(starts, b[at + 4], count);
             all_ends = with(all_ends, b[at + 5], count);
         }
-        i += 1;
     }
-    Waiters {
-        right: true,
+    Some(Waiters {
         starts,
         ends: all_ends,
-    }
+    })
 }
 
 // The requests, their waiters and those of the runs; the pool's free places are last and zero. The sets are of those
@@ -127,10 +114,9 @@ pub(crate) fn pool_right(b: &[u8], queued: u8, count: u8, idle: u16, starts: u16
         (load_of b.now).rest.pool }
 {
     let runs = named(b, 0, 25, 26, 16, count);
-    let w = requests_right(b, queued, count, ((idle as u32) << 1) | 1, runs);
-    if !w.right {
+    let Some(w) = requests_right(b, queued, count, ((idle as u32) << 1) | 1, runs) else {
         return false;
-    }
+    };
     if w.starts != (starts as u32) << 1 {
         return false;
     }

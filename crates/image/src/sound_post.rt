@@ -38,9 +38,8 @@ fn letters_right(b: &[u8], sent: u8, count: u8, free: u32) -> bool
     ensures { result ≡ letters_right (tasks_in b.now) count 15 (take sent (messages_in b.now)) }
 {
     let mut p: u8 = 15;
-    let mut i: u8 = 0;
-    while i < sent {
-        let at = MESSAGES + (i as usize) * 11;
+    for i in 0..sent as usize {
+        let at = MESSAGES + i * 11;
         let to = b[at];
         let sender = b[at + 1];
         let priority = b[at + 2];
@@ -65,7 +64,6 @@ fn letters_right(b: &[u8], sent: u8, count: u8, free: u32) -> bool
             return false;
         }
         p = priority;
-        i += 1;
     }
     true
 }
@@ -106,12 +104,5 @@ pub(crate) fn mail_right(b: &[u8], count: u8) -> bool
     requires { length b.now ≡ image_length }
     ensures { result ≡ mail_right (load_of b.now).tasks count (load_of b.now).rest.mail }
 {
-    let mut i: u8 = 0;
-    while i < 16 {
-        if !one_mail(b, i as usize, count) {
-            return false;
-        }
-        i += 1;
-    }
-    true
+    (0..16usize).all(|i| one_mail(b, i, count))
 }

@@ -1,6 +1,6 @@
 // The check in place of a line, the ready queue's or a subprogram's: exactly the tasks in its state, once each, in
 // descending priority. Once each by sets of bits, a bit a task.
-ghost use Rattle.std.specs.Prelude.{◌≡◌, ◌+◌, ◌≤◌, length, drop, take};
+ghost use Rattle.std.specs.Prelude.{◌≡◌, true, false, ◌+◌, ◌≤◌, length, drop, take, MatchOption};
 ghost use Rattle.executive.specs.Lists.{all_of};
 ghost use Rattle.executive.specs.States.{is_ready};
 ghost use Rattle.executive.specs.Check.{is_nobody, queue_right};
@@ -11,55 +11,42 @@ use crate::{LEVELS, QUEUE, changes, moves, numbers, zeros};
 use executive::places;
 use records::TaskNo;
 
-// What a walk over a line finds: whether those who stand there are tasks, in descending priority, and nobody
-// twice; who they are, bit i for the task whose entry is the i-th; the word of their levels.
+// What a walk over a line finds: who stand there, bit i for the task whose entry is the i-th; the word of their levels.
 #[derive(Clone, Copy)]
 pub(crate) struct Walked {
-    pub(crate) right: bool,
     pub(crate) seen: u32,
     pub(crate) word: u16,
 }
 
-// A line that is not right.
-const WRONG: Walked = Walked {
-    right: false,
-    seen: 0,
-    word: 0,
-};
-
-// Walks over the first places of a line.
-pub(crate) fn walk(b: &[u8], at: usize, taken: u8, count: u8) -> Walked
+// Walks over the first places of a line, where those who stand there are tasks, in descending priority, and nobody
+// twice.
+pub(crate) fn walk(b: &[u8], at: usize, taken: u8, count: u8) -> Option<Walked>
     requires { (length b.now ≡ image_length) × (at + 16 ≤ image_length) × (taken ≤ 16) × (count ≤ 16) }
-    ensures { Walks (load_of b.now).tasks count (take taken (line_from b.now at))
-        result.right result.seen result.word }
+    ensures { MatchOption result
+        (Walks (load_of b.now).tasks count (take taken (line_from b.now at)) false 0 0)
+        (λ w. Walks (load_of b.now).tasks count (take taken (line_from b.now at)) true w.seen w.word) }
 {
     let mut p: u8 = 15;
     let mut seen: u32 = 0;
     let mut word: u16 = 0;
-    let mut i: u8 = 0;
-    while i < taken {
-        let k = places::entry_place(TaskNo(b[at + i as usize]));
+    for i in 0..taken as usize {
+        let k = places::entry_place(TaskNo(b[at + i]));
         if count as usize <= k {
-            return WRONG;
+            return None;
         }
         let level = b[k * 26 + 14];
         if p < level {
-            return WRONG;
+            return None;
         }
         let bit = changes::bit_of(k);
         if seen & bit != 0 {
-            return WRONG;
+            return None;
         }
-        seen = seen | bit;
+        seen |= bit;
         p = level;
-        word = word | moves::level_bit(level);
-        i += 1;
+        word |= moves::level_bit(level);
     }
-    Walked {
-        right: true,
-        seen,
-        word,
-    }
+    Some(Walked { seen, word })
 }
 
 // The free places of a line are zero.
@@ -84,10 +71,9 @@ pub(crate) fn queue_right(b: &[u8], ready: u8, count: u8, set: u16) -> bool
     if 16 < ready {
         return false;
     }
-    let line = walk(b, QUEUE, ready, count);
-    if !line.right {
+    let Some(line) = walk(b, QUEUE, ready, count) else {
         return false;
-    }
+    };
     if line.word != numbers::pair_in(b, LEVELS) {
         return false;
     }

@@ -8,7 +8,7 @@ ghost use Rattle.image.specs.Image.{image_length, line_from, sub_from, load_of};
 ghost use Rattle.image.specs.Sound.{tasks_in, noughts, KindsKnown};
 ghost use Rattle.image.specs.Marks.{passed, Marked, Waiting};
 
-use crate::{AWAITED, SUBS, members, sound_pool, sound_queue, zeros};
+use crate::{AWAITED, SUBS, changes, members, sound_pool, sound_queue, zeros};
 
 // Those who wait for each subprogram, of those who wait for any, bit i for the task whose entry is the i-th: sixteen
 // bits for sixteen tasks.
@@ -36,14 +36,11 @@ fn used_subs(b: &[u8], sets: [u16; 8]) -> u32
         → is_set result m ≡ not (noughts b.now 18 (914 + m * 18) and eqb (get_or sets m 0) 0) }
 {
     let mut used: u32 = 0;
-    let mut m: u8 = 0;
-    while m < 8 {
-        let at = SUBS + (m as usize) * 18;
-        let set = sets[m as usize];
-        if zeros::sixteen(b, at) | zeros::quad(b, at + 14) | (set as u32) != 0 {
-            used = used | (1u32 << (m as u32));
+    for (m, set) in sets.iter().enumerate() {
+        let at = SUBS + m * 18;
+        if zeros::sixteen(b, at) | zeros::quad(b, at + 14) | (*set as u32) != 0 {
+            used |= changes::bit_of(m);
         }
-        m += 1;
     }
     used
 }
@@ -55,10 +52,9 @@ fn line_right(b: &[u8], at: usize, waiting: u8, set: u16, count: u8) -> bool
     ensures { (m : ℕ) → Marked count set (passed (waits_for m) (tasks_in b.now))
         → result ≡ line_right (waits_for m) (tasks_in b.now) count waiting (line_from b.now at) }
 {
-    let line = sound_queue::walk(b, at, waiting, count);
-    if !line.right {
+    let Some(line) = sound_queue::walk(b, at, waiting, count) else {
         return false;
-    }
+    };
     if line.seen != set as u32 {
         return false;
     }

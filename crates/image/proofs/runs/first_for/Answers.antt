@@ -1,43 +1,21 @@
+use Prim.Native.Nat.{◌+◌, ◌*◌}
+use mathlib.Core.Path.{refl}
 use native.Mathlib.Omega.{arith}
-use mathlib.Core.Path.{sym, ◌∙◌}
-use Rattle.image.proofs.Finds.{target-read, first-hit, first-miss, first-none}
+use lib.Dec.{eqb}
+use lib.ListN.{get_or}
+use Rattle.std.proofs.Common.{ℕ, rules}
+use Rattle.image.proofs.Finds.{target-read, first-place}
+use Rattle.image.proofs.Ranges.{First, checked-first, first-within}
 use Rattle.image.proofs.runs.first_for.Goals as goal
-
-pub loop-i-init : goal.loop-i-init
-loop-i-init c = (omega arith, λ t l. omega arith)
-
-pub overflow_mul-i : goal.overflow_mul-i
-overflow_mul-i c = omega (arith, c.requires.0, c.requires.1)
-
-pub overflow_add-i : goal.overflow_add-i
-overflow_add-i c = omega (arith, c.requires.0, c.requires.1)
-
-pub bounds-b-i : goal.bounds-b-i
-bounds-b-i c = omega (arith, c.requires.0, c.requires.1)
-
-pub returns-then-k-b : goal.returns-then-k-b
-returns-then-k-b c =
-    let a = c.args in
-    let p = c.requires.1 in
-    let v = c.loop-i in
-    λ t l. let z = l.sizes.pool in first-hit a.k.0 t.rest.pool a.n (omega arith) v.i (omega arith) (v.invariant.1 t l) (c.if-k-b.true ∙ target-read t l v.i (omega arith))
-
-pub overflow_add-i-in-loop-i : goal.overflow_add-i-in-loop-i
-overflow_add-i-in-loop-i c = omega arith
-
-pub loop-i-smaller : goal.loop-i-smaller
-loop-i-smaller c = omega arith
-
-pub loop-i-preserved : goal.loop-i-preserved
-loop-i-preserved c =
-    let a = c.args in
-    let p = c.requires.1 in
-    let v = c.loop-i in
-    (omega arith, λ t l. let z = l.sizes.pool in first-miss a.k.0 t.rest.pool a.n (omega arith) v.i (omega arith) (v.invariant.1 t l) (λ g. c.if-k-b.false (g ∙ sym (target-read t l v.i (omega arith)))))
 
 pub returns : goal.returns
 returns c =
     let a = c.args in
-    let p = c.requires.1 in
-    let v = c.loop-i in
-    λ t l. let z = l.sizes.pool in first-none a.k.0 t.rest.pool a.n (omega arith) v.i (omega arith) (v.invariant.1 t l)
+    let h = λ (i : ℕ). eqb a.k.0 (get_or a.b.now (704 + i * 6) 0) in
+    let m : First h a.n c.find.result = checked-first _ _ c.find.result a.n h refl (λ i y q e. search rules) c.find.ensures.ran in
+    record {
+      place = first-within h a.n c.find.result m;
+      value = λ t l.
+          let z = l.sizes.pool in
+          first-place a.k.0 t.rest.pool a.n (rw z c.requires.1) (λ i. get_or a.b.now (704 + i * 6) 0) (λ i b. target-read t l i (omega (arith, c.requires.1))) c.find.result m;
+    }

@@ -1,7 +1,6 @@
 -- `sound::begin` meets its contract: the first part that is not right decides; else all of them are.
 use mathlib.Core.Path.{refl, sym, ◌∙◌}
 use native.Mathlib.Omega.{arith}
-use borrow.Author.Tests.{not-true, not-false}
 use Rattle.records.specs.Numbers.{Bytes}
 use Rattle.image.proofs.Alike.{never}
 use Rattle.image.proofs.Canonical.{not-long}
@@ -12,59 +11,46 @@ use Rattle.image.proofs.sound.begin.Goals as goal
 pub returns-then-b-ne-IMAGE : goal.returns-then-b-ne-IMAGE
 returns-then-b-ne-IMAGE c =
     let s = c.args.b.now in
-    let h : Bytes s = λ k. omega (arith, c.shared_slice_known-1.given k) in
+    let h : Bytes s = λ k. omega (arith, c.type_inv.b k) in
     no-image s h (sym (not-long s c.if-b-ne-IMAGE.true))
 
 pub returns-then-not-in_bounds : goal.returns-then-not-in_bounds
 returns-then-not-in_bounds c =
     let s = c.args.b.now in
-    let h : Bytes s = λ k. omega (arith, c.shared_slice_known-1.given k) in
+    let h : Bytes s = λ k. omega (arith, c.type_inv.b k) in
     let t = c.long_in-time in
     rule-broken s h t.result _ t.ensures refl (λ z. never (sym (sym c.in_bounds.ensures ∙ c.if-not-in_bounds.true) ∙ z.bounds))
-
-pub entries_right-requires : goal.entries_right-requires
-entries_right-requires c =
-    let s = c.args.b.now in
-    let n = few s c.long_in-time.result (sym c.in_bounds.ensures ∙ c.if-not-in_bounds.false) in
-    (c.if-b-ne-IMAGE.false, n)
 
 pub returns-then-not-entries_right : goal.returns-then-not-entries_right
 returns-then-not-entries_right c =
     let s = c.args.b.now in
-    let h : Bytes s = λ k. omega (arith, c.shared_slice_known-1.given k) in
+    let h : Bytes s = λ k. omega (arith, c.type_inv.b k) in
     let t = c.long_in-time in
     let fs = c.word_in-flags in
     let n = few s c.long_in-time.result (sym c.in_bounds.ensures ∙ c.if-not-in_bounds.false) in
     entries-broken s h t.result fs.result t.ensures fs.ensures c.if-b-ne-IMAGE.false n (sym c.entries_right.ensures ∙ c.if-not-entries_right.true)
 
-pub blank_past-requires : goal.blank_past-requires
-blank_past-requires c =
-    let s = c.args.b.now in
-    let n = few s c.long_in-time.result (sym c.in_bounds.ensures ∙ c.if-not-in_bounds.false) in
-    (c.if-b-ne-IMAGE.false, n)
-
 pub returns-then-not-blank_past : goal.returns-then-not-blank_past
 returns-then-not-blank_past c =
     let s = c.args.b.now in
-    let h : Bytes s = λ k. omega (arith, c.shared_slice_known-1.given k) in
+    let h : Bytes s = λ k. omega (arith, c.type_inv.b k) in
     let t = c.long_in-time in
     let fs = c.word_in-flags in
     let n = few s c.long_in-time.result (sym c.in_bounds.ensures ∙ c.if-not-in_bounds.false) in
     blanks-broken s h t.result fs.result t.ensures fs.ensures c.if-b-ne-IMAGE.false n (sym c.blank_past.ensures ∙ c.if-not-blank_past.true)
 
-pub returns-then-not-alarms : goal.returns-then-not-alarms
-returns-then-not-alarms c =
+pub returns-in_default : goal.returns-in_default
+returns-in_default c =
     let s = c.args.b.now in
-    let h : Bytes s = λ k. omega (arith, c.shared_slice_known-1.given k) in
+    let h : Bytes s = λ k. omega (arith, c.type_inv.b k) in
     let t = c.long_in-time in
     let fs = c.word_in-flags in
-    let e = c.all_alarms-alarms.ensures.right_value in
-    rule-broken s h t.result fs.result t.ensures fs.ensures (λ z. never (sym (sym e ∙ not-true _ c.if-not-alarms.true) ∙ z.alarms))
+    rule-broken s h t.result fs.result t.ensures fs.ensures (λ z. never (c.in_default.ensures.right ∙ z.alarms))
 
 pub kind_sets-sets-requires : goal.kind_sets-sets-requires
 kind_sets-sets-requires c =
     let s = c.args.b.now in
-    let h : Bytes s = λ k. omega (arith, c.shared_slice_known-1.given k) in
+    let h : Bytes s = λ k. omega (arith, c.type_inv.b k) in
     let t = c.long_in-time in
     let fs = c.word_in-flags in
     let n = few s c.long_in-time.result (sym c.in_bounds.ensures ∙ c.if-not-in_bounds.false) in
@@ -79,7 +65,7 @@ queue_right-requires c =
 pub returns-then-not-queue_right : goal.returns-then-not-queue_right
 returns-then-not-queue_right c =
     let s = c.args.b.now in
-    let h : Bytes s = λ k. omega (arith, c.shared_slice_known-1.given k) in
+    let h : Bytes s = λ k. omega (arith, c.type_inv.b k) in
     let t = c.long_in-time in
     let fs = c.word_in-flags in
     let e = c.queue_right.ensures in
@@ -88,15 +74,14 @@ returns-then-not-queue_right c =
 pub returns : goal.returns
 returns c =
     let s = c.args.b.now in
-    let h : Bytes s = λ k. omega (arith, c.shared_slice_known-1.given k) in
+    let h : Bytes s = λ k. omega (arith, c.type_inv.b k) in
     let t = c.long_in-time in
     let fs = c.word_in-flags in
     let n = few s c.long_in-time.result (sym c.in_bounds.ensures ∙ c.if-not-in_bounds.false) in
     let es = sym c.entries_right.ensures ∙ c.if-not-entries_right.false in
     let zs = sym c.blank_past.ensures ∙ c.if-not-blank_past.false in
     let bs = sym c.in_bounds.ensures ∙ c.if-not-in_bounds.false in
-    let right = not-false _ c.if-not-alarms.false in
     begun-right s h t.result fs.result t.ensures fs.ensures c.if-b-ne-IMAGE.false n es zs bs
-    (sym c.all_alarms-alarms.ensures.right_value ∙ right)
+    (sym c.in-Some.ensures.right)
     (sym c.queue_right.ensures ∙ c.if-not-queue_right.false)
-    c.kind_sets-sets.ensures (c.all_alarms-alarms.ensures.running right)
+    c.kind_sets-sets.ensures c.in-Some.ensures.running

@@ -13,28 +13,7 @@ use Rattle.image.proofs.sound_post.letters_right.Goals as goal
 use Rattle.image.proofs.sound_post.letters_right.Goals.{In-loop-i, Joined-free-to-eq0, then-free-to-eq0+else-to-eq0+else-is_taken, else-free-to-eq0}
 
 pub loop-i-init : goal.loop-i-init
-loop-i-init c = (omega arith, omega arith, refl)
-
-pub overflow_mul-at : goal.overflow_mul-at
-overflow_mul-at c = omega (arith, c.requires.1, c.loop-i-test.true)
-
-pub overflow_add-at : goal.overflow_add-at
-overflow_add-at c = omega (arith, c.requires.1, c.loop-i-test.true)
-
-pub bounds-b-at : goal.bounds-b-at
-bounds-b-at c = omega (arith, c.requires.0, c.requires.1, c.loop-i-test.true)
-
-pub overflow_add-sender : goal.overflow_add-sender
-overflow_add-sender c = omega (arith, c.requires.1, c.loop-i-test.true)
-
-pub bounds-b-at-in-loop-i : goal.bounds-b-at-in-loop-i
-bounds-b-at-in-loop-i c = omega (arith, c.requires.0, c.requires.1, c.loop-i-test.true)
-
-pub overflow_add-priority : goal.overflow_add-priority
-overflow_add-priority c = omega (arith, c.requires.1, c.loop-i-test.true)
-
-pub bounds-b-at-in-loop-i-2 : goal.bounds-b-at-in-loop-i-2
-bounds-b-at-in-loop-i-2 c = omega (arith, c.requires.0, c.requires.1, c.loop-i-test.true)
+loop-i-init c = (omega arith, refl)
 
 -- a message that breaks a rule
 broken : (c : In-loop-i) → let a = c.args in
@@ -44,22 +23,13 @@ broken : (c : In-loop-i) → let a = c.args in
 broken c f =
     let a = c.args in
     let v = c.loop-i in
-    sym (sym v.invariant.2 ∙ letter-bad a.b.now a.count a.sent c.requires.1 v.p v.i c.loop-i-test.true f)
+    sym (sym v.invariant.1 ∙ letter-bad a.b.now a.count a.sent c.requires.1 v.p v.i c.loop-i-test.true f)
 
 pub returns-then-count-to : goal.returns-then-count-to
 returns-then-count-to c = broken (goal.at.returns-then-count-to c).In-loop-i (λ g. omega (arith, g.1, c.if-count-to.true))
 
-pub overflow_cast-to : goal.overflow_cast-to
-overflow_cast-to c = omega (arith, c.if-count-to.false, c.requires.2)
-
-pub overflow_shr-free : goal.overflow_shr-free
-overflow_shr-free c = omega (arith, c.if-count-to.false, c.requires.2)
-
 pub returns-then-to-eq0 : goal.returns-then-to-eq0
 returns-then-to-eq0 c = broken (goal.at.returns-then-to-eq0 c).In-loop-i (λ g. omega (arith, g.0, c.if-to-eq0.true))
-
-pub is_taken-requires : goal.is_taken-requires
-is_taken-requires c = c.requires.0
 
 pub returns-then-is_taken : goal.returns-then-is_taken
 returns-then-is_taken c = broken (goal.at.returns-then-is_taken c).In-loop-i (λ g. false_not_true (sym g.5 ∙ sym c.is_taken.ensures ∙ c.if-is_taken.true))
@@ -72,12 +42,6 @@ returns-then-count-sender c = broken (goal.at.returns-then-count-sender c).In-lo
 
 pub returns-then-p-priority : goal.returns-then-p-priority
 returns-then-p-priority c = broken (goal.at.returns-then-p-priority c).In-loop-i (λ g. omega (arith, g.4, c.if-p-priority.true))
-
-pub overflow_add-i : goal.overflow_add-i
-overflow_add-i c = omega (arith, c.requires.1, c.loop-i-test.true)
-
-pub loop-i-smaller : goal.loop-i-smaller
-loop-i-smaller c = omega (arith, c.loop-i-test.true)
 
 -- past the test of the set: the addressee is a task, and does not take it
 addressed : (c : Joined-free-to-eq0) → let a = c.args in
@@ -101,11 +65,11 @@ loop-i-preserved c =
     let s = a.b.now in
     let v = c.loop-i in
     let q = addressed (goal.at.loop-i-preserved c).Joined-free-to-eq0 in
-    (omega (arith, c.loop-i-test.true), omega (arith, v.invariant.1, c.if-p-priority.false), letter-good s a.count a.sent c.requires.1 v.p v.i c.loop-i-test.true v.invariant.1 (q.0, c.if-count-to.false, omega (arith, c.if-sender-eq0.false), c.if-count-sender.false, c.if-p-priority.false, q.1) ∙ v.invariant.2)
+    (omega (arith, v.invariant.0, c.if-p-priority.false), letter-good s a.count a.sent c.requires.1 v.p v.i c.loop-i-test.true v.invariant.0 (q.0, c.if-count-to.false, omega (arith, c.if-sender-eq0.false), c.if-count-sender.false, c.if-p-priority.false, q.1) ∙ v.invariant.1)
 
 pub returns : goal.returns
 returns c =
     let a = c.args in
     let s = a.b.now in
     let v = c.loop-i in
-    sym (sym v.invariant.2 ∙ letters-over s a.count a.sent c.requires.1 v.p v.i c.loop-i-test.false)
+    sym (sym v.invariant.1 ∙ letters-over s a.count a.sent c.requires.1 v.p v.i c.loop-i-test.false)

@@ -1,5 +1,4 @@
 -- `sound_queue::walk` meets its contract. The invariant is `Walking`.
-use native.Mathlib.Omega.{arith}
 use Rattle.image.specs.Image.{load_of}
 use Rattle.image.specs.Image.{line_from}
 use Rattle.image.proofs.Marked.{walk_start, line-end, line-off, line-over, line-twice, line-turn}
@@ -7,12 +6,6 @@ use Rattle.image.proofs.sound_queue.walk.Goals as goal
 
 pub loop-i-init : goal.loop-i-init
 loop-i-init c = walk_start (load_of c.args.b.now).tasks (line_from c.args.b.now c.args.at) c.args.taken c.args.count
-
-pub overflow_add-at : goal.overflow_add-at
-overflow_add-at c = omega (arith, c.requires.1, c.requires.2)
-
-pub bounds-b-at : goal.bounds-b-at
-bounds-b-at c = omega (arith, c.requires.0, c.requires.1, c.requires.2)
 
 pub returns-then-count-k : goal.returns-then-count-k
 returns-then-count-k c =
@@ -22,15 +15,6 @@ returns-then-count-k c =
     let v = c.loop-i in
     line-off s a.at a.taken a.count g.2 g.3 v.i v.p v.seen v.word v.invariant c.loop-i-test.true c.entry_place-k.result c.entry_place-k.ensures _ _ c.if-count-k.true
 
-pub overflow_mul-level : goal.overflow_mul-level
-overflow_mul-level c = omega (arith, c.requires.3)
-
-pub overflow_add-level : goal.overflow_add-level
-overflow_add-level c = omega (arith, c.requires.3)
-
-pub bounds-b-k : goal.bounds-b-k
-bounds-b-k c = omega (arith, c.requires.0, c.requires.3)
-
 pub returns-then-p-level : goal.returns-then-p-level
 returns-then-p-level c =
     let a = c.args in
@@ -39,9 +23,6 @@ returns-then-p-level c =
     let v = c.loop-i in
     line-over s a.at a.taken a.count g.2 g.3 v.i v.p v.seen v.word v.invariant c.loop-i-test.true c.entry_place-k.result c.entry_place-k.ensures c.if-count-k.false _ _ c.if-p-level.true
 
-pub bit_of-bit-requires : goal.bit_of-bit-requires
-bit_of-bit-requires c = omega (arith, c.requires.3, c.if-count-k.false)
-
 pub returns-then-seen-bit-ne0 : goal.returns-then-seen-bit-ne0
 returns-then-seen-bit-ne0 c =
     let a = c.args in
@@ -49,12 +30,6 @@ returns-then-seen-bit-ne0 c =
     let s = a.b.now in
     let v = c.loop-i in
     line-twice s a.at a.taken a.count g.2 g.3 v.i v.p v.seen v.word v.invariant c.loop-i-test.true c.entry_place-k.result c.entry_place-k.ensures c.if-count-k.false c.bit_of-bit.result c.bit_of-bit.ensures _ _ c.if-seen-bit-ne0.true
-
-pub overflow_add-i : goal.overflow_add-i
-overflow_add-i c = omega (arith, c.requires.2, c.loop-i-test.true)
-
-pub loop-i-smaller : goal.loop-i-smaller
-loop-i-smaller c = omega (arith, c.loop-i-test.true)
 
 pub loop-i-preserved : goal.loop-i-preserved
 loop-i-preserved c =

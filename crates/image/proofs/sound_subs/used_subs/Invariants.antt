@@ -1,11 +1,7 @@
 -- `sound_subs::used_subs` meets its contract. The invariant: it is the set of those before m that are not free.
-use Prim.Native.Nat.{◌-◌, ◌≤◌}
 use Rattle.image.specs.Marks.{Marked}
 use Rattle.image.proofs.LinesRead.{in_use}
 use Rattle.image.proofs.sound_subs.used_subs.Given as goal
 
 abbrev pub invariant-loop-m : goal.invariant-loop-m
-invariant-loop-m l = (l.m ≤ 8) × Marked l.m l.used (in_use l.b l.sets)
-
-abbrev pub decreases-loop-m : goal.decreases-loop-m
-decreases-loop-m l = 8 - l.m
+invariant-loop-m l = Marked l.m l.used (in_use l.b l.fn.sets)
