@@ -1,15 +1,16 @@
 -- Bytes that are all zero: numbers, blocks and rows of blocks that are, as one test of their bytes.
-use Prim.Native.Nat.{ℕ, zero, suc, ◌+◌, ◌-◌, ◌*◌, ◌%◌, ◌≤◌, ◌<◌}
+use Prim.Native.Nat.{ℕ, zero, suc, ◌+◌, ◌-◌, ◌*◌, ◌≤◌, ◌<◌}
 use mathlib.Core.Path.{◌≡◌, refl, sym, ap, ◌∙◌}
 use mathlib.Core.Bool.{Bool, true, false, not, cond}
 use mathlib.Core.List.{List, [], ◌∷◌}
 use native.Mathlib.Omega.{arith}
-use native.Mathlib.Nat.{add-zero, suc-mul, zero-mul, mod-eq_of_lt}
+use native.Mathlib.Nat.{add-zero, suc-mul, zero-mul}
 use borrow.Author.Tests.{eqb-true, eqb-false, eq-eqb, ne_eqb, lt-ltb, le-ltb}
 use lib.Dec.{eqb, ltb}
-use lib.Bits.{bit_or, or_shifted_r}
+use lib.Bits.{bit_or}
 use lib.ListN.{length, get_or, drop}
-use Rattle.records.specs.Numbers.{number_from, number_of, part}
+use Rattle.std.specs.Int.{w32, from_le_bytes}
+use Rattle.records.specs.Numbers.{Bytes, number_from, number_of, part}
 use Rattle.executive.specs.Lists.{◌and◌, all_of}
 use Rattle.executive.proofs.Assured.{or-none}
 use Rattle.executive.specs.Check.{is_nobody, is_free, is_free_sub, is_no_message, is_no_mail}
@@ -51,19 +52,7 @@ digit-nought n b = go (eqb n 0) (eqb b 0) refl refl
 pub or-zero : (x y : ℕ) → eqb (bit_or x y) 0 ≡ cond (eqb x 0) (eqb y 0) false
 or-zero x y = or-none x y ∙ sym (cond-and (eqb x 0) (eqb y 0))
 
--- ---- four bytes put together by shifts, the last the highest, and what the upper two are
-shifted_four : (a b c d : ℕ) → a < 256 → b < 256 → c < 256 → d < 256
-    → bit_or (bit_or (bit_or a (b * 256 % 4294967296)) (c * 65536 % 4294967296)) (d * 16777216 % 4294967296) ≡ number_of (d ∷ c ∷ b ∷ a ∷ [])
-shifted_four a b c d ha hb hc hd =
-    let eb : b * 256 % 4294967296 ≡ b * 256 = mod-eq_of_lt (omega arith) in
-    let ec : c * 65536 % 4294967296 ≡ c * 65536 = mod-eq_of_lt (omega arith) in
-    let ed : d * 16777216 % 4294967296 ≡ d * 16777216 = mod-eq_of_lt (omega arith) in
-    rw (eb, ec, ed)
-    (ap (λ (x : ℕ). bit_or (bit_or x (c * 65536)) (d * 16777216)) (or_shifted_r b 8 a ha)
-    ∙ ap (λ (x : ℕ). bit_or x (d * 16777216)) (or_shifted_r c 16 (b * 256 + a) (omega arith))
-    ∙ or_shifted_r d 24 (c * 65536 + (b * 256 + a)) (omega arith)
-    ∙ omega arith)
-
+-- ---- of four bytes put together, the last the highest, what the upper two are
 upper_two : (a b c d : ℕ) → a < 256 → b < 256 → ltb 65535 (number_of (d ∷ c ∷ b ∷ a ∷ [])) ≡ not (eqb (d * 256 + c) 0)
 upper_two a b c d ha hb = go (eqb (d * 256 + c) 0) refl
   where
@@ -118,16 +107,15 @@ module _ (s : List ℕ) where
       rw (e1, e2, e3) (behind-nought 3 _ at (behind-nought 2 _ (suc at) (behind-nought 1 _ (suc (suc at)) (sym (byte-nought (suc (suc (suc at))))))))
 
   -- the same of bytes that were read and put together, as `zeros::quad` does
-  pub quad_put : (at a b c d : ℕ) → a ≡ get_or s at 0 → b ≡ get_or s (at + 1) 0 → c ≡ get_or s (at + 2) 0 → d ≡ get_or s (at + 3) 0 → a < 256 → b < 256 → c < 256 → d < 256
-      → let r = bit_or (bit_or (bit_or a (b * 256 % 4294967296)) (c * 65536 % 4294967296)) (d * 16777216 % 4294967296) in
-      (eqb r 0 ≡ noughts s 4 at) × (ltb 65535 r ≡ not (noughts s 2 (at + 2)))
-  quad_put at a b c d ea eb ec ed ha hb hc hd =
-      let n = shifted_four a b c d ha hb hc hd in
+  pub quad_put : (at r : ℕ) → Bytes s → r ≡ from_le_bytes w32 (get_or s at 0 ∷ get_or s (at + 1) 0 ∷ get_or s (at + 2) 0 ∷ get_or s (at + 3) 0 ∷ [])
+      → (eqb r 0 ≡ noughts s 4 at) × (ltb 65535 r ≡ not (noughts s 2 (at + 2)))
+  quad_put at r h e =
+      let n : r ≡ number_of (get_or s (at + 3) 0 ∷ get_or s (at + 2) 0 ∷ get_or s (at + 1) 0 ∷ get_or s at 0 ∷ []) = e ∙ omega arith in
       let z : at + 3 ≡ suc (at + 2) = omega arith in
-      let u : eqb (d * 256 + c) 0 ≡ noughts s 2 (at + 2) =
-      rw (ec, ed, z) (behind-nought 1 (get_or s (suc (at + 2)) 0) (at + 2) (sym (byte-nought (suc (at + 2))))) in (
-        ap (λ (x : ℕ). eqb x 0) n ∙ (λ j. eqb (number_of (ed j ∷ ec j ∷ eb j ∷ ea j ∷ [])) 0) ∙ quad_nought at,
-        ap (ltb 65535) n ∙ upper_two a b c d ha hb ∙ ap not u,
+      let u : eqb (get_or s (at + 3) 0 * 256 + get_or s (at + 2) 0) 0 ≡ noughts s 2 (at + 2) =
+      rw z (behind-nought 1 (get_or s (suc (at + 2)) 0) (at + 2) (sym (byte-nought (suc (at + 2))))) in (
+        ap (λ (x : ℕ). eqb x 0) n ∙ quad_nought at,
+        ap (ltb 65535) n ∙ upper_two (get_or s at 0) (get_or s (at + 1) 0) (get_or s (at + 2) 0) (get_or s (at + 3) 0) (h at) (h (at + 1)) ∙ ap not u,
       )
 
   -- ---- a number of some bytes; some numbers one after the other

@@ -124,10 +124,7 @@ pub(crate) fn at_most(n: u8, most: u8) -> u8
     ensures upper_bound { result ≤ most }
     ensures value { n ≤ most → result ≡ n }
 {
-    if most < n {
-        return most;
-    }
-    n
+    n.min(most)
 }
 
 // The mail of a task; a number that names no task has none.

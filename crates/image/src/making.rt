@@ -39,9 +39,9 @@ fn set_own(b: &mut [u8], config: &[u8], n: u8)
     ensures { (t : Table) → Laid b.old t → t.tasks ≡ pad 16 no_task []
         → Laid b.new (with_tasks (pad 16 no_task (sleepers config.now n 1)) t) }
 {
-    for i in 0..n as usize {
-        let own = byte_at(config, i * 3 + 3);
-        numbers::put_byte(b, i * 26, own);
+    for i in 0..n {
+        let own = byte_at(config, (i as usize) * 3 + 3);
+        numbers::put_byte(b, (i as usize) * 26, own);
     }
 }
 

@@ -10,20 +10,6 @@ pub(crate) fn wide(x: u8) -> u32
     x as u32
 }
 
-// The number of two bytes, the first the higher.
-fn pair(a: u8, b: u8) -> u16
-    ensures { result ≡ number_of (a ∷ b ∷ []) }
-{
-    (a as u16) * 256 + (b as u16)
-}
-
-// The number of four bytes, the first the highest.
-pub(crate) fn word(a: u8, b: u8, c: u8, d: u8) -> u32
-    ensures { result ≡ number_of (a ∷ b ∷ c ∷ d ∷ []) }
-{
-    (((a as u32) * 256 + (b as u32)) * 256 + (c as u32)) * 256 + (d as u32)
-}
-
 // The numbers of one, two, four and eight bytes from a place on.
 pub(crate) fn byte_in(bytes: &[u8], at: usize) -> u8
     requires { at + 1 ≤ length bytes.now }
@@ -36,21 +22,21 @@ pub(crate) fn pair_in(bytes: &[u8], at: usize) -> u16
     requires { at + 2 ≤ length bytes.now }
     ensures { result ≡ number_of (part 2 at bytes.now) }
 {
-    pair(bytes[at], bytes[at + 1])
+    u16::from_be_bytes([bytes[at], bytes[at + 1]])
 }
 
 pub(crate) fn word_in(bytes: &[u8], at: usize) -> u32
     requires { at + 4 ≤ length bytes.now }
     ensures { result ≡ number_of (part 4 at bytes.now) }
 {
-    word(bytes[at], bytes[at + 1], bytes[at + 2], bytes[at + 3])
+    u32::from_be_bytes([bytes[at], bytes[at + 1], bytes[at + 2], bytes[at + 3]])
 }
 
 pub(crate) fn long_in(bytes: &[u8], at: usize) -> u64
     requires { at + 8 ≤ length bytes.now }
     ensures { result ≡ number_of (part 8 at bytes.now) }
 {
-    (word_in(bytes, at) as u64) * 4294967296 + (word_in(bytes, at + 4) as u64)
+    (u64::from(word_in(bytes, at)) << 32) | u64::from(word_in(bytes, at + 4))
 }
 
 // Write a number over one, two, four and eight bytes from a place on.
@@ -65,18 +51,20 @@ pub(crate) fn put_pair(out: &mut [u8], at: usize, x: u16)
     requires { at + 2 ≤ length out.old }
     ensures { out.new ≡ written out.old at (bytes_in 2 x) }
 {
-    out[at] = (x / 256) as u8;
-    out[at + 1] = (x % 256) as u8;
+    let [high, low] = x.to_be_bytes();
+    out[at] = high;
+    out[at + 1] = low;
 }
 
 pub(crate) fn put_word(out: &mut [u8], at: usize, x: u32)
     requires { at + 4 ≤ length out.old }
     ensures { out.new ≡ written out.old at (bytes_in 4 x) }
 {
-    out[at] = (x / 16777216) as u8;
-    out[at + 1] = (x / 65536 % 256) as u8;
-    out[at + 2] = (x / 256 % 256) as u8;
-    out[at + 3] = (x % 256) as u8;
+    let [a, b, c, d] = x.to_be_bytes();
+    out[at] = a;
+    out[at + 1] = b;
+    out[at + 2] = c;
+    out[at + 3] = d;
 }
 
 pub(crate) fn put_long(out: &mut [u8], at: usize, x: u64)

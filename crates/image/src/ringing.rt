@@ -27,6 +27,7 @@ pub(crate) fn next_due(b: &[u8], running: u32, from: u8, time: u64) -> u8
     ensures value { (t : Table) → Laid b.now t → Running running t.rest.alarms
         → result ≡ next_of (is_due time) from (drop from t.rest.alarms) }
 {
+    // A while: it steps by the next set bit, not by one.
     let mut i = members::next_in(running, from);
     while i < 32 {
         if is_due(b, i as usize, time) {
@@ -45,9 +46,10 @@ pub(crate) fn rings(b: &[u8], running: u32, flags: u32, first: u8, time: u64) ->
         → result ≡ each (rung_in time t.rest.alarms) 32 0 flags }
 {
     let mut more = flags;
+    // A while: it steps by the next alarm that is due, not by one.
     let mut i = first;
     while i < 32 {
-        more = more | changes::bit_of(i as usize);
+        more |= changes::bit_of(i as usize);
         i = next_due(b, running, i + 1, time);
     }
     more

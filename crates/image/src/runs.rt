@@ -24,13 +24,13 @@ fn holds_any(b: &[u8], k: TaskNo) -> bool
 }
 
 // The place of the earliest request for a task, of the first n.
-fn first_for(b: &[u8], n: usize, k: TaskNo) -> Option<usize>
+fn first_for(b: &[u8], n: u8, k: TaskNo) -> Option<u8>
     requires { (length b.now ≡ image_length) × (n ≤ 32) }
     ensures place { IfSome result (λ i. i < n) }
     ensures value { (t : Table) → Laid b.now t
         → place_of k.0 (take n t.rest.pool) ≡ unwrap_or result n }
 {
-    (0..n).find(|i| k.0 == b[POOL + *i * 6])
+    (0..n).find(|i| k.0 == b[POOL + (*i as usize) * 6])
 }
 
 // Kind 00.
@@ -43,8 +43,9 @@ pub(crate) fn terminate(b: &[u8], c: TaskNo) -> Decision
         return decisions::refused(15);
     }
     let w = fields::end_waiter(b, c);
-    let n = fields::at_most(b[fields::QUEUED], 32) as usize;
-    if let Some(i) = first_for(b, n, c) {
+    let n = fields::at_most(b[fields::QUEUED], 32);
+    if let Some(place) = first_for(b, n, c) {
+        let i = place as usize;
         let q = loading::request_in(b, POOL + i * 6);
         return calls::begins_anew(w, c, q, i);
     }

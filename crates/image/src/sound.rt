@@ -1,5 +1,6 @@
 // The check in place: whether bytes are the image of a well-formed table, held to its rules where they lie. No table is
-// loaded. What it learns of the tasks and the alarms on its way is handed on.
+// loaded. What it learns of the tasks and the alarms on its way is handed on. Here and in the files of its parts a loop
+// counts in a byte: a usize has 64 bits, and a Cortex-M3 counts it in two registers.
 ghost use Rattle.std.specs.Prelude.{◌≡◌, true, ◌≤◌, length};
 ghost use Rattle.executive.specs.Lists.{◌and◌, up_to};
 ghost use Rattle.executive.specs.Check.{is_well_formed};

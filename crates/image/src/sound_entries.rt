@@ -144,7 +144,7 @@ pub(crate) fn entries_right(b: &[u8], count: u8, time: Millis, flags: u32) -> bo
     requires { (length b.now ≡ image_length) × (count ≤ 16) }
     ensures { result ≡ below (sound_at b.now count time.0 flags) count }
 {
-    (0..count as usize).all(|i| entry_right(b, i, count, time, flags))
+    (0..count).all(|i| entry_right(b, i as usize, count, time, flags))
 }
 
 // The entries past the task count are zero, and the numbers that their states wait for.
@@ -165,9 +165,9 @@ pub(crate) fn kind_sets(b: &[u8], count: u8) -> [u16; 10]
     ensures { Kinds count result (tasks_in b.now) }
 {
     let mut sets = [0u16; 10];
-    for k in 0..count as usize {
-        let m = b[k * 26 + 1] as usize;
-        sets[m] = sets[m] | (1u16 << (k as u32));
+    for k in 0..count {
+        let m = b[(k as usize) * 26 + 1] as usize;
+        sets[m] |= 1u16 << (k as u32);
     }
     sets
 }
@@ -179,14 +179,14 @@ pub(crate) fn all_alarms(b: &[u8], time: Millis) -> Option<u32>
     ensures running { IfSome result (λ running. Running running (load_of b.now).rest.alarms) }
 {
     let mut running: u32 = 0;
-    for i in 0..32 {
-        let place = ALARMS + i * 8;
+    for i in 0..32u8 {
+        let place = ALARMS + (i as usize) * 8;
         if zeros::eight(b, place) != 0 {
             let at = numbers::long_in(b, place);
             if !rules::is_stored(Millis(at), time) {
                 return None;
             }
-            running |= changes::bit_of(i);
+            running |= changes::bit_of(i as usize);
         }
     }
     Some(running)

@@ -48,8 +48,8 @@ pub(crate) fn named(b: &[u8], set: u32, at: usize, step: usize, n: u8, count: u8
     ensures { result ≡ namings count set (names_in b.now step n at) }
 {
     let mut all = set;
-    for i in 0..n as usize {
-        all = with(all, b[at + i * step], count);
+    for i in 0..n {
+        all = with(all, b[at + (i as usize) * step], count);
     }
     all
 }
@@ -74,8 +74,8 @@ fn requests_right(b: &[u8], queued: u8, count: u8, idle: u32, ends: u32) -> Opti
 {
     let mut starts: u32 = 0;
     let mut all_ends = ends;
-    for i in 0..queued as usize {
-        let at = POOL + i * 6;
+    for i in 0..queued {
+        let at = POOL + (i as usize) * 6;
         let target = b[at];
         if count < target {
             return None;

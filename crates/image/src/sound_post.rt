@@ -38,8 +38,8 @@ fn letters_right(b: &[u8], sent: u8, count: u8, free: u32) -> bool
     ensures { result ≡ letters_right (tasks_in b.now) count 15 (take sent (messages_in b.now)) }
 {
     let mut p: u8 = 15;
-    for i in 0..sent as usize {
-        let at = MESSAGES + i * 11;
+    for i in 0..sent {
+        let at = MESSAGES + (i as usize) * 11;
         let to = b[at];
         let sender = b[at + 1];
         let priority = b[at + 2];

@@ -29,8 +29,8 @@ pub(crate) fn walk(b: &[u8], at: usize, taken: u8, count: u8) -> Option<Walked>
     let mut p: u8 = 15;
     let mut seen: u32 = 0;
     let mut word: u16 = 0;
-    for i in 0..taken as usize {
-        let k = places::entry_place(TaskNo(b[at + i]));
+    for i in 0..taken {
+        let k = places::entry_place(TaskNo(b[at + i as usize]));
         if count as usize <= k {
             return None;
         }

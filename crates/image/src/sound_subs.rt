@@ -18,11 +18,12 @@ fn waiting_sets(b: &[u8], count: u8, waiters: u16) -> [u16; 8]
     ensures { Waiting count result (tasks_in b.now) }
 {
     let mut sets = [0u16; 8];
+    // A while: it steps by the next set bit, not by one.
     let mut k = members::next_in(waiters as u32, 0);
     while k < count {
         let m = b[AWAITED + k as usize];
         if m < 8 {
-            sets[m as usize] = sets[m as usize] | (1u16 << (k as u32));
+            sets[m as usize] |= 1u16 << (k as u32);
         }
         k = members::next_in(waiters as u32, k + 1);
     }
@@ -99,6 +100,7 @@ pub(crate) fn subs_right(b: &[u8], count: u8, waiters: u16) -> bool
 {
     let sets = waiting_sets(b, count, waiters);
     let used = used_subs(b, sets);
+    // A while: it steps by the next set bit, not by one.
     let mut m = members::next_in(used, 0);
     while m < 8 {
         let i = m as usize;

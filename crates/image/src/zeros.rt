@@ -1,5 +1,5 @@
-// Whether bytes are all zero, thirty-two at a time where there are as many. Four bytes are put together lowest first by
-// shifts: a Cortex-M3 then reads them at once, and takes one instruction more for each four.
+// Whether bytes are all zero, thirty-two at a time where there are as many. Four bytes are put together lowest first: a
+// Cortex-M3 then reads them at once, and takes one instruction more for each four.
 ghost use Rattle.std.specs.Prelude.{◌≡◌, not, ◌+◌, ◌-◌, ◌≤◌, eqb, ltb, length};
 ghost use Rattle.image.specs.Image.{image_length};
 ghost use Rattle.image.specs.Sound.{noughts};
@@ -12,10 +12,7 @@ pub(crate) fn quad(b: &[u8], at: usize) -> u32
     ensures result_value { eqb result 0 ≡ noughts b.now 4 at }
     ensures result_value_2 { ltb 65535 result ≡ not (noughts b.now 2 (at + 2)) }
 {
-    numbers::wide(b[at])
-        | (numbers::wide(b[at + 1]) << 8)
-        | (numbers::wide(b[at + 2]) << 16)
-        | (numbers::wide(b[at + 3]) << 24)
+    u32::from_le_bytes([b[at], b[at + 1], b[at + 2], b[at + 3]])
 }
 
 // A number that is zero where eight, twelve, sixteen or thirty-two bytes are.
@@ -55,17 +52,17 @@ pub(crate) fn are_zero(b: &[u8], from: usize, to: usize) -> bool
     let end = to as u32;
     let mut at = from as u32;
     let mut all: u32 = 0;
+    // Whiles: they step by thirty-two bytes and by four.
     while 32 <= end - at {
-        all = all | thirty_two(b, at as usize);
+        all |= thirty_two(b, at as usize);
         at += 32;
     }
     while 4 <= end - at {
-        all = all | quad(b, at as usize);
+        all |= quad(b, at as usize);
         at += 4;
     }
-    while at < end {
-        all = all | numbers::wide(b[at as usize]);
-        at += 1;
+    for i in at..end {
+        all |= numbers::wide(b[i as usize]);
     }
     all == 0
 }

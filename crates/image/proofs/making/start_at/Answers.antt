@@ -14,12 +14,3 @@ returns c =
     let e = c.beginning.ensures t l in
     start-one _ _ p.1 t n l f d _ _ _ c.byte_at.ensures c.if-byte_at-ne1.false c.byte_at-own.ensures a refl
     (c.line_up.ensures.laid t _ e f.fit (omega (arith, f.room)) f.lit d a).0
-
-pub overflow_cast-at : goal.overflow_cast-at
-overflow_cast-at c = omega arith
-
-pub overflow_mul-at : goal.overflow_mul-at
-overflow_mul-at c = omega arith
-
-pub overflow_add-at : goal.overflow_add-at
-overflow_add-at c = omega arith

@@ -1,7 +1,5 @@
 -- `members::next_in` meets its contract: no number is left, no member is, or the lowest of those that are left is the one.
-use Prim.Native.Nat.{◌/◌, ◌^◌}
 use native.Mathlib.Omega.{arith}
-use lib.Count.{trailing_le}
 use Rattle.image.proofs.SetBits.{next_past, next-none, next-first}
 use Rattle.image.proofs.members.next_in.Goals as goal
 
@@ -10,12 +8,6 @@ returns-then-from-gt31 c = next_past c.args.set c.args.from (omega arith) c.requ
 
 pub returns-then-left-eq0 : goal.returns-then-left-eq0
 returns-then-left-eq0 c = next-none c.args.set c.args.from (omega arith) c.requires c.if-left-eq0.true
-
-pub overflow_cast-result : goal.overflow_cast-result
-overflow_cast-result c = omega (arith, trailing_le 32 (c.args.set / 2 ^ c.args.from))
-
-pub overflow_add-result : goal.overflow_add-result
-overflow_add-result c = omega (arith, trailing_le 32 (c.args.set / 2 ^ c.args.from))
 
 pub returns : goal.returns
 returns c = next-first c.args.set c.args.from (omega arith) c.if-from-gt31.false c.if-left-eq0.false

@@ -1,20 +1,13 @@
--- `numbers::put_word` meets its contract: four stores.
-use mathlib.Core.Path.{ap, ◌∙◌}
+-- `numbers::put_word` meets its contract: the bytes of the number, a store each.
+use mathlib.Core.Path.{◌≡◌, ◌∙◌}
 use native.Mathlib.Omega.{arith}
-use lib.ListN.{length-set}
-use Rattle.image.specs.Blocks.{written}
-use Rattle.image.proofs.Digits.{four}
+use Rattle.records.specs.Numbers.{bytes_in}
+use Rattle.image.proofs.Digits.{be-four}
 use Rattle.image.proofs.Spans.{stored-four}
 use Rattle.image.proofs.numbers.put_word.Goals as goal
 
 pub returns : goal.returns
-returns c = let a = c.args in stored-four a.out.now a.at _ _ _ _ c.requires ∙ ap (written a.out.now a.at) (four a.x)
-
-pub bounds-out-at-2 : goal.bounds-out-at-2
-bounds-out-at-2 c = simp length-set (omega arith)
-
-pub bounds-out-at-3 : goal.bounds-out-at-3
-bounds-out-at-3 c = simp length-set (omega arith)
-
-pub bounds-out-at-4 : goal.bounds-out-at-4
-bounds-out-at-4 c = simp length-set (omega arith)
+returns c =
+    let a = c.args in
+    let e : c.to_be_bytes.result ≡ bytes_in 4 a.x = c.to_be_bytes.ensures ∙ be-four a.x (omega arith) in
+    rw e (stored-four a.out.now a.at _ _ _ _ c.requires)

@@ -5,20 +5,11 @@ use native.Mathlib.Omega.{arith}
 use Rattle.image.proofs.RingLaid.{runs, due-hit, due-end, due-first, due-next}
 use Rattle.image.proofs.ringing.next_due.Goals as goal
 
-pub next_in-i-requires : goal.next_in-i-requires
-next_in-i-requires c = c.requires.1
-
 pub loop-i-init : goal.loop-i-init
 loop-i-init c =
     let a = c.args in
     let n = c.next_in-i.ensures in
     (n.least, n.most, n.member, λ t l r. due-first a.time t l r a.from _ n)
-
-pub overflow_cast-i : goal.overflow_cast-i
-overflow_cast-i c = omega arith
-
-pub is_due-requires : goal.is_due-requires
-is_due-requires c = (c.requires.0, c.loop-i-test.true)
 
 pub returns-then-is_due : goal.returns-then-is_due
 returns-then-is_due c =
@@ -29,15 +20,6 @@ returns-then-is_due c =
       lower_bound = (v.invariant.0, v.invariant.1);
       value = λ t l r. due-hit a.time t l v.i u (sym (c.is_due.ensures t l (runs r v.i u (v.invariant.2 u))) ∙ c.if-is_due.true) ∙ v.invariant.3 t l r;
     }
-
-pub overflow_add-i : goal.overflow_add-i
-overflow_add-i c = omega (arith, c.loop-i-test.true)
-
-pub next_in-i-requires-in-loop-i : goal.next_in-i-requires-in-loop-i
-next_in-i-requires-in-loop-i c = omega (arith, c.loop-i-test.true)
-
-pub loop-i-smaller : goal.loop-i-smaller
-loop-i-smaller c = omega (arith, c.next_in-i-in-loop-i.ensures.least, c.next_in-i-in-loop-i.ensures.most, c.loop-i-test.true)
 
 pub loop-i-preserved : goal.loop-i-preserved
 loop-i-preserved c =

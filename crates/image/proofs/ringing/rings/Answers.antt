@@ -17,21 +17,6 @@ loop-i-init c =
           (h.2, sym h.3),
     )
 
-pub overflow_cast-i : goal.overflow_cast-i
-overflow_cast-i c = omega arith
-
-pub bit_of-more-requires : goal.bit_of-more-requires
-bit_of-more-requires c = c.loop-i-test.true
-
-pub overflow_add-i : goal.overflow_add-i
-overflow_add-i c = omega (arith, c.loop-i-test.true)
-
-pub next_due-i-requires : goal.next_due-i-requires
-next_due-i-requires c = (c.requires.0, omega (arith, c.loop-i-test.true))
-
-pub loop-i-smaller : goal.loop-i-smaller
-loop-i-smaller c = omega (arith, c.next_due-i.ensures.lower_bound.0, c.next_due-i.ensures.lower_bound.1, c.loop-i-test.true)
-
 pub loop-i-preserved : goal.loop-i-preserved
 loop-i-preserved c =
     let a = c.args in

@@ -47,21 +47,6 @@ returns-in_default c =
     let fs = c.word_in-flags in
     rule-broken s h t.result fs.result t.ensures fs.ensures (λ z. never (c.in_default.ensures.right ∙ z.alarms))
 
-pub kind_sets-sets-requires : goal.kind_sets-sets-requires
-kind_sets-sets-requires c =
-    let s = c.args.b.now in
-    let h : Bytes s = λ k. omega (arith, c.type_inv.b k) in
-    let t = c.long_in-time in
-    let fs = c.word_in-flags in
-    let n = few s c.long_in-time.result (sym c.in_bounds.ensures ∙ c.if-not-in_bounds.false) in
-    let es = sym c.entries_right.ensures ∙ c.if-not-entries_right.false in
-    (c.if-b-ne-IMAGE.false, n, kinds-known s h t.result fs.result t.ensures fs.ensures c.if-b-ne-IMAGE.false n es)
-
-pub queue_right-requires : goal.queue_right-requires
-queue_right-requires c =
-    let s = c.args.b.now in
-    (c.if-b-ne-IMAGE.false, ready-there s, count-there s, c.kind_sets-sets.ensures.each 1 (omega arith))
-
 pub returns-then-not-queue_right : goal.returns-then-not-queue_right
 returns-then-not-queue_right c =
     let s = c.args.b.now in
@@ -85,3 +70,18 @@ returns c =
     (sym c.in-Some.ensures.right)
     (sym c.queue_right.ensures ∙ c.if-not-queue_right.false)
     c.kind_sets-sets.ensures c.in-Some.ensures.running
+
+pub kind_sets-sets-requires : goal.kind_sets-sets-requires
+kind_sets-sets-requires c =
+    let s = c.args.b.now in
+    let h : Bytes s = λ k. omega (arith, c.type_inv.b k) in
+    let t = c.long_in-time in
+    let fs = c.word_in-flags in
+    let n = few s c.long_in-time.result (sym c.in_bounds.ensures ∙ c.if-not-in_bounds.false) in
+    let es = sym c.entries_right.ensures ∙ c.if-not-entries_right.false in
+    (c.if-b-ne-IMAGE.false, n, kinds-known s h t.result fs.result t.ensures fs.ensures c.if-b-ne-IMAGE.false n es)
+
+pub queue_right-requires : goal.queue_right-requires
+queue_right-requires c =
+    let s = c.args.b.now in
+    (c.if-b-ne-IMAGE.false, ready-there s, count-there s, c.kind_sets-sets.ensures.each 1 (omega arith))

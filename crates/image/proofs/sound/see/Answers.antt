@@ -8,14 +8,14 @@ use Rattle.image.proofs.sound.see.Goals as goal
 pub returns-then-not-seen : goal.returns-then-not-seen
 returns-then-not-seen c = sees_wrong c.args.b.now c.begin-seen.ensures (not-true _ c.if-not-seen.true)
 
-pub lists_right-requires : goal.lists_right-requires
-lists_right-requires c =
-    let r = not-false _ c.if-not-seen.false in
-    let b = c.begin-seen.ensures in
-    ((image-parts c.args.b.now (b.image r)).0, (b.counted r).1, (b.counted r).0, b.known r, b.kinds r, b.others r)
-
 pub returns-then-not-lists_right : goal.returns-then-not-lists_right
 returns-then-not-lists_right c = sees_not c.args.b.now c.begin-seen.ensures (not-false _ c.if-not-seen.false) (sym c.lists_right.ensures ∙ c.if-not-lists_right.true)
 
 pub returns : goal.returns
 returns c = sees_all c.args.b.now c.begin-seen.ensures (not-false _ c.if-not-seen.false) (sym c.lists_right.ensures ∙ c.if-not-lists_right.false)
+
+pub lists_right-requires : goal.lists_right-requires
+lists_right-requires c =
+    let r = not-false _ c.if-not-seen.false in
+    let b = c.begin-seen.ensures in
+    ((image-parts c.args.b.now (b.image r)).0, (b.counted r).1, (b.counted r).0, b.known r, b.kinds r, b.others r)

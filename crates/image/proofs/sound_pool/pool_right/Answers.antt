@@ -6,13 +6,6 @@ use Rattle.image.proofs.Named.{moved-bits}
 use Rattle.image.proofs.PoolRead.{none-idle, starts-differ, ends-differ, pool-last}
 use Rattle.image.proofs.sound_pool.pool_right.Goals as goal
 
-pub requests_right-requires : goal.requests_right-requires
-requests_right-requires c =
-    let a = c.args in
-    let g = c.requires in
-    let ts = tasks_in c.args.b.now in
-    (g.0, g.1, g.2, moved-bits is_dormant ts a.count a.idle g.2 g.3 (none-idle ts))
-
 pub returns-then-w-starts : goal.returns-then-w-starts
 returns-then-w-starts c =
     let a = c.args in
@@ -33,3 +26,10 @@ returns c =
     let g = c.requires in
     let w = c.in-Some in
     pool-last a.b.now a.count a.queued g.2 g.1 c.named-runs.result c.named-runs.ensures _ w.w.starts w.w.ends w.ensures.right (λ e. w.ensures.waiters) refl a.starts a.ends g.4 g.5 c.if-w-starts.false c.if-w-ends.false g.6 c.are_zero.result c.are_zero.ensures
+
+pub requests_right-requires : goal.requests_right-requires
+requests_right-requires c =
+    let a = c.args in
+    let g = c.requires in
+    let ts = tasks_in c.args.b.now in
+    (g.0, g.1, g.2, moved-bits is_dormant ts a.count a.idle g.2 g.3 (none-idle ts))

@@ -10,33 +10,12 @@ use Rattle.image.proofs.LinesRead.{waiting-first, waiting-next, waiting-kind, wa
 use Rattle.image.proofs.sound_subs.waiting_sets.Goals as goal
 use Rattle.image.proofs.sound_subs.waiting_sets.Goals.{then-m-lt8, else-m-lt8}
 
-pub next_in-k-requires : goal.next_in-k-requires
-next_in-k-requires c = omega arith
-
 pub loop-k-init : goal.loop-k-init
 loop-k-init c =
     let a = c.args in
     let g = c.requires in
     let r = c.next_in-k.ensures in
     (r.most, r.member, waiting-first a.b.now a.count a.waiters g.1 g.3 c.next_in-k.result r)
-
-pub overflow_add-m : goal.overflow_add-m
-overflow_add-m c = omega (arith, c.requires.0, c.requires.1, c.loop-k-test.true)
-
-pub bounds-b-k : goal.bounds-b-k
-bounds-b-k c = omega (arith, c.requires.0, c.requires.1, c.loop-k-test.true)
-
-pub overflow_shl-sets : goal.overflow_shl-sets
-overflow_shl-sets c = omega (arith, c.requires.0, c.requires.1, c.loop-k-test.true)
-
-pub overflow_add-k : goal.overflow_add-k
-overflow_add-k c = omega (arith, c.requires.0, c.requires.1, c.loop-k-test.true)
-
-pub next_in-k-requires-in-loop-k : goal.next_in-k-requires-in-loop-k
-next_in-k-requires-in-loop-k c = omega (arith, c.requires.0, c.requires.1, c.loop-k-test.true)
-
-pub loop-k-smaller : goal.loop-k-smaller
-loop-k-smaller c = omega (arith, c.requires.1, c.loop-k-test.true, c.next_in-k-in-loop-k.ensures.least, c.next_in-k-in-loop-k.ensures.most)
 
 pub loop-k-preserved : goal.loop-k-preserved
 loop-k-preserved c =

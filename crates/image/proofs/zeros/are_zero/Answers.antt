@@ -8,28 +8,10 @@ use Rattle.image.specs.Sound.{noughts}
 use Rattle.image.proofs.Noughts.{noughts-none, byte-nought, or-past}
 use Rattle.image.proofs.zeros.are_zero.Goals as goal
 
-pub overflow_cast-end : goal.overflow_cast-end
-overflow_cast-end c = omega (arith, c.requires.2)
-
-pub overflow_cast-at : goal.overflow_cast-at
-overflow_cast-at c = omega (arith, c.requires.0, c.requires.2)
-
 pub loop-at-init : goal.loop-at-init
 loop-at-init c =
     let a = c.args in
     (omega arith, c.requires.0, eq-eqb 0 0 refl ∙ sym (noughts-none a.b.now (a.from - a.from) a.from (omega arith)))
-
-pub overflow_sub-end : goal.overflow_sub-end
-overflow_sub-end c = c.loop-at.invariant.1
-
-pub thirty_two-all-requires : goal.thirty_two-all-requires
-thirty_two-all-requires c = omega (arith, c.requires.1, c.loop-at.invariant.1, c.loop-at-test.true)
-
-pub overflow_add-at : goal.overflow_add-at
-overflow_add-at c = omega (arith, c.requires.2, c.loop-at.invariant.1, c.loop-at-test.true)
-
-pub loop-at-smaller : goal.loop-at-smaller
-loop-at-smaller c = omega (arith, c.loop-at.invariant.1, c.loop-at-test.true)
 
 pub loop-at-preserved : goal.loop-at-preserved
 loop-at-preserved c =
@@ -41,18 +23,6 @@ loop-at-preserved c =
 pub loop-at-2-init : goal.loop-at-2-init
 loop-at-2-init c = c.loop-at.invariant
 
-pub overflow_sub-end-in-loop-at-2 : goal.overflow_sub-end-in-loop-at-2
-overflow_sub-end-in-loop-at-2 c = c.loop-at-2.invariant.1
-
-pub quad-all-requires : goal.quad-all-requires
-quad-all-requires c = omega (arith, c.requires.1, c.loop-at-2.invariant.1, c.loop-at-2-test.true)
-
-pub overflow_add-at-in-loop-at-2 : goal.overflow_add-at-in-loop-at-2
-overflow_add-at-in-loop-at-2 c = omega (arith, c.requires.2, c.loop-at-2.invariant.1, c.loop-at-2-test.true)
-
-pub loop-at-2-smaller : goal.loop-at-2-smaller
-loop-at-2-smaller c = omega (arith, c.loop-at-2.invariant.1, c.loop-at-2-test.true)
-
 pub loop-at-2-preserved : goal.loop-at-2-preserved
 loop-at-2-preserved c =
     let a = c.args in
@@ -60,28 +30,18 @@ loop-at-2-preserved c =
     let t = c.loop-at-2-test.true in
     (omega (arith, v.invariant.0), omega (arith, v.invariant.1, t), or-past a.b.now 4 a.from v.at v.all c.quad-all.result v.invariant.0 v.invariant.2 c.quad-all.ensures.result_value)
 
-pub loop-at-3-init : goal.loop-at-3-init
-loop-at-3-init c = c.loop-at-2.invariant
+pub loop-i-init : goal.loop-i-init
+loop-i-init c = (c.loop-at-2.invariant.0, c.loop-at-2.invariant.2)
 
-pub bounds-b-at : goal.bounds-b-at
-bounds-b-at c = omega (arith, c.requires.1, c.loop-at-3-test.true)
-
-pub overflow_add-at-in-loop-at-3 : goal.overflow_add-at-in-loop-at-3
-overflow_add-at-in-loop-at-3 c = omega (arith, c.requires.2, c.loop-at-3-test.true)
-
-pub loop-at-3-smaller : goal.loop-at-3-smaller
-loop-at-3-smaller c = omega (arith, c.loop-at-3-test.true)
-
-pub loop-at-3-preserved : goal.loop-at-3-preserved
-loop-at-3-preserved c =
+pub loop-i-preserved : goal.loop-i-preserved
+loop-i-preserved c =
     let a = c.args in
-    let v = c.loop-at-3 in
-    let t = c.loop-at-3-test.true in
-    (omega (arith, v.invariant.0), omega (arith, v.invariant.1, t), or-past a.b.now 1 a.from v.at v.all c.wide-all.result v.invariant.0 v.invariant.2 (ap (λ (x : ℕ). eqb x 0) c.wide-all.ensures ∙ sym (byte-nought a.b.now v.at)))
+    let v = c.loop-i in
+    (omega (arith, v.invariant.0), or-past a.b.now 1 a.from v.i v.all c.wide-all.result v.invariant.0 v.invariant.1 (ap (λ (x : ℕ). eqb x 0) c.wide-all.ensures ∙ sym (byte-nought a.b.now v.i)))
 
 pub returns : goal.returns
 returns c =
     let a = c.args in
-    let v = c.loop-at-3 in
-    let e : v.at ≡ a.to = omega (arith, v.invariant.1, c.loop-at-3-test.false) in
-    v.invariant.2 ∙ ap (λ (n : ℕ). noughts a.b.now (n - a.from) a.from) e
+    let v = c.loop-i in
+    let e : v.i ≡ a.to = omega (arith, c.loop-at-2.invariant.1) in
+    v.invariant.1 ∙ ap (λ (n : ℕ). noughts a.b.now (n - a.from) a.from) e

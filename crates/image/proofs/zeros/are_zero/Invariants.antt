@@ -17,8 +17,5 @@ invariant-loop-at-2 l = (l.from ≤ l.at) × (l.at ≤ l.to) × (eqb l.all 0 ≡
 abbrev pub decreases-loop-at-2 : goal.decreases-loop-at-2
 decreases-loop-at-2 l = l.to - l.at
 
-abbrev pub invariant-loop-at-3 : goal.invariant-loop-at-3
-invariant-loop-at-3 l = (l.from ≤ l.at) × (l.at ≤ l.to) × (eqb l.all 0 ≡ noughts l.b (l.at - l.from) l.from)
-
-abbrev pub decreases-loop-at-3 : goal.decreases-loop-at-3
-decreases-loop-at-3 l = l.to - l.at
+abbrev pub invariant-loop-i : goal.invariant-loop-i
+invariant-loop-i l = (l.from ≤ l.i) × (eqb l.all 0 ≡ noughts l.b (l.i - l.from) l.from)
