@@ -124,6 +124,10 @@ module _ {A : Type 0} (f : A → List ℕ) (w : ℕ) where
   pub row_done : (o q : List ℕ) (xs : List A) (base i : ℕ) → q ≡ written o base (row f (take i xs)) → length xs ≤ i → q ≡ written o base (row f xs)
   row_done o q xs base i e h = e ∙ ap (λ l. written o base (row f l)) (take_all i xs h)
 
+-- a block of a row of n ends within it
+pub block-within : (i n w : ℕ) → i < n → i * w + w ≤ n * w
+block-within i n w h = grind arith
+
 -- the same where f makes w bytes of any element
 module _ {A : Type 0} (f : A → List ℕ) (w : ℕ) (size : (x : A) → length (f x) ≡ w) where
   pub length-row : (xs : List A) → length (row f xs) ≡ length xs * w

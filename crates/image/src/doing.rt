@@ -47,15 +47,9 @@ fn enter_all(b: &mut [u8], list: Entrants, q: Request, time: Millis) -> u8
     if 16 < list.count {
         return 0;
     }
-    let n = list.count;
     let mut walked: u8 = 0;
-    let mut i: u8 = 0;
-    while i < n {
-        let x = list.places[i as usize];
-        let k = x.who;
-        let how = x.how;
-        walked = walked + moves::enter(b, k, how, q, time);
-        i += 1;
+    for x in &list.places[..list.count as usize] {
+        walked += moves::enter(b, x.who, x.how, q, time);
     }
     walked
 }

@@ -18,14 +18,12 @@ fn ahead(b: &[u8], n: usize, p: u8) -> usize
     requires { (length b.now ≡ image_length) × (n ≤ 32) }
     ensures { (t : Table) → Laid b.now t → result ≡ stay_ahead urgency p (take n t.rest.messages) }
 {
-    let mut i: usize = 0;
-    while i < n {
+    for i in 0..n {
         if b[MESSAGES + i * 11 + 2] < p {
             return i;
         }
-        i += 1;
     }
-    i
+    n
 }
 
 // Whether the message at a place fits one who receives as task k, from number s or, where s is 0, from any.
@@ -49,14 +47,12 @@ fn first_fit(b: &[u8], n: usize, k: TaskNo, s: TaskNo) -> usize
     ensures { (t : Table) → Laid b.now t
         → result ≡ first_fit k.0 s.0 (take n t.rest.messages) }
 {
-    let mut i: usize = 0;
-    while i < n {
+    for i in 0..n {
         if is_fit(b, i, k, s) {
             return i;
         }
-        i += 1;
     }
-    i
+    n
 }
 
 // Kind 14: a task that waits for it gets it and enters; else it waits, behind all of equal or higher priority.

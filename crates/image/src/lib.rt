@@ -17,6 +17,7 @@ mod deeds;
 mod doing;
 mod entries;
 mod fields;
+mod laying;
 mod letters;
 mod lines;
 pub mod loading;
@@ -136,7 +137,7 @@ pub fn why(image: &[u8], task: u8, out: &mut [u8]) -> u8
         return NO_ROOM;
     }
     let told = reasons::reasons_of(image, TaskNo(task));
-    reasons::put_reasons(out, told);
+    reasons::put_reasons(out, &told);
     told.number
 }
 

@@ -1,11 +1,12 @@
 // Mending an image: the table of its bytes is mended, and each entry whose bytes differ is listed, also where they held
 // no more than its state has no use for.
-ghost use Rattle.std.specs.Prelude.{◌≡◌, ◌+◌, ◌≤◌, ◌<◌, length};
-ghost use Rattle.image.specs.Blocks.{row, written};
+ghost use Rattle.std.specs.Prelude.{◌≡◌, ◌≤◌, ◌<◌, length};
+ghost use Rattle.image.specs.Blocks.{written};
 ghost use Rattle.image.specs.Image.{image_length};
 ghost use Rattle.image.specs.Mending.{is_plain, rule_for, list_rule, notes_from, placed, with_note, list_length, note_bytes, notes_bytes, MendsImage};
 
-use crate::{AWAITED, checking, loading, numbers, storing};
+use crate::laying::Block;
+use crate::{AWAITED, checking, laying, loading, numbers, storing};
 use executive::Millis;
 use mender::{Note, mending};
 use records::TaskNo;
@@ -39,24 +40,21 @@ fn is_plain(bytes: &[u8], i: usize) -> bool
 }
 
 // The rule of the first note of task k; another where there is none.
-fn rule_for(list: [Note; 16], k: u8, otherwise: u8) -> u8
-    ensures { result ≡ rule_for otherwise k list }
+fn rule_for(list: &[Note], k: u8, otherwise: u8) -> u8
+    ensures { result ≡ rule_for otherwise k list.now }
 {
-    let mut i: usize = 0;
-    while i < 16 {
-        let note = list[i];
+    for note in list {
         if k == note.task.0 {
             return note.rule;
         }
-        i += 1;
     }
     otherwise
 }
 
 // The rule with which the entry at place i is listed, beside the list of the mending.
-fn list_rule(bytes: &[u8], list: [Note; 16], i: usize) -> u8
+fn list_rule(bytes: &[u8], list: &[Note], i: usize) -> u8
     requires { (i < 16) × (image_length ≤ length bytes.now) }
-    ensures { result ≡ list_rule bytes.now list i }
+    ensures { result ≡ list_rule bytes.now list.now i }
 {
     let k = i as u8 + 1;
     if is_plain(bytes, i) {
@@ -83,51 +81,40 @@ fn with_note(l: Notes, k: u8, rule: u8) -> Notes
 }
 
 // The whole list of some bytes, beside the list of the mending.
-fn notes_of(bytes: &[u8], given: [Note; 16]) -> Notes
+fn notes_of(bytes: &[u8], given: &[Note]) -> Notes
     requires { image_length ≤ length bytes.now }
-    ensures { result ≡ placed (notes_from (list_rule bytes.now given) 16 0) }
+    ensures { result ≡ placed (notes_from (list_rule bytes.now given.now) 16 0) }
 {
     let mut l = Notes {
         list: [NO_NOTE; 16],
         noted: 0,
     };
-    let mut i: usize = 0;
-    while i < 16 {
+    for i in 0..16 {
         let rule = list_rule(bytes, given, i);
         l = with_note(l, i as u8 + 1, rule);
-        i += 1;
     }
     l
 }
 
-// Writes a note over 2 bytes.
-fn put_note(out: &mut [u8], at: usize, note: Note)
-    requires { at + 2 ≤ length out.old }
-    ensures { out.new ≡ written out.old at (note_bytes note) }
-{
-    storing::put_both(out, at, note.task.0, note.rule);
-}
+impl Block for Note {
+    ghost WIDTH = { 2 };
 
-// Writes the sixteen places of a list behind how many are taken.
-fn put_notes(out: &mut [u8], list: [Note; 16])
-    requires { list_length ≤ length out.old }
-    ensures { (length list ≡ 16) × (out.new ≡ written out.old 1 (row note_bytes list)) }
-{
-    let mut i: usize = 0;
-    while i < 16 {
-        put_note(out, 1 + i * 2, list[i]);
-        i += 1;
+    ghost bytes = { note_bytes };
+
+    const WIDTH: usize = 2;
+
+    fn put(&self, out: &mut [u8], at: usize) {
+        storing::put_both(out, at, self.task.0, self.rule);
     }
 }
 
-// Writes a list over 33 bytes.
-fn put_list(out: &mut [u8], l: Notes)
+// Writes a list over 33 bytes: how many places are taken, and behind that all sixteen.
+fn put_list(out: &mut [u8], l: &Notes)
     requires { list_length ≤ length out.old }
-    ensures { out.new ≡ written out.old 0 (notes_bytes l) }
+    ensures { out.new ≡ written out.old 0 (notes_bytes l.now) }
 {
     numbers::put_byte(out, 0, l.noted);
-    let list = l.list;
-    put_notes(out, list);
+    laying::put_row(out, 1, &l.list);
 }
 
 // Mends the bytes of an image, whatever they are.
@@ -141,9 +128,8 @@ pub(crate) fn mend_whole(image: &mut [u8], list: &mut [u8]) -> u8
     if number != 0 {
         return number;
     }
-    let given = mended.list;
-    let notes = notes_of(image, given);
-    put_list(list, notes);
+    let notes = notes_of(image, &mended.list);
+    put_list(list, &notes);
     let next = mended.table;
     storing::put_table(image, next);
     0

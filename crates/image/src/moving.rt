@@ -27,13 +27,13 @@ fn few_up(b: &mut [u8], to: usize, from: usize, n: usize)
     ensures { b.new ≡ written b.old to (take n (drop from b.old)) }
 {
     let mut i: usize = 0;
+    // A while: it steps by four.
     while 4 <= n - i {
         copy_four(b, to + i, from + i);
         i += 4;
     }
-    while i < n {
-        b[to + i] = b[from + i];
-        i += 1;
+    for j in i..n {
+        b[to + j] = b[from + j];
     }
 }
 
@@ -54,6 +54,7 @@ pub(crate) fn move_up(b: &mut [u8], to: usize, from: usize, n: usize)
     ensures { b.new ≡ written b.old to (take n (drop from b.old)) }
 {
     let mut i: usize = 0;
+    // A while: it steps by sixteen.
     while 16 <= n - i {
         sixteen_up(b, to + i, from + i);
         i += 16;
@@ -67,9 +68,7 @@ pub(crate) fn move_down(b: &mut [u8], to: usize, from: usize, n: usize)
     requires { (from ≤ to) × (to + n ≤ length b.old) }
     ensures { b.new ≡ written b.old to (take n (drop from b.old)) }
 {
-    let mut i = n;
-    while 0 < i {
-        i -= 1;
+    for i in (0..n).rev() {
         b[to + i] = b[from + i];
     }
 }
@@ -111,9 +110,7 @@ pub(crate) fn letters_down(b: &mut [u8], at: u8, n: u8)
         ≡ written b.old (1058 + at * 11 + 11) (take ((n - at) * 11)
         (drop (1058 + at * 11) b.old)) }
 {
-    let mut i = n;
-    while at < i {
-        i -= 1;
+    for i in (at..n).rev() {
         letter_down(b, MESSAGES + (i as usize) * 11);
     }
 }

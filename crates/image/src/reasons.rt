@@ -1,9 +1,10 @@
 // Why a task of an image is not running: the answer, and its bytes.
-ghost use Rattle.std.specs.Prelude.{◌≡◌, ◌+◌, ◌≤◌, length};
-ghost use Rattle.image.specs.Blocks.{row, written};
-ghost use Rattle.image.specs.Reasons.{cause_kind, waited_on, mode_byte, own_byte, until_of, step_bytes, steps_at, reasons_length, reasons_bytes, reasons_to};
+ghost use Rattle.std.specs.Prelude.{◌≡◌, ◌≤◌, length};
+ghost use Rattle.image.specs.Blocks.{written};
+ghost use Rattle.image.specs.Reasons.{cause_kind, waited_on, mode_byte, own_byte, until_of, step_bytes, reasons_length, reasons_bytes, reasons_to};
 
-use crate::{checking, loading, numbers, storing};
+use crate::laying::Block;
+use crate::{checking, laying, loading, numbers, storing};
 use executive::Mode;
 use records::TaskNo;
 use why::{Cause, Reasons, Step, following};
@@ -94,43 +95,29 @@ fn until_of(cause: Cause) -> u64
     }
 }
 
-// Writes a step over 12 bytes.
-fn put_step(out: &mut [u8], at: usize, step: Step)
-    requires { at + 12 ≤ length out.old }
-    ensures { out.new ≡ written out.old at (step_bytes step) }
-{
-    let cause = step.cause;
-    let kind = kind_of(cause);
-    let on = waited_on(cause);
-    let own = own_byte(cause);
-    let until = until_of(cause);
-    storing::put_both(out, at, step.task.0, kind);
-    storing::put_both(out, at + 2, on.0, own);
-    numbers::put_long(out, at + 4, until);
-}
+impl Block for Step {
+    ghost WIDTH = { 12 };
 
-// Writes the sixteen steps behind the numbers that stand alone.
-fn put_steps(out: &mut [u8], steps: [Step; 16])
-    requires { reasons_length ≤ length out.old }
-    ensures { (length steps ≡ 16)
-        × (out.new ≡ written out.old steps_at (row step_bytes steps)) }
-{
-    let mut i: usize = 0;
-    while i < 16 {
-        put_step(out, 4 + i * 12, steps[i]);
-        i += 1;
+    ghost bytes = { step_bytes };
+
+    const WIDTH: usize = 12;
+
+    fn put(&self, out: &mut [u8], at: usize) {
+        let cause = self.cause;
+        storing::put_both(out, at, self.task.0, kind_of(cause));
+        storing::put_both(out, at + 2, waited_on(cause).0, own_byte(cause));
+        numbers::put_long(out, at + 4, until_of(cause));
     }
 }
 
-// Writes an answer over 196 bytes.
-pub(crate) fn put_reasons(out: &mut [u8], reasons: Reasons)
+// Writes an answer over 196 bytes: the numbers that stand alone, and behind them the sixteen steps.
+pub(crate) fn put_reasons(out: &mut [u8], reasons: &Reasons)
     requires { reasons_length ≤ length out.old }
-    ensures { out.new ≡ written out.old 0 (reasons_bytes reasons) }
+    ensures { out.new ≡ written out.old 0 (reasons_bytes reasons.now) }
 {
     storing::put_both(out, 0, reasons.number, reasons.length);
     storing::put_both(out, 2, reasons.ring, 0);
-    let steps = reasons.steps;
-    put_steps(out, steps);
+    laying::put_row(out, 4, &reasons.steps);
 }
 
 // The answer about a task of an image; bytes that are no image are no well-formed table.

@@ -1,13 +1,15 @@
 // Storing: from a table to its image, in a lent buffer.
 ghost use Rattle.std.specs.Prelude.{◌≡◌, [], ◌∷◌, ◌+◌, ◌≤◌, length};
 ghost use Rattle.image.specs.Blocks.{row, written};
-ghost use Rattle.image.specs.Image.{task_bytes, place_bytes, alarm_bytes, request_bytes, awaited_bytes, sub_bytes, head_at, alarms_at, pool_at, awaited_at, subs_at, image_length, image_of, Stores};
-ghost use Rattle.image.specs.Image.{message_bytes, mail_bytes, messages_at, mails_at, post_bytes};
+ghost use Rattle.image.specs.Image.{task_bytes, place_bytes, alarm_bytes, request_bytes, awaited_bytes, sub_bytes, head_at, awaited_at, task_length, sub_length, image_length, image_of, Stores};
+ghost use Rattle.image.specs.Image.{message_bytes, mail_bytes, messages_at, message_length, mail_length, post_bytes};
 ghost use Rattle.image.specs.Coding.{front_bytes, run_bytes, head_of};
 ghost use Rattle.image.specs.Acting.{Images};
 
+use crate::laying::Block;
 use crate::{
-    ALARMS, AWAITED, IMAGE, LEVELS, MAIL, MESSAGES, NO_ROOM, POOL, QUEUE, SENT, SUBS, numbers,
+    ALARMS, AWAITED, IMAGE, LEVELS, MAIL, MESSAGES, NO_ROOM, POOL, QUEUE, SENT, SUBS, laying,
+    numbers,
 };
 use executive::{Mail, Message, Millis, Request, Rest, State, Sub, Table, Task, states};
 use records::TaskNo;
@@ -45,14 +47,17 @@ pub(crate) fn put_run(out: &mut [u8], at: usize, task: Task)
     numbers::put_byte(out, at + 11, task.end_waiter.0);
 }
 
-// Writes a task's entry over 26 bytes.
-pub(crate) fn put_task(out: &mut [u8], at: usize, task: Task)
-    requires { at + 26 ≤ length out.old }
-    ensures { out.new ≡ written out.old at (task_bytes task) }
-{
-    let state = task.state;
-    put_state(out, at, task.own, state);
-    put_run(out, at + 14, task);
+impl Block for Task {
+    ghost WIDTH = { task_length };
+
+    ghost bytes = { task_bytes };
+
+    const WIDTH: usize = 26;
+
+    fn put(&self, out: &mut [u8], at: usize) {
+        put_state(out, at, self.own, self.state);
+        put_run(out, at + 14, *self);
+    }
 }
 
 // Writes a request over 6 bytes.
@@ -65,10 +70,22 @@ pub(crate) fn put_request(out: &mut [u8], at: usize, request: Request)
     put_both(out, at + 4, request.start_waiter.0, request.end_waiter.0);
 }
 
+impl Block for Request {
+    ghost WIDTH = { 6 };
+
+    ghost bytes = { request_bytes };
+
+    const WIDTH: usize = 6;
+
+    fn put(&self, out: &mut [u8], at: usize) {
+        put_request(out, at, *self);
+    }
+}
+
 // Writes the numbers that stand alone over 16 bytes.
-fn put_head(out: &mut [u8], ready: u8, rest: Rest)
+fn put_head(out: &mut [u8], ready: u8, rest: &Rest)
     requires { length out.old ≡ image_length }
-    ensures { out.new ≡ written out.old head_at (head_of ready rest) }
+    ensures { out.new ≡ written out.old head_at (head_of ready rest.now) }
 {
     put_both(out, 432, ready, rest.count);
     put_both(out, 434, rest.granule, rest.queued);
@@ -76,14 +93,20 @@ fn put_head(out: &mut [u8], ready: u8, rest: Rest)
     numbers::put_word(out, 444, rest.flags);
 }
 
-// Writes a place of the queue, an alarm's time.
-fn put_place(out: &mut [u8], at: usize, task: TaskNo)
-    requires { at + 1 ≤ length out.old }
-    ensures { out.new ≡ written out.old at (place_bytes task) }
-{
-    numbers::put_byte(out, at, task.0);
+// A place of a line: of the queue, of a subprogram.
+impl Block for TaskNo {
+    ghost WIDTH = { 1 };
+
+    ghost bytes = { place_bytes };
+
+    const WIDTH: usize = 1;
+
+    fn put(&self, out: &mut [u8], at: usize) {
+        numbers::put_byte(out, at, self.0);
+    }
 }
 
+// Writes an alarm's time over 8 bytes.
 pub(crate) fn put_alarm(out: &mut [u8], at: usize, time: Millis)
     requires { at + 8 ≤ length out.old }
     ensures { out.new ≡ written out.old at (alarm_bytes time) }
@@ -91,51 +114,15 @@ pub(crate) fn put_alarm(out: &mut [u8], at: usize, time: Millis)
     numbers::put_long(out, at, time.0);
 }
 
-// Write the arrays, each where the image has it.
-fn put_tasks(out: &mut [u8], tasks: [Task; 16])
-    requires { length out.old ≡ image_length }
-    ensures { (length tasks ≡ 16) × (out.new ≡ written out.old 0 (row task_bytes tasks)) }
-{
-    let mut i: usize = 0;
-    while i < 16 {
-        put_task(out, i * 26, tasks[i]);
-        i += 1;
-    }
-}
+impl Block for Millis {
+    ghost WIDTH = { 8 };
 
-// The sixteen places of a line: of the queue, of a subprogram.
-fn put_line(out: &mut [u8], at: usize, line: [TaskNo; 16])
-    requires { at + 16 ≤ length out.old }
-    ensures { (length line ≡ 16) × (out.new ≡ written out.old at (row place_bytes line)) }
-{
-    let mut i: usize = 0;
-    while i < 16 {
-        put_place(out, at + i, line[i]);
-        i += 1;
-    }
-}
+    ghost bytes = { alarm_bytes };
 
-fn put_alarms(out: &mut [u8], alarms: [Millis; 32])
-    requires { length out.old ≡ image_length }
-    ensures { (length alarms ≡ 32)
-        × (out.new ≡ written out.old alarms_at (row alarm_bytes alarms)) }
-{
-    let mut i: usize = 0;
-    while i < 32 {
-        put_alarm(out, ALARMS + i * 8, alarms[i]);
-        i += 1;
-    }
-}
+    const WIDTH: usize = 8;
 
-fn put_pool(out: &mut [u8], pool: [Request; 32])
-    requires { length out.old ≡ image_length }
-    ensures { (length pool ≡ 32)
-        × (out.new ≡ written out.old pool_at (row request_bytes pool)) }
-{
-    let mut i: usize = 0;
-    while i < 32 {
-        put_request(out, POOL + i * 6, pool[i]);
-        i += 1;
+    fn put(&self, out: &mut [u8], at: usize) {
+        put_alarm(out, at, *self);
     }
 }
 
@@ -149,35 +136,26 @@ pub(crate) fn put_awaited(out: &mut [u8], at: usize, task: Task)
     numbers::put_byte(out, at, number);
 }
 
-fn put_all_awaited(out: &mut [u8], tasks: [Task; 16])
+// Writes the numbers that the tasks' states wait for.
+fn put_all_awaited(out: &mut [u8], tasks: &[Task; 16])
     requires { length out.old ≡ image_length }
-    ensures { out.new ≡ written out.old awaited_at (row awaited_bytes tasks) }
+    ensures { out.new ≡ written out.old awaited_at (row awaited_bytes tasks.now) }
 {
-    let mut i: usize = 0;
-    while i < 16 {
-        put_awaited(out, AWAITED + i, tasks[i]);
-        i += 1;
+    for (i, task) in tasks.iter().enumerate() {
+        put_awaited(out, AWAITED + i, *task);
     }
 }
 
-// Writes a subprogram over 18 bytes.
-fn put_sub(out: &mut [u8], at: usize, sub: Sub)
-    requires { at + 18 ≤ length out.old }
-    ensures { (length sub.line ≡ 16) × (out.new ≡ written out.old at (sub_bytes sub)) }
-{
-    put_both(out, at, sub.holder.0, sub.waiting);
-    let line = sub.line;
-    put_line(out, at + 2, line);
-}
+impl Block for Sub {
+    ghost WIDTH = { sub_length };
 
-fn put_subs(out: &mut [u8], subs: [Sub; 8])
-    requires { length out.old ≡ image_length }
-    ensures { out.new ≡ written out.old subs_at (row sub_bytes subs) }
-{
-    let mut i: usize = 0;
-    while i < 8 {
-        put_sub(out, SUBS + i * 18, subs[i]);
-        i += 1;
+    ghost bytes = { sub_bytes };
+
+    const WIDTH: usize = 18;
+
+    fn put(&self, out: &mut [u8], at: usize) {
+        put_both(out, at, self.holder.0, self.waiting);
+        laying::put_row(out, at + 2, &self.line);
     }
 }
 
@@ -191,15 +169,15 @@ pub(crate) fn put_message(out: &mut [u8], at: usize, message: Message)
     numbers::put_long(out, at + 3, message.text.0);
 }
 
-fn put_messages(out: &mut [u8], messages: [Message; 32])
-    requires { length out.old ≡ image_length }
-    ensures { (length messages ≡ 32)
-        × (out.new ≡ written out.old messages_at (row message_bytes messages)) }
-{
-    let mut i: usize = 0;
-    while i < 32 {
-        put_message(out, MESSAGES + i * 11, messages[i]);
-        i += 1;
+impl Block for Message {
+    ghost WIDTH = { message_length };
+
+    ghost bytes = { message_bytes };
+
+    const WIDTH: usize = 11;
+
+    fn put(&self, out: &mut [u8], at: usize) {
+        put_message(out, at, *self);
     }
 }
 
@@ -212,28 +190,26 @@ pub(crate) fn put_mail(out: &mut [u8], at: usize, mail: Mail)
     numbers::put_long(out, at + 1, mail.text.0);
 }
 
-fn put_all_mail(out: &mut [u8], mail: [Mail; 16])
-    requires { length out.old ≡ image_length }
-    ensures { (length mail ≡ 16)
-        × (out.new ≡ written out.old mails_at (row mail_bytes mail)) }
-{
-    let mut i: usize = 0;
-    while i < 16 {
-        put_mail(out, MAIL + i * 9, mail[i]);
-        i += 1;
+impl Block for Mail {
+    ghost WIDTH = { mail_length };
+
+    ghost bytes = { mail_bytes };
+
+    const WIDTH: usize = 9;
+
+    fn put(&self, out: &mut [u8], at: usize) {
+        put_mail(out, at, *self);
     }
 }
 
 // Writes the messages, how many of them wait, and the tasks' mail.
-fn put_post(out: &mut [u8], rest: Rest)
+fn put_post(out: &mut [u8], rest: &Rest)
     requires { length out.old ≡ image_length }
-    ensures { out.new ≡ written out.old messages_at (post_bytes rest) }
+    ensures { out.new ≡ written out.old messages_at (post_bytes rest.now) }
 {
-    let messages = rest.messages;
-    put_messages(out, messages);
+    laying::put_row(out, MESSAGES, &rest.messages);
     numbers::put_byte(out, SENT, rest.sent);
-    let mail = rest.mail;
-    put_all_mail(out, mail);
+    laying::put_row(out, MAIL, &rest.mail);
 }
 
 // Writes the image over a buffer of its length.
@@ -241,21 +217,15 @@ pub(crate) fn put_table(out: &mut [u8], table: Table)
     requires { length out.old ≡ image_length }
     ensures { out.new ≡ image_of table }
 {
-    let tasks = table.tasks;
-    put_tasks(out, tasks);
-    let queue = table.queue;
-    put_line(out, QUEUE, queue);
-    let rest = table.rest;
-    put_head(out, table.ready, rest);
-    let alarms = rest.alarms;
-    put_alarms(out, alarms);
-    let pool = rest.pool;
-    put_pool(out, pool);
+    laying::put_row(out, 0, &table.tasks);
+    laying::put_row(out, QUEUE, &table.queue);
+    put_head(out, table.ready, &table.rest);
+    laying::put_row(out, ALARMS, &table.rest.alarms);
+    laying::put_row(out, POOL, &table.rest.pool);
     numbers::put_pair(out, LEVELS, table.levels);
-    put_all_awaited(out, tasks);
-    let subs = rest.subs;
-    put_subs(out, subs);
-    put_post(out, rest);
+    put_all_awaited(out, &table.tasks);
+    laying::put_row(out, SUBS, &table.rest.subs);
+    put_post(out, &table.rest);
 }
 
 // Stores a table: 0 and its image in out, or 30 where out has not the image's length, and no byte is changed.

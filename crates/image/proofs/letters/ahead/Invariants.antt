@@ -1,5 +1,5 @@
 use mathlib.Core.Path.{◌≡◌}
-use Prim.Native.Nat.{◌+◌, ◌-◌, ◌≤◌}
+use Prim.Native.Nat.{◌+◌}
 use lib.ListN.{take, drop}
 use Rattle.executive.specs.declared.Table.{Table}
 use Rattle.image.specs.Laid.{Laid}
@@ -7,7 +7,4 @@ use Rattle.executive.specs.Messages.{stay_ahead, urgency}
 use Rattle.image.proofs.letters.ahead.Given as goal
 
 abbrev pub invariant-loop-i : goal.invariant-loop-i
-invariant-loop-i l = (l.i ≤ l.n) × ((t : Table) → Laid l.b t → stay_ahead urgency l.p (take l.n t.rest.messages) ≡ l.i + stay_ahead urgency l.p (drop l.i (take l.n t.rest.messages)))
-
-abbrev pub decreases-loop-i : goal.decreases-loop-i
-decreases-loop-i l = l.n - l.i
+invariant-loop-i l = (t : Table) → Laid l.b t → stay_ahead urgency l.p (take l.n t.rest.messages) ≡ l.i + stay_ahead urgency l.p (drop l.i (take l.n t.rest.messages))

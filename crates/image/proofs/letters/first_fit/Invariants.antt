@@ -1,5 +1,4 @@
 use mathlib.Core.Path.{◌≡◌}
-use Prim.Native.Nat.{◌-◌, ◌≤◌}
 use lib.ListN.{take, drop}
 use Rattle.executive.specs.declared.Table.{Table}
 use Rattle.image.specs.Laid.{Laid}
@@ -8,7 +7,4 @@ use Rattle.executive.specs.Messages.{fits}
 use Rattle.image.proofs.letters.first_fit.Given as goal
 
 abbrev pub invariant-loop-i : goal.invariant-loop-i
-invariant-loop-i l = (l.i ≤ l.n) × ((t : Table) → Laid l.b t → next_of (fits l.k.0 l.s.0) l.i (drop l.i (take l.n t.rest.messages)) ≡ next_of (fits l.k.0 l.s.0) 0 (take l.n t.rest.messages))
-
-abbrev pub decreases-loop-i : goal.decreases-loop-i
-decreases-loop-i l = l.n - l.i
+invariant-loop-i l = (t : Table) → Laid l.b t → next_of (fits l.k.0 l.s.0) l.i (drop l.i (take l.n t.rest.messages)) ≡ next_of (fits l.k.0 l.s.0) 0 (take l.n t.rest.messages)

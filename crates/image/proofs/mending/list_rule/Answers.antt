@@ -6,9 +6,9 @@ use Rattle.image.proofs.mending.list_rule.Goals as goal
 pub returns-then-is_plain : goal.returns-then-is_plain
 returns-then-is_plain c =
     let a = c.args in
-    c.rule_for.ensures ∙ rule-plain a.bytes.now a.list a.i (sym c.is_plain.ensures ∙ c.if-is_plain.true)
+    c.rule_for.ensures ∙ rule-plain a.bytes.now a.list.now a.i (sym c.is_plain.ensures ∙ c.if-is_plain.true)
 
 pub returns : goal.returns
 returns c =
     let a = c.args in
-    c.rule_for-2.ensures ∙ rule-stray a.bytes.now a.list a.i (sym c.is_plain.ensures ∙ c.if-is_plain.false)
+    c.rule_for-2.ensures ∙ rule-stray a.bytes.now a.list.now a.i (sym c.is_plain.ensures ∙ c.if-is_plain.false)

@@ -8,8 +8,5 @@ use Rattle.image.proofs.mending.notes_of.Given as goal
 
 abbrev pub invariant-loop-i : goal.invariant-loop-i
 invariant-loop-i l =
-    (l.i ≤ 16) × (l.l ≡ placed (standing l.l)) × (l.l.noted ≤ l.i)
+    (l.l ≡ placed (standing l.l)) × (l.l.noted ≤ l.i)
     × (standing l.l ++ notes_from (list_rule l.bytes l.given) (16 - l.i) l.i ≡ notes_from (list_rule l.bytes l.given) 16 0)
-
-abbrev pub decreases-loop-i : goal.decreases-loop-i
-decreases-loop-i l = 16 - l.i

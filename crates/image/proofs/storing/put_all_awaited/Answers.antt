@@ -1,6 +1,6 @@
--- `storing::put_all_awaited` meets its contract. The invariant: the blocks up to i are written, and nothing else.
+-- `storing::put_all_awaited` meets its contract. The invariant: the numbers up to i are written, and nothing else.
 use Prim.Native.Nat.{◌+◌}
-use mathlib.Core.Path.{refl, ◌∙◌}
+use mathlib.Core.Path.{refl}
 use native.Mathlib.Omega.{arith}
 use Rattle.executive.specs.Places.{no_task}
 use Rattle.image.specs.Image.{awaited_bytes, awaited_at}
@@ -8,23 +8,17 @@ use Rattle.image.proofs.Spans.{row-start, row-turn, row-end}
 use Rattle.image.proofs.storing.put_all_awaited.Goals as goal
 
 pub loop-i-init : goal.loop-i-init
-loop-i-init c =
-    let a = c.args in
-    (omega arith, c.well_formed.1.0.1.0.1, refl, row-start awaited_bytes 1 (λ x. refl) a.out.now a.tasks awaited_at)
+loop-i-init c = row-start awaited_bytes 1 (λ x. refl) c.args.out.now c.args.tasks.now awaited_at
 
 pub loop-i-preserved : goal.loop-i-preserved
 loop-i-preserved c =
     let a = c.args in
     let v = c.loop-i in
-    let r = c.put_awaited in (
-      omega arith,
-      v.invariant.1,
-      r.auto.out ∙ v.invariant.2,
-      row-turn awaited_bytes 1 (λ x. refl) a.out.now v.out r.new.out a.tasks awaited_at v.i (awaited_at + v.i) no_task v.invariant.3 (omega arith) r.ensures (omega arith) (omega (arith, c.requires)),
-    )
+    row-turn awaited_bytes 1 (λ x. refl) a.out.now v.out c.put_awaited.new.out a.tasks.now awaited_at v.i (awaited_at + v.i) no_task
+    v.invariant (omega arith) c.put_awaited.ensures (omega arith) (omega (arith, c.requires))
 
 pub returns : goal.returns
 returns c =
     let a = c.args in
     let v = c.loop-i in
-    row-end awaited_bytes 1 (λ x. refl) a.out.now v.out a.tasks awaited_at v.i v.invariant.3 (omega arith)
+    row-end awaited_bytes 1 (λ x. refl) a.out.now v.out a.tasks.now awaited_at v.i v.invariant (omega arith)

@@ -1,13 +1,9 @@
--- `storing::put_all_awaited` meets its contract. The invariant: the blocks up to i are written, and nothing else.
-use Prim.Native.Nat.{◌-◌, ◌≤◌}
+-- `storing::put_all_awaited` meets its contract. The invariant: the numbers up to i are written, and nothing else.
 use mathlib.Core.Path.{◌≡◌}
-use lib.ListN.{length, take}
+use lib.ListN.{take}
 use Rattle.image.specs.Blocks.{row, written}
 use Rattle.image.specs.Image.{awaited_bytes, awaited_at}
 use Rattle.image.proofs.storing.put_all_awaited.Given as goal
 
 abbrev pub invariant-loop-i : goal.invariant-loop-i
-invariant-loop-i l = (l.i ≤ 16) × (length l.tasks ≡ 16) × (length l.out ≡ length l.initial.out) × (l.out ≡ written l.initial.out awaited_at (row awaited_bytes (take l.i l.tasks)))
-
-abbrev pub decreases-loop-i : goal.decreases-loop-i
-decreases-loop-i l = 16 - l.i
+invariant-loop-i l = l.out ≡ written l.fn.out awaited_at (row awaited_bytes (take l.i l.tasks))
