@@ -21,7 +21,7 @@ use Rattle.executive.specs.declared.Table.{Table}
 use Rattle.executive.specs.States.{dormant, ready, paused, due, await_any, await_all, await_start, await_end, await_sub, await_message, state_kind, time_of, mask_of, awaited_of, state_of}
 use Rattle.executive.specs.Lists.{pad}
 use Rattle.executive.specs.Places.{nobody, never as no-time, no_task, no_request}
-use Rattle.executive.specs.Subprograms.{no_subprogram}
+use Rattle.executive.specs.Subprograms.{no_subprogram, sub_at}
 use Rattle.executive.specs.Messages.{no_message, no_mail}
 use Rattle.executive.specs.WellFormed.{Sizes}
 use Rattle.executive.proofs.Assured.{states-told}
@@ -65,6 +65,17 @@ pub sub-length : (x : Sub) → length x.line ≡ 16 → length (sub_bytes x) ≡
 sub-length x l =
     let m : length (row place_bytes x.line) ≡ 16 = length-row place_bytes 1 (λ k. refl) x.line ∙ ap (λ n. n * 1) l in
     length-append (lay sub_widths (sub_numbers x)) (row place_bytes x.line) ∙ ap (λ n. 2 + n) m
+
+-- and how long the lines are of those whose blocks are as wide
+sub-line : (x : Sub) → Wide sub_bytes sub_length x → length x.line ≡ 16
+sub-line x e =
+    let m : length (row place_bytes x.line) ≡ length x.line * 1 = length-row place_bytes 1 (λ k. refl) x.line in
+    omega (arith, e, m)
+
+pub wide-lines : (r : Rest) → Each (Wide sub_bytes sub_length) r.subs → (m : ℕ) → length (sub_at r m).line ≡ 16
+unfolding pad
+wide-lines r h =
+    each_or (λ (x : Sub). length x.line ≡ 16) no_subprogram refl r.subs (each_so (Wide sub_bytes sub_length) (λ (x : Sub). length x.line ≡ 16) sub-line r.subs h)
 
 sub_back : (x : Sub) → FitsSub x → (s r : List ℕ) (n : ℕ) → At s n (sub_bytes x ++ r) → sub_from s n ≡ x
 sub_back x f s r n z =

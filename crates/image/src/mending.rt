@@ -130,7 +130,6 @@ pub(crate) fn mend_whole(image: &mut [u8], list: &mut [u8]) -> u8
     }
     let notes = notes_of(image, &mended.list);
     put_list(list, &notes);
-    let next = mended.table;
-    storing::put_table(image, next);
+    storing::put_table(image, &mended.table);
     0
 }

@@ -205,7 +205,8 @@ impl Block for Mail {
 // Writes the messages, how many of them wait, and the tasks' mail.
 fn put_post(out: &mut [u8], rest: &Rest)
     requires { length out.old ≡ image_length }
-    ensures { out.new ≡ written out.old messages_at (post_bytes rest.now) }
+    ensures sizes { (length rest.now.messages ≡ 32) × (length rest.now.mail ≡ 16) }
+    ensures value { out.new ≡ written out.old messages_at (post_bytes rest.now) }
 {
     laying::put_row(out, MESSAGES, &rest.messages);
     numbers::put_byte(out, SENT, rest.sent);
@@ -213,9 +214,9 @@ fn put_post(out: &mut [u8], rest: &Rest)
 }
 
 // Writes the image over a buffer of its length.
-pub(crate) fn put_table(out: &mut [u8], table: Table)
+pub(crate) fn put_table(out: &mut [u8], table: &Table)
     requires { length out.old ≡ image_length }
-    ensures { out.new ≡ image_of table }
+    ensures { out.new ≡ image_of table.now }
 {
     laying::put_row(out, 0, &table.tasks);
     laying::put_row(out, QUEUE, &table.queue);
@@ -235,7 +236,7 @@ pub fn store(table: Table, out: &mut [u8]) -> u8
     if out.len() != IMAGE {
         return NO_ROOM;
     }
-    put_table(out, table);
+    put_table(out, &table);
     0
 }
 
@@ -244,6 +245,6 @@ pub fn image_of(table: Table) -> [u8; IMAGE]
     ensures { Images table result }
 {
     let mut image = [0u8; IMAGE];
-    put_table(&mut image, table);
+    put_table(&mut image, &table);
     image
 }

@@ -1,12 +1,23 @@
--- `storing::put_table` meets its contract: its nine writes make the image, and whoever owns a table knows how long its arrays
--- are.
-use Rattle.image.proofs.Owned.{table-owned}
-use Rattle.image.proofs.Trips.{image-made}
+-- `storing::put_table` meets its contract: its nine writes make the image.
+use native.Mathlib.Omega.{arith}
+use Rattle.executive.specs.WellFormed.{Sizes}
+use Rattle.image.proofs.Trips.{image-made, wide-lines}
 use Rattle.image.proofs.storing.put_table.Goals as goal
 
 pub returns : goal.returns
 returns c =
-    image-made c.args.table (table-owned c.args.table _ c.well_formed.1.0).sizes c.args.out.now _ _ _ _ _ _ _ _ _ c.requires
+    let t = c.args.table.now in
+    let sizes : Sizes t = record {
+      tasks = omega arith;
+      queue = omega arith;
+      alarms = omega arith;
+      pool = omega arith;
+      subs = omega arith;
+      lines = wide-lines t.rest c.put_row-5.ensures.width;
+      messages = c.put_post.ensures.sizes.0;
+      mail = c.put_post.ensures.sizes.1;
+    } in
+    image-made t sizes c.args.out.now _ _ _ _ _ _ _ _ _ c.requires
     c.put_row.ensures.value
     c.put_row-2.ensures.value
     c.put_head.ensures
@@ -15,4 +26,4 @@ returns c =
     c.put_pair.ensures
     c.put_all_awaited.ensures
     c.put_row-5.ensures.value
-    c.put_post.ensures
+    c.put_post.ensures.value
