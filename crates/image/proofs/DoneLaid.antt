@@ -10,6 +10,7 @@ use Rattle.executive.specs.declared.Request.{Request}
 use Rattle.executive.specs.declared.Rest.{Rest}
 use Rattle.executive.specs.declared.Task.{Task}
 use Rattle.executive.specs.declared.Table.{Table}
+use Rattle.executive.specs.declared.decisions.Leave.{Leave}
 use Rattle.executive.specs.declared.decisions.Leave.TheVariants as leave
 use Rattle.executive.specs.declared.decisions.Entrant.{Entrant}
 use Rattle.executive.specs.declared.decisions.Deed.{Deed}
@@ -19,7 +20,8 @@ use Rattle.executive.specs.States.{is_ready}
 use Rattle.executive.specs.WellFormed.{Line}
 use Rattle.executive.specs.Messages.{no_mail, with_mail}
 use Rattle.executive.specs.Table.{ArraysInOrder, FindsRoom, InFlight, Join, Out, line, items, item_of, enter_at, head_of, stays, leaves, view, levels_of, relit, depart, departed, entered, passed_by, with_rest, begin, enter_in_flight, enter_all_in_flight, lit_in_flight, apply_in_flight}
-use Rattle.executive.specs.Decisions.{named, out_for, change_for, joins_for, changed, meant, Doable}
+use Rattle.executive.specs.Plans.{caller}
+use Rattle.executive.specs.Decisions.{named, out_for, gone_as, change_for, joins_for, changed, meant, Doable}
 use Rattle.executive.proofs.Assured.{blank, enter-turn, find-turn, enter-end, changed-neat, done-is, lit-same, begin-flying, depart-fit, finds-beside, fewer-flying, enter-flying, lit-on_the_way, lit-flying, line-pad, items_put, insert_desc, queue_law, eqb_self, one-le}
 use Rattle.image.specs.Laid.{Laid}
 
@@ -95,6 +97,15 @@ stage_start q time ps n t l f h d = record { table = t; laid = l; flying = fewer
 pub stays-laid : {s : List ℕ} (t : Table) → t.levels ≡ levels_of (view t) → Laid s t → Laid s (relit (depart (out_for leave.Stays) t))
 unfolding depart
 stays-laid {s} t v l = subst (Laid s) (lit-same t v) l
+
+-- ---- one who leaves
+pub left-laid : {s : List ℕ} (t : Table) (how : Leave) → (how ≡ leave.Stays → ⊥)
+    → Laid s (relit (departed (gone_as how (task_at t.tasks (caller t).0)) t)) → Laid s (relit (depart (out_for how) t))
+unfolding depart
+left-laid t leave.Stays n l = absurd (n refl)
+left-laid t leave.Sleeps n l = l
+left-laid t (leave.DueAt at) n l = l
+left-laid t (leave.As s) n l = l
 
 -- ---- the whole of a deed: what its executor is asked for, and what it leaves
 module _ (d : Deed) (t : Table) (o : Doable d t) where

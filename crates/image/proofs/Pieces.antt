@@ -1,6 +1,8 @@
 -- What several writes leave whose numbers come from calls: the front of a task's entry, an answer, the reasons.
 use Prim.Native.Nat.{ℕ, ◌+◌, ◌*◌, ◌≤◌}
 use mathlib.Core.Path.{◌≡◌, refl, ap, ◌∙◌}
+use mathlib.Core.Bool.{Bool, true, false}
+use mir.Val.{bool_byte as from_bool}
 use mathlib.Core.List.{List, [], ◌∷◌, ◌++◌}
 use native.Mathlib.Omega.{arith}
 use lib.ListN.{length}
@@ -26,6 +28,11 @@ wrote-front o at own s k m n ek em en f g h l =
     let a = own ∷ k ∷ [] in
     let b = bytes_in 8 m.0 in
     and_then o at (a ++ b) (bytes_in 4 n) (and_then o at a b f g (omega arith)) h (omega arith) ∙ rw (ek, em, en)
+
+-- a mark as a byte
+pub mark-byte : (b : Bool) → from_bool b ≡ one b
+mark-byte true = refl
+mark-byte false = refl
 
 pub wrote-answer : (o : List ℕ) {p q r s u v₁ w₁ : List ℕ} (a : Answer) (z v c : ℕ) → z ≡ one a.z → v ≡ one a.v → c ≡ one a.c
     → p ≡ written o 0 (a.number ∷ z ∷ []) → q ≡ written p 2 (v ∷ c ∷ []) → r ≡ written q 4 (a.active.0 ∷ a.walked ∷ []) → s ≡ written r 6 (bytes_in 2 a.argument)

@@ -60,12 +60,12 @@ module _ {s : List ℕ} (t : Table) (l : Laid s t) where
       let g : t.rest.queued < 32 = rw en at h in
       subst (Laid r) ((λ j. with_pool (set t.rest.pool (en j) x) (en j + 1) t) ∙ ap (λ (z : Rest). with_rest z t) (made-queued t.rest f x g)) y
 
-  pub pool-closed : {r q : List ℕ} (i : ℕ) → i < 32 → r ≡ written s (704 + i * 6) (take (186 - i * 6) (drop (704 + i * 6 + 6) s)) → q ≡ written r 890 (request_bytes no_request)
+  pub pool-closed : {r q : List ℕ} (i : ℕ) → i < 32 → r ≡ written s (704 + i * 6) (take ((31 - i) * 6) (drop (704 + i * 6 + 6) s)) → q ≡ written r 890 (request_bytes no_request)
       → Laid q (with_pool (closed_at no_request t.rest.pool i) t.rest.queued t)
   pool-closed {r} {q} i h er eq =
       let p = t.rest.pool in
       let n = l.sizes.pool in
-      let c = 186 - i * 6 in
+      let c = (31 - i) * 6 in
       let m = take c (drop (i * 6 + 6) (row request_bytes p)) in
       let z : 704 + i * 6 + 6 ≡ 704 + (i * 6 + 6) = omega arith in
       let e : take c (drop (704 + i * 6 + 6) s) ≡ m = ap (λ k. take c (drop k s)) z ∙ slice-laid 4 t l (i * 6 + 6) c (omega arith) (omega arith) in
@@ -92,12 +92,12 @@ module _ {s : List ℕ} (t : Table) (l : Laid s t) where
       subst (Laid r) ((λ j. with_pool (closed_at no_request t.rest.pool i) (en j - 1) t) ∙ ap (λ (z : Rest). with_rest z t) (made-removed t.rest f i h)) y
 
   -- ---- the messages: one is put at a place of the n that wait; one is taken out
-  pub letters-closed : {r q : List ℕ} (i : ℕ) → i < 32 → r ≡ written s (1058 + i * 11) (take (341 - i * 11) (drop (1058 + i * 11 + 11) s)) → q ≡ written r 1399 (message_bytes no_message)
+  pub letters-closed : {r q : List ℕ} (i : ℕ) → i < 32 → r ≡ written s (1058 + i * 11) (take ((31 - i) * 11) (drop (1058 + i * 11 + 11) s)) → q ≡ written r 1399 (message_bytes no_message)
       → Laid q (with_rest (with_post (closed_at no_message t.rest.messages i) t.rest.sent t.rest.mail t.rest) t)
   letters-closed {r} {q} i h er eq =
       let p = t.rest.messages in
       let n = l.sizes.messages in
-      let c = 341 - i * 11 in
+      let c = (31 - i) * 11 in
       let m = take c (drop (i * 11 + 11) (row message_bytes p)) in
       let z : 1058 + i * 11 + 11 ≡ 1058 + (i * 11 + 11) = omega arith in
       let e : take c (drop (1058 + i * 11 + 11) s) ≡ m = ap (λ k. take c (drop k s)) z ∙ slice-laid 8 t l (i * 11 + 11) c (omega arith) (omega arith) in

@@ -1,20 +1,10 @@
 // A step's answer as bytes.
 ghost use Rattle.std.specs.Prelude.{◌≡◌, cond, ◌≤◌, ltb, length};
-ghost use Rattle.executive.specs.Lists.{one};
 ghost use Rattle.image.specs.Blocks.{written};
 ghost use Rattle.image.specs.EntryPoints.{answer_length, answer_bytes};
 
 use crate::{numbers, storing};
 use executive::Answer;
-
-fn bit(mark: bool) -> u8
-    ensures { result ≡ one mark }
-{
-    if mark {
-        return 1;
-    }
-    0
-}
 
 // Writes an answer over 25 bytes: number, Z, V, C, the active task, the ready tasks passed over, the argument, the
 // grid times passed over, the sender and the text of the message that is handed out.
@@ -22,8 +12,8 @@ pub(crate) fn put_answer(out: &mut [u8], answer: Answer)
     requires { answer_length ≤ length out.old }
     ensures { out.new ≡ written out.old 0 (answer_bytes answer) }
 {
-    storing::put_both(out, 0, answer.number, bit(answer.z));
-    storing::put_both(out, 2, bit(answer.v), bit(answer.c));
+    storing::put_both(out, 0, answer.number, u8::from(answer.z));
+    storing::put_both(out, 2, u8::from(answer.v), u8::from(answer.c));
     storing::put_both(out, 4, answer.active.0, answer.walked);
     numbers::put_pair(out, 6, answer.argument);
     numbers::put_long(out, 8, answer.skipped);

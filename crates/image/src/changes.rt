@@ -1,5 +1,5 @@
 // What becomes of the rest of a table, in the lent bytes of its image: one function for each change that a deed has.
-ghost use Rattle.std.specs.Prelude.{◌≡◌, [], ◌∷◌, ◌++◌, ◌+◌, ◌-◌, ◌<◌, ◌≤◌, ◌^◌, length};
+ghost use Rattle.std.specs.Prelude.{◌≡◌, ℕ, List, [], ◌∷◌, ◌++◌, ◌+◌, ◌-◌, ◌*◌, ◌<◌, ◌≤◌, ◌^◌, length, take, drop};
 ghost use Rattle.executive.specs.declared.Table.{Table};
 ghost use Rattle.executive.specs.Numbers.{sub_count, most_tasks, end_of_time};
 ghost use Rattle.executive.specs.Lists.{each};
@@ -9,10 +9,12 @@ ghost use Rattle.executive.specs.Clock.{rung, advanced};
 ghost use Rattle.executive.specs.Subprograms.{LineInOrder, sub_at, enters_it, joins_line, handed_on, with_sub};
 ghost use Rattle.executive.specs.Messages.{LettersInOrder, letters, with_letters, put_in_at};
 ghost use Rattle.executive.specs.Decisions.{changed, first_due, Able};
+ghost use Rattle.image.specs.Blocks.{written};
 ghost use Rattle.image.specs.Image.{image_length};
 ghost use Rattle.image.specs.Laid.{Laid};
 ghost use Rattle.image.specs.Marks.{Running};
 
+use crate::laying::Block;
 use crate::{ALARMS, MESSAGES, POOL, SENT, SUBS, fields, members, moves, moving, numbers, storing};
 use executive::decisions::Change;
 use executive::{Message, Millis, Request, messages, pool};
@@ -32,6 +34,19 @@ fn add_request(b: &mut [u8], q: Request)
     fields::set_queued(b, n + 1);
 }
 
+// The block at a place of a row of 32 is taken out: those behind it move up, and the last place is blank.
+fn take_out<T: Block>(b: &mut [u8], row: usize, i: usize, blank: &T)
+    requires { (row + 32 * T.WIDTH ≤ length b.old) × (i < 32) }
+    ensures { (r : List ℕ)
+        × (r ≡ written b.old (row + i * T.WIDTH) (take ((31 - i) * T.WIDTH) (drop (row + i * T.WIDTH + T.WIDTH) b.old)))
+        × (b.new ≡ written r (row + 31 * T.WIDTH) (T.bytes blank.now)) }
+{
+    let width = T::WIDTH;
+    let at = row + i * width;
+    moving::move_up(b, at, at + width, (31 - i) * width);
+    blank.put(b, row + 31 * width);
+}
+
 // The request at a place is taken out: those behind it move up, and the last place is free.
 fn take_request(b: &mut [u8], i: usize)
     requires { length b.old ≡ image_length }
@@ -45,9 +60,7 @@ fn take_request(b: &mut [u8], i: usize)
     if 31 < i {
         return;
     }
-    let at = POOL + i * 6;
-    moving::move_up(b, at, at + 6, 186 - i * 6);
-    storing::put_request(b, POOL + 186, pool::NO_REQUEST);
+    take_out(b, POOL, i, &pool::NO_REQUEST);
     fields::set_queued(b, n - 1);
 }
 
@@ -84,9 +97,7 @@ fn hand_out(b: &mut [u8], i: usize)
     if 31 < i {
         return;
     }
-    let at = MESSAGES + i * 11;
-    moving::move_up(b, at, at + 11, 341 - i * 11);
-    storing::put_message(b, MESSAGES + 341, messages::NO_MESSAGE);
+    take_out(b, MESSAGES, i, &messages::NO_MESSAGE);
     fields::set_sent(b, n - 1);
 }
 
@@ -182,17 +193,11 @@ fn ring_from(b: &mut [u8], running: u32, first: usize, time: u64)
         return;
     }
     let mut i = members::next_in(running, first as u8);
+    // A while: it steps to the next alarm that is running, not by one.
     while i < 32 {
         ring(b, i as usize, time);
         i = members::next_in(running, i + 1);
     }
-}
-
-// A byte as a longer number.
-pub(crate) fn wide(x: u8) -> u64
-    ensures { (result ≡ x) × (result < 256) }
-{
-    x as u64
 }
 
 // The clock gains a granule, and the due alarms ring, from the first of them on.
@@ -206,7 +211,7 @@ fn advance(b: &mut [u8], first: usize, running: u32)
     if 1099511627776 < clock {
         return;
     }
-    let time = clock + wide(b[fields::GRANULE]);
+    let time = clock + b[fields::GRANULE] as u64;
     fields::set_clock(b, Millis(time));
     ring_from(b, running, first, time);
 }

@@ -13,10 +13,19 @@ use executive::decisions::Decision;
 use executive::{deciding, decisions};
 use records::{Call, Got, TaskNo, kinds, reading};
 
+// What the check has learned, and a decision need not look for again, as sets of a bit each: the tasks that wait until a
+// time, those that wait for flags, the alarms that are running.
+#[derive(Clone, Copy)]
+pub(crate) struct Watched {
+    pub(crate) timed: u16,
+    pub(crate) flagged: u16,
+    pub(crate) running: u32,
+}
+
 // Each kind's own decision.
-fn by_kind(b: &[u8], c: TaskNo, call: Call, timed: u16, flagged: u16, running: u32) -> Decision
+fn by_kind(b: &[u8], c: TaskNo, call: Call, w: Watched) -> Decision
     requires { length b.now ≡ image_length }
-    ensures { (t : Table) → Laid b.now t → WellFormed t → Learned timed flagged running t
+    ensures { (t : Table) → Laid b.now t → WellFormed t → Learned w.timed w.flagged w.running t
         → result ≡ decided t.tasks t.rest c call }
 {
     match call {
@@ -30,13 +39,11 @@ fn by_kind(b: &[u8], c: TaskNo, call: Call, timed: u16, flagged: u16, running: u
             task,
             argument,
         } => runs::start_or_queue(b, c, option, task, argument),
-        Call::Flag { operation, flag } => timing::flag(b, operation, flag, flagged),
+        Call::Flag { operation, flag } => timing::flag(b, operation, flag, w.flagged),
         Call::Wait { mode, mask } => runs::wait(b, c, mode, mask),
-        Call::Alarm { unit, count, flag } => timing::alarm(b, unit, count, flag, flagged),
-        Call::Tick => timing::tick(b, timed, flagged, running),
-        Call::Granule { .. } => decisions::no_call(),
-        Call::Task { .. } => decisions::no_call(),
-        Call::End => decisions::no_call(),
+        Call::Alarm { unit, count, flag } => timing::alarm(b, unit, count, flag, w.flagged),
+        Call::Tick => timing::tick(b, w),
+        Call::Granule { .. } | Call::Task { .. } | Call::End => decisions::no_call(),
         Call::Enter { subprogram } => lines::enter(b, c, subprogram),
         Call::Exit { subprogram } => lines::exit(b, c, subprogram),
         Call::Send { task, text } => letters::send(b, c, task, text),
@@ -45,28 +52,21 @@ fn by_kind(b: &[u8], c: TaskNo, call: Call, timed: u16, flagged: u16, running: u
 }
 
 // A call's decision: 5 first, then its kind's.
-fn decide_call(b: &[u8], c: TaskNo, call: Call, timed: u16, flagged: u16, running: u32) -> Decision
+fn decide_call(b: &[u8], c: TaskNo, call: Call, w: Watched) -> Decision
     requires { length b.now ≡ image_length }
-    ensures { (t : Table) → Laid b.now t → WellFormed t → Learned timed flagged running t
+    ensures { (t : Table) → Laid b.now t → WellFormed t → Learned w.timed w.flagged w.running t
         → result ≡ decision_of t.tasks t.rest c call }
 {
     if deciding::nobody_active(c, call) {
         return decisions::refused(5);
     }
-    by_kind(b, c, call, timed, flagged, running)
+    by_kind(b, c, call, w)
 }
 
 // A record's decision: 3, 4 and 3, then its call's.
-pub(crate) fn decide(
-    b: &[u8],
-    c: TaskNo,
-    call: &[u8],
-    timed: u16,
-    flagged: u16,
-    running: u32,
-) -> Decision
+pub(crate) fn decide(b: &[u8], c: TaskNo, call: &[u8], w: Watched) -> Decision
     requires { length b.now ≡ image_length }
-    ensures { (t : Table) → Laid b.now t → WellFormed t → Learned timed flagged running t
+    ensures { (t : Table) → Laid b.now t → WellFormed t → Learned w.timed w.flagged w.running t
         → result ≡ decision_in t.tasks t.rest c call.now }
 {
     if call.len() == 0 {
@@ -75,7 +75,7 @@ pub(crate) fn decide(
     let kind = kinds::kind_of(call[0]);
     if kinds::is_call(kind) {
         return match reading::read(call) {
-            Got::Call(asked) => decide_call(b, c, asked, timed, flagged, running),
+            Got::Call(asked) => decide_call(b, c, asked, w),
             Got::Refused(number) => decisions::refused(number),
         };
     }

@@ -30,9 +30,7 @@ fn leave(b: &mut [u8], how: Leave)
 {
     match how {
         Leave::Stays => {}
-        Leave::Sleeps => moves::depart(b, Leave::Sleeps),
-        Leave::DueAt(at) => moves::depart(b, Leave::DueAt(at)),
-        Leave::As(s) => moves::depart(b, Leave::As(s)),
+        _ => moves::depart(b, how),
     }
 }
 

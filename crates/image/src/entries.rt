@@ -67,6 +67,7 @@ fn aim(b: &mut [u8], i: usize)
         → Laid b.new (with_tasks (set t.tasks i (with_start
         (aimed (get_or t.tasks i no_task).state (get_or t.tasks i no_task).start) (get_or t.tasks i no_task))) t) }
 {
+    // The byte of a due task's kind.
     if 3 != b[i * 26 + 1] {
         return;
     }

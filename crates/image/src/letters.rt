@@ -41,7 +41,7 @@ fn is_fit(b: &[u8], i: usize, k: TaskNo, s: TaskNo) -> bool
     s.0 == b[MESSAGES + i * 11 + 1]
 }
 
-// The place of the first of n messages that fits; n where there is none.
+// The place of the first of n messages that fits; n where there is none, as `messages::receiving` takes it.
 fn first_fit(b: &[u8], n: usize, k: TaskNo, s: TaskNo) -> usize
     requires { (length b.now ≡ image_length) × (n ≤ 32) }
     ensures { (t : Table) → Laid b.now t

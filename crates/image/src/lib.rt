@@ -77,6 +77,8 @@ pub const IMAGE: usize = 1555;
 // What the lamp reads where nothing is shown: no priority.
 const LAMP_DARK: u8 = 16;
 
+// The numbers that the functions below answer are those of the C interface, so they stay numbers.
+
 // Makes a fresh table from configuration bytes: 0 and its image written; 30 where the buffer has not the image's
 // length, 2 where they are no configuration, and then no byte is changed.
 pub fn fresh(config: &[u8], image: &mut [u8]) -> u8

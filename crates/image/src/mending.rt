@@ -16,10 +16,11 @@ const NO_NOTE: Note = Note {
     rule: 0,
 };
 
-// The rule of an entry that is not listed.
+// The rule of an entry that is not listed. A number and no Option: a note's own rule is a byte of the C interface, any
+// byte, and one that is this number lists nothing either.
 const NO_RULE: u8 = 255;
 
-// The list: its first `noted` places are taken.
+// The list: its first `noted` places are taken. An array and a count: there is no heap, and its bytes have both.
 #[derive(Clone, Copy)]
 pub(crate) struct Notes {
     pub(crate) list: [Note; 16],

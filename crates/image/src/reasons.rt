@@ -9,7 +9,7 @@ use executive::Mode;
 use records::TaskNo;
 use why::{Cause, Reasons, Step, following};
 
-// A cause's number.
+// A cause's number, a byte of the C interface.
 fn kind_of(cause: Cause) -> u8
     ensures { result ≡ cause_kind cause }
 {
@@ -33,21 +33,15 @@ fn waited_on(cause: Cause) -> TaskNo
     ensures { result ≡ waited_on cause }
 {
     match cause {
-        Cause::Dormant => TaskNo(0),
-        Cause::Active => TaskNo(0),
-        Cause::Ready(_) => TaskNo(0),
-        Cause::Paused(_) => TaskNo(0),
-        Cause::Due(_) => TaskNo(0),
-        Cause::Flags(_, _) => TaskNo(0),
-        Cause::Start(_, task) => task,
-        Cause::EndOfRequest(_, task) => task,
-        Cause::EndOfRun(task) => task,
-        Cause::Subprogram(_, task) => task,
-        Cause::Message(_) => TaskNo(0),
+        Cause::Start(_, task)
+        | Cause::EndOfRequest(_, task)
+        | Cause::EndOfRun(task)
+        | Cause::Subprogram(_, task) => task,
+        _ => TaskNo(0),
     }
 }
 
-// 0 for any, 1 for all.
+// 0 for any, 1 for all, in a byte of the C interface.
 fn mode_byte(mode: Mode) -> u8
     ensures { result ≡ mode_byte mode }
 {
@@ -62,17 +56,12 @@ fn own_byte(cause: Cause) -> u8
     ensures { result ≡ own_byte cause }
 {
     match cause {
-        Cause::Dormant => 0,
-        Cause::Active => 0,
         Cause::Ready(ahead) => ahead,
-        Cause::Paused(_) => 0,
-        Cause::Due(_) => 0,
         Cause::Flags(mode, _) => mode_byte(mode),
-        Cause::Start(place, _) => place,
-        Cause::EndOfRequest(place, _) => place,
-        Cause::EndOfRun(_) => 0,
+        Cause::Start(place, _) | Cause::EndOfRequest(place, _) => place,
         Cause::Subprogram(m, _) => m.0,
         Cause::Message(sender) => sender.0,
+        Cause::Dormant | Cause::Active | Cause::Paused(_) | Cause::Due(_) | Cause::EndOfRun(_) => 0,
     }
 }
 
@@ -81,17 +70,9 @@ fn until_of(cause: Cause) -> u64
     ensures { result ≡ until_of cause }
 {
     match cause {
-        Cause::Dormant => 0,
-        Cause::Active => 0,
-        Cause::Ready(_) => 0,
-        Cause::Paused(time) => time.0,
-        Cause::Due(time) => time.0,
-        Cause::Flags(_, missing) => missing as u64,
-        Cause::Start(_, _) => 0,
-        Cause::EndOfRequest(_, _) => 0,
-        Cause::EndOfRun(_) => 0,
-        Cause::Subprogram(_, _) => 0,
-        Cause::Message(_) => 0,
+        Cause::Paused(time) | Cause::Due(time) => time.0,
+        Cause::Flags(_, missing) => u64::from(missing),
+        _ => 0,
     }
 }
 

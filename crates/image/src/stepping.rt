@@ -10,6 +10,7 @@ ghost use Rattle.image.specs.Laid.{Laid};
 ghost use Rattle.image.specs.Waking.{Learned};
 ghost use Rattle.image.specs.Acting.{Acts};
 
+use crate::deciding::Watched;
 use crate::{QUEUE, deciding, doing, fields, sound};
 use executive::{Answer, Marks, answers};
 use records::TaskNo;
@@ -63,20 +64,20 @@ fn refusal(b: &[u8], number: u8) -> Answer
 
 // A step at the image of a well-formed table, with what the check has learned of it: refused, no byte is written;
 // accepted, the deed is done in place.
-fn step(b: &mut [u8], call: &[u8], timed: u16, flagged: u16, running: u32) -> Answer
+fn step(b: &mut [u8], call: &[u8], w: Watched) -> Answer
     requires { (is_image b.old ≡ true) × (is_well_formed (load_of b.old) ≡ true)
-        × Learned timed flagged running (load_of b.old) }
+        × Learned w.timed w.flagged w.running (load_of b.old) }
     ensures { (result ≡ (step_of (load_of b.old) call.now).answer)
         × ((b.new ≡ image_after b.old call.now)
         × (result.number ≡ 0 → Holds b.new (step_of (load_of b.old) call.now).table)) }
 {
     let c = active(b);
-    let d = deciding::decide(b, c, call, timed, flagged, running);
+    let d = deciding::decide(b, c, call, w);
     if d.number != 0 {
         return refusal(b, d.number);
     }
     let deed = d.deed;
-    let walked = doing::execute(b, deed, running);
+    let walked = doing::execute(b, deed, w.running);
     let m = d.marks;
     answer(b, 0, m, walked)
 }
@@ -90,7 +91,10 @@ pub fn act(image: &mut [u8], call: &[u8]) -> Answer
         return answers::no_table();
     }
     let sets = seen.sets;
-    let timed = sets[2] | sets[3];
-    let flagged = sets[4] | sets[5];
-    step(image, call, timed, flagged, seen.running)
+    let w = Watched {
+        timed: sets[2] | sets[3],
+        flagged: sets[4] | sets[5],
+        running: seen.running,
+    };
+    step(image, call, w)
 }

@@ -229,7 +229,8 @@ pub(crate) fn put_table(out: &mut [u8], table: &Table)
     put_post(out, &table.rest);
 }
 
-// Stores a table: 0 and its image in out, or 30 where out has not the image's length, and no byte is changed.
+// Stores a table: 0 and its image in out, or 30 where out has not the image's length, and no byte is changed. These are
+// numbers of the C interface, so they stay numbers.
 pub fn store(table: Table, out: &mut [u8]) -> u8
     ensures { Stores table out.old out.new result }
 {

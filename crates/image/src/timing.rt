@@ -12,6 +12,7 @@ ghost use Rattle.image.specs.Laid.{Laid};
 ghost use Rattle.image.specs.Marks.{passed, Marked};
 ghost use Rattle.image.specs.Waking.{Learned};
 
+use crate::deciding::Watched;
 use crate::{ALARMS, changes, deeds, fields, numbers, ringing, waking};
 use executive::decisions::{Change, Decision, Deed, Leave};
 use executive::{Millis, answers, clock, decisions};
@@ -100,24 +101,24 @@ fn held_by(flags: u32, more: u32, flagged: u16) -> u16
 }
 
 // Kind 80: the first alarm that is due is looked for once, and told with the deed.
-pub(crate) fn tick(b: &[u8], timed: u16, flagged: u16, running: u32) -> Decision
+pub(crate) fn tick(b: &[u8], w: Watched) -> Decision
     requires { length b.now ≡ image_length }
-    ensures { (t : Table) → Laid b.now t → WellFormed t → Learned timed flagged running t
+    ensures { (t : Table) → Laid b.now t → WellFormed t → Learned w.timed w.flagged w.running t
         → (c : TaskNo) → result ≡ decided t.tasks t.rest c call.Tick }
 {
     let now = numbers::long_in(b, fields::CLOCK);
     if clock::END_OF_TIME < now {
         return decisions::refused(10);
     }
-    let time = now + changes::wide(b[fields::GRANULE]);
+    let time = now + b[fields::GRANULE] as u64;
     if clock::END_OF_TIME < time {
         return decisions::refused(10);
     }
     let flags = numbers::word_in(b, fields::FLAGS);
-    let first = ringing::next_due(b, running, 0, time);
-    let more = ringing::rings(b, running, flags, first, time);
-    let held = held_by(flags, more, flagged);
-    let entrants = waking::woken(b, timed, time, held, more);
+    let first = ringing::next_due(b, w.running, 0, time);
+    let more = ringing::rings(b, w.running, flags, first, time);
+    let held = held_by(flags, more, w.flagged);
+    let entrants = waking::woken(b, w.timed, time, held, more);
     let deed = deeds::letting_in(entrants, Change::Clock(first as usize));
     decisions::accepted(answers::marked(false, false, false), deed)
 }

@@ -8,11 +8,8 @@ use Rattle.image.proofs.changes.advance.Goals as goal
 pub returns-then-clock-gt1099511627776 : goal.returns-then-clock-gt1099511627776
 returns-then-clock-gt1099511627776 c = λ t l r h e. absurd (omega (arith, h, c.long_in-clock.ensures ∙ clock-read t l, c.if-clock-gt1099511627776.true))
 
-pub overflow_add-time : goal.overflow_add-time
-overflow_add-time c = omega (arith, c.wide.ensures.1, c.if-clock-gt1099511627776.false)
-
 pub returns : goal.returns
 returns c =
     λ t l r h e.
-    advanced-laid t _ _ l.sizes.alarms (sum_of (c.long_in-clock.ensures ∙ clock-read t l) (c.wide.ensures.0 ∙ granule-read t l)) e
+    advanced-laid t _ _ l.sizes.alarms (sum_of (c.long_in-clock.ensures ∙ clock-read t l) (granule-read t l)) e
     (c.ring_from.ensures _ (c.set_clock.ensures t l) r refl)

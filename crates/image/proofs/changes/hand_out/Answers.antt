@@ -13,4 +13,4 @@ pub returns : goal.returns
 returns c =
     λ t l f h.
     handed-laid t l _ c.args.i f (sent-read t l) h
-    (c.set_sent.ensures _ (letters-closed t l c.args.i (omega (arith, c.if-i-gt31.false)) c.move_up.ensures c.put_message.ensures))
+    (c.set_sent.ensures _ (letters-closed t l c.args.i (omega (arith, c.if-i-gt31.false)) c.take_out.ensures.1 c.take_out.ensures.2))

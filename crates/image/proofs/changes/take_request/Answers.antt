@@ -13,4 +13,4 @@ pub returns : goal.returns
 returns c =
     λ t l f h.
     taken-laid t l _ c.args.i f (queued-read t l) h
-    (c.set_queued.ensures _ (pool-closed t l c.args.i (omega (arith, c.if-i-gt31.false)) c.move_up.ensures c.put_request.ensures))
+    (c.set_queued.ensures _ (pool-closed t l c.args.i (omega (arith, c.if-i-gt31.false)) c.take_out.ensures.1 c.take_out.ensures.2))

@@ -1,5 +1,6 @@
 -- Each kind is decided by its own function, with the sets that it asks for.
 use mathlib.Core.Path.{refl}
+use mathlib.Core.Logic.{inl, inr}
 use Rattle.executive.specs.Sheet.{decided}
 use Rattle.image.proofs.deciding.by_kind.Goals as goal
 
@@ -33,18 +34,6 @@ returns-in-Alarm c = λ t l w k. rw c.in-Alarm.is (c.alarm.ensures t l w k.flagg
 pub returns-in-Tick : goal.returns-in-Tick
 returns-in-Tick c = λ t l w k. rw c.in-Tick.is (c.tick.ensures t l w k c.args.c)
 
-pub returns-in-Granule : goal.returns-in-Granule
-unfolding decided
-returns-in-Granule c = λ t l w k. rw (c.no_call.ensures, c.in-Granule.is) refl
-
-pub returns-in-Task : goal.returns-in-Task
-unfolding decided
-returns-in-Task c = λ t l w k. rw (c.no_call-in-Task.ensures, c.in-Task.is) refl
-
-pub returns-in-End : goal.returns-in-End
-unfolding decided
-returns-in-End c = λ t l w k. rw (c.no_call-in-End.ensures, c.in-End.is) refl
-
 pub returns-in-Enter : goal.returns-in-Enter
 returns-in-Enter c = λ t l w k. rw c.in-Enter.is (c.enter.ensures t l w)
 
@@ -56,3 +45,11 @@ returns-in-Send c = λ t l w k. rw c.in-Send.is (c.send.ensures t l w)
 
 pub returns-in-Receive : goal.returns-in-Receive
 returns-in-Receive c = λ t l w k. rw c.in-Receive.is (c.receive.ensures t l w)
+
+pub returns-in-Granule : goal.returns-in-Granule
+unfolding decided
+returns-in-Granule c = λ t l w k.
+    rw c.no_call.ensures (elim c.in-Granule.is [
+      | inl h ↦ rw h.1 refl
+      | inr h ↦ elim h [ inl j ↦ rw j.2 refl | inr j ↦ rw j refl ]
+    ])

@@ -11,27 +11,15 @@ use Rattle.image.proofs.ReadOff.{clock-read, flags-read, granule-read}
 use Rattle.image.proofs.Timings.{tick-late, tick-done, tick_is, tick-woken}
 use Rattle.image.proofs.timing.tick.Goals as goal
 
-pub long_in-now-requires : goal.long_in-now-requires
-long_in-now-requires c = omega (arith, c.requires)
-
 pub returns-then-now-gt-END_OF_TIME : goal.returns-then-now-gt-END_OF_TIME
 returns-then-now-gt-END_OF_TIME c = λ t l w g k. c.refused.ensures ∙ tick-late t.tasks t.rest k (omega (arith, c.long_in-now.ensures ∙ clock-read t l, c.if-now-gt-END_OF_TIME.true))
-
-pub bounds-b-434 : goal.bounds-b-434
-bounds-b-434 c = omega (arith, c.requires)
-
-pub overflow_add-time : goal.overflow_add-time
-overflow_add-time c = omega (arith, c.wide.ensures.1, c.if-now-gt-END_OF_TIME.false)
 
 pub returns-then-time-gt-END_OF_TIME : goal.returns-then-time-gt-END_OF_TIME
 returns-then-time-gt-END_OF_TIME c =
     λ t l w g k.
     let ec = c.long_in-now.ensures ∙ clock-read t l in
-    let eg = c.wide.ensures.0 ∙ granule-read t l in
+    let eg = granule-read t l in
     c.refused-then-time-gt-END_OF_TIME.ensures ∙ tick-late t.tasks t.rest k (omega (arith, ec, eg, c.if-time-gt-END_OF_TIME.true))
-
-pub word_in-flags-requires : goal.word_in-flags-requires
-word_in-flags-requires c = omega (arith, c.requires)
 
 pub next_due-first-requires : goal.next_due-first-requires
 next_due-first-requires c = (c.requires, omega arith)
@@ -39,14 +27,11 @@ next_due-first-requires c = (c.requires, omega arith)
 pub rings-more-requires : goal.rings-more-requires
 rings-more-requires c = (c.requires, c.next_due-first.ensures.lower_bound.1)
 
-pub woken-entrants-requires : goal.woken-entrants-requires
-woken-entrants-requires c = c.requires
-
 pub returns : goal.returns
 returns c =
     λ t l w g k.
     let ec = c.long_in-now.ensures ∙ clock-read t l in
-    let eg = c.wide.ensures.0 ∙ granule-read t l in
+    let eg = granule-read t l in
     let ef = c.word_in-flags.ensures ∙ flags-read t l in
     let ei = c.next_due-first.ensures.value t l g.running-told in
     let unmet : AllUnmet c.word_in-flags.result t.tasks = λ j. subst (λ (x : ℕ). Unmet x (task_at t.tasks j).state) (sym ef) (w.masks j) in
