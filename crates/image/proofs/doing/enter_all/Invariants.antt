@@ -11,9 +11,9 @@ use Rattle.image.specs.Laid.{Laid}
 use Rattle.image.proofs.DoneLaid.{Entering}
 use Rattle.image.proofs.doing.enter_all.Given as goal
 
-abbrev pub invariant-loop-x : goal.invariant-loop-x
-invariant-loop-x l =
+abbrev pub invariant-loop-i : goal.invariant-loop-i
+invariant-loop-i l =
     let n = l.fn.list.count in
-    (length l.b ≡ 1555) × (l.walked ≤ 15 * l.x-index)
+    (length l.b ≡ 1555) × (l.walked ≤ 15 * l.i)
     × ((t : Table) → Laid l.initial.b t → InFlight n (begin t) → FindsRoom (joins_for l.q l.time (take n l.fn.list.places)) t → Desc (view t)
-    → Entering l.b l.walked (joins_for l.q l.time (drop l.x-index (take n l.fn.list.places))) (n - l.x-index) (lit_in_flight (enter_all_in_flight (joins_for l.q l.time (take n l.fn.list.places)) (begin t))).table (lit_in_flight (enter_all_in_flight (joins_for l.q l.time (take n l.fn.list.places)) (begin t))).walked)
+    → Entering l.b l.walked (joins_for l.q l.time (drop l.i (take n l.fn.list.places))) (n - l.i) (lit_in_flight (enter_all_in_flight (joins_for l.q l.time (take n l.fn.list.places)) (begin t))).table (lit_in_flight (enter_all_in_flight (joins_for l.q l.time (take n l.fn.list.places)) (begin t))).walked)
