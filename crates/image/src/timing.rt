@@ -46,7 +46,7 @@ pub(crate) fn flag(b: &[u8], operation: u8, f: FlagNo, flagged: u16) -> Decision
     let bit = changes::bit_of(f.0 as usize);
     let old = flags & bit != 0;
     if operation == 0 {
-        let reset = decisions::alone(Leave::Stays, Change::Flags(flags & (4294967295 - bit)));
+        let reset = decisions::alone(Leave::Stays, Change::Flags(flags & !bit));
         return decisions::accepted(answers::marked(!old, false, old), reset);
     }
     if operation == 1 {
