@@ -10,12 +10,6 @@ returns-then-n-gt31 c = λ t l f h g. absurd (omega (arith, g, sent-read t l, c.
 pub returns-then-n-at : goal.returns-then-n-at
 returns-then-n-at c = λ t l f h g. absurd (omega (arith, h, sent-read t l, c.if-n-at.true))
 
-pub overflow_cast-at : goal.overflow_cast-at
-overflow_cast-at c = omega (arith, c.if-n-gt31.false, c.if-n-at.false)
-
-pub letters_down-requires : goal.letters_down-requires
-letters_down-requires c = (c.requires, omega (arith, c.if-n-at.false), omega (arith, c.if-n-gt31.false))
-
 pub returns : goal.returns
 returns c =
     let a = c.args in

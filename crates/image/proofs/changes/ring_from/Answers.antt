@@ -1,39 +1,17 @@
 -- The due alarms ring, of those that are running. The loop's invariant: the bytes are the image of a table in which those
 -- before i rang and the others are as they were, and what is left to ring from i on gives the whole. The measure is what is
 -- left of the 32.
-use mathlib.Core.Path.{sym, ◌∙◌}
-use native.Mathlib.Omega.{arith}
+use mathlib.Core.Path.{◌∙◌}
 use Rattle.image.proofs.RestLaid.{rung-first, rung-next, rung-end, rung-none}
 use Rattle.image.proofs.changes.ring_from.Goals as goal
-
-pub returns-then-first-gt31 : goal.returns-then-first-gt31
-returns-then-first-gt31 c = λ t l r e. rung-none t c.args.first c.if-first-gt31.true l
-
-pub overflow_cast-first : goal.overflow_cast-first
-overflow_cast-first c = omega arith
-
-pub next_in-i-requires : goal.next_in-i-requires
-next_in-i-requires c = omega arith
 
 pub loop-i-init : goal.loop-i-init
 loop-i-init c =
     let a = c.args in
     (c.requires, λ t l r e. rung-first t a.time a.first r _ c.next_in-i.ensures l e)
 
-pub overflow_cast-i : goal.overflow_cast-i
-overflow_cast-i c = omega arith
-
-pub ring-requires : goal.ring-requires
-ring-requires c = (c.loop-i.invariant.0, c.loop-i-test.true)
-
-pub overflow_add-i : goal.overflow_add-i
-overflow_add-i c = omega (arith, c.loop-i-test.true)
-
-pub next_in-i-requires-in-loop-i : goal.next_in-i-requires-in-loop-i
-next_in-i-requires-in-loop-i c = omega (arith, c.loop-i-test.true)
-
-pub loop-i-smaller : goal.loop-i-smaller
-loop-i-smaller c = omega (arith, c.next_in-i-in-loop-i.ensures.least, c.next_in-i-in-loop-i.ensures.most, c.loop-i-test.true)
+pub returns-then-first-gt31 : goal.returns-then-first-gt31
+returns-then-first-gt31 c = λ t l r e. rung-none t c.args.first c.if-first-gt31.true l
 
 pub loop-i-preserved : goal.loop-i-preserved
 loop-i-preserved c =
@@ -43,9 +21,6 @@ loop-i-preserved c =
       c.ring.auto.b ∙ v.invariant.0,
       λ t l r e. rung-next t a.time a.first r v.i _ u c.next_in-i-in-loop-i.ensures (v.invariant.1 t l r e) c.ring.ensures,
     )
-
-pub shape_of-b : goal.shape_of-b
-shape_of-b c = c.loop-i.invariant.0 ∙ sym c.requires
 
 pub returns : goal.returns
 returns c =

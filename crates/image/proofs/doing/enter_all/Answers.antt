@@ -4,17 +4,11 @@ use Prim.Native.Nat.{◌≤◌}
 use native.Mathlib.Omega.{arith}
 use mathlib.Core.Path.{◌∙◌}
 use lib.ListN.{length}
-use Rattle.image.proofs.DoneLaid.{stage_start, stage_turn, stage_end}
+use Rattle.image.proofs.DoneLaid.{stage_turn, stage_end}
 use Rattle.image.proofs.doing.enter_all.Goals as goal
 
 pub returns-then-list-gt16 : goal.returns-then-list-gt16
 returns-then-list-gt16 c = λ t l f h d. absurd (omega (arith, f.room, c.if-list-gt16.true))
-
-pub loop-i-init : goal.loop-i-init
-loop-i-init c = (c.requires, omega arith, λ t l f h d. stage_start _ _ c.args.list.places _ t l f h d)
-
-pub overflow_add-walked : goal.overflow_add-walked
-overflow_add-walked c = omega (arith, c.loop-i.invariant.1, c.enter-walked.ensures.upper_bound)
 
 pub loop-i-preserved : goal.loop-i-preserved
 loop-i-preserved c =

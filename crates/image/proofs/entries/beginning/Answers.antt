@@ -1,14 +1,10 @@
 -- `entries::beginning` meets its contract: a task has an entry, any other number none.
-use native.Mathlib.Omega.{arith}
 use Rattle.image.proofs.EntryLaid.{put_laid-at, put_laid-none}
 use Rattle.executive.specs.Entries.{begun}
 use Rattle.image.proofs.entries.beginning.Goals as goal
 
 pub returns-then-i-gt15 : goal.returns-then-i-gt15
 returns-then-i-gt15 c = λ t l. put_laid-none t l _ _ c.place-i.ensures _ c.if-i-gt15.true
-
-pub begun-requires : goal.begun-requires
-begun-requires c = (c.requires, omega (arith, c.if-i-gt15.false))
 
 pub returns : goal.returns
 returns c =

@@ -5,9 +5,6 @@ use Rattle.executive.proofs.Assured.{stay-stop, stay-pass, stay-end}
 use Rattle.image.proofs.Finds.{urgency-read}
 use Rattle.image.proofs.letters.ahead.Goals as goal
 
-pub loop-i-init : goal.loop-i-init
-loop-i-init c = λ t l. omega arith
-
 pub returns-then-b-i : goal.returns-then-b-i
 returns-then-b-i c =
     let a = c.args in

@@ -1,11 +1,8 @@
 use native.Mathlib.Omega.{arith}
-use mathlib.Core.Path.{◌≡◌, refl, sym, ◌∙◌}
+use mathlib.Core.Path.{◌≡◌, sym, ◌∙◌}
 use Rattle.executive.specs.Messages.{no_message, fits}
 use Rattle.image.proofs.Finds.{fit-hit, fit-pass, fit-end}
 use Rattle.image.proofs.letters.first_fit.Goals as goal
-
-pub loop-i-init : goal.loop-i-init
-loop-i-init c = λ t l. refl
 
 pub returns-then-is_fit : goal.returns-then-is_fit
 returns-then-is_fit c =

@@ -7,12 +7,6 @@ use Rattle.image.proofs.letters.receive.Goals as goal
 pub returns-then-b-s : goal.returns-then-b-s
 returns-then-b-s c = λ t l w. c.refused.ensures ∙ receive-bad t.tasks t.rest c.args.c c.args.s (rw (count-read t l) at c.if-b-s.true)
 
-pub first_fit-i-requires : goal.first_fit-i-requires
-first_fit-i-requires c = (c.requires, c.at_most-n.ensures.upper_bound)
-
-pub message_at-m-requires : goal.message_at-m-requires
-message_at-m-requires c = (c.requires, c.at_most-n.ensures.upper_bound)
-
 pub returns : goal.returns
 returns c =
     let a = c.args in

@@ -20,9 +20,6 @@ returns-then-holder-eq0 c =
     rw (c.accepted.ensures, c.alone-gets_in.ensures, c.only_z-marks.ensures)
     (enter-free t.tasks t.rest a.c a.m c.if-m-gt7.false _ (holder-read t l a.m.0 (omega (arith, c.if-m-gt7.false))) c.if-c-holder.false c.if-holder-eq0.true)
 
-pub ahead-at-requires : goal.ahead-at-requires
-ahead-at-requires c = (c.requires, omega (arith, c.if-m-gt7.false), c.at_most-n.ensures.upper_bound)
-
 pub returns : goal.returns
 returns c =
     let a = c.args in

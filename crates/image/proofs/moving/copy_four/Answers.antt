@@ -1,7 +1,5 @@
 -- `moving::copy_four` meets its contract: four reads, and then four stores.
 use mathlib.Core.Path.{ap, ◌∙◌}
-use native.Mathlib.Omega.{arith}
-use lib.ListN.{length-set}
 use Rattle.image.specs.Blocks.{written}
 use Rattle.image.proofs.Digits.{word_read}
 use Rattle.image.proofs.Spans.{stored-four}
@@ -13,12 +11,3 @@ returns c =
     let a = c.args in
     let s = a.b.now in
     stored-four s a.to _ _ _ _ c.requires.1 ∙ ap (written s a.to) (word_read s a.from ∙ part-taken s 4 a.from c.requires.0)
-
-pub bounds-b-to-2 : goal.bounds-b-to-2
-bounds-b-to-2 c = simp length-set (omega arith)
-
-pub bounds-b-to-3 : goal.bounds-b-to-3
-bounds-b-to-3 c = simp length-set (omega arith)
-
-pub bounds-b-to-4 : goal.bounds-b-to-4
-bounds-b-to-4 c = simp length-set (omega arith)

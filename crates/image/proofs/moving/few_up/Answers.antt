@@ -7,11 +7,6 @@ use Rattle.image.proofs.moving.few_up.Goals as goal
 pub loop-i-init : goal.loop-i-init
 loop-i-init c = let a = c.args in (omega arith, refl, up_start a.b.now a.to a.from a.n)
 
-pub copy_four-requires : goal.copy_four-requires
-copy_four-requires c =
-    let v = c.loop-i in
-    (omega (arith, c.loop-i-test.true, v.invariant.0, v.invariant.1, c.requires.1), omega (arith, c.loop-i-test.true, v.invariant.0, v.invariant.1, c.requires.0, c.requires.1))
-
 pub loop-i-preserved : goal.loop-i-preserved
 loop-i-preserved c =
     let r = c.copy_four in

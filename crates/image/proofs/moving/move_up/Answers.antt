@@ -10,9 +10,6 @@ use Rattle.image.proofs.moving.move_up.Goals as goal
 pub loop-i-init : goal.loop-i-init
 loop-i-init c = let a = c.args in (omega arith, refl, up_start a.b.now a.to a.from a.n)
 
-pub sixteen_up-requires : goal.sixteen_up-requires
-sixteen_up-requires c = (omega (arith, c.requires.0), omega (arith, c.loop-i-test.true, c.loop-i.invariant.0, c.loop-i.invariant.1, c.requires.1))
-
 pub loop-i-preserved : goal.loop-i-preserved
 loop-i-preserved c =
     let v = c.loop-i in (
@@ -21,39 +18,9 @@ loop-i-preserved c =
       up_turn c.args.b.now c.args.to c.args.from c.args.n v.b c.sixteen_up.new.b v.i 16 c.requires.0 c.requires.1 (omega (arith, c.loop-i-test.true, v.invariant.0)) v.invariant.2 c.sixteen_up.ensures,
     )
 
-pub few_up-requires : goal.few_up-requires
-few_up-requires c = (omega (arith, c.requires.0), omega (arith, c.loop-i.invariant.0, c.loop-i.invariant.1, c.requires.1))
-
 pub returns : goal.returns
 returns c =
     let v = c.loop-i in
     let e : v.i + (c.args.n - v.i) ≡ c.args.n = omega (arith, v.invariant.0) in
     up_turn c.args.b.now c.args.to c.args.from c.args.n v.b _ v.i (c.args.n - v.i) c.requires.0 c.requires.1 (omega (arith, v.invariant.0)) v.invariant.2 c.few_up.ensures
     ∙ ap (λ (m : ℕ). written c.args.b.now c.args.to (take m (drop c.args.from c.args.b.now))) e
-
-pub overflow_sub-n : goal.overflow_sub-n
-overflow_sub-n c = c.loop-i.invariant.0
-
-pub overflow_add-to : goal.overflow_add-to
-overflow_add-to c = omega arith
-
-pub overflow_add-from : goal.overflow_add-from
-overflow_add-from c = omega arith
-
-pub overflow_add-i : goal.overflow_add-i
-overflow_add-i c = omega arith
-
-pub loop-i-smaller : goal.loop-i-smaller
-loop-i-smaller c = omega arith
-
-pub overflow_add-to-2 : goal.overflow_add-to-2
-overflow_add-to-2 c = omega (arith, c.loop-i.invariant.0, c.requires.0, c.requires.1)
-
-pub overflow_add-from-2 : goal.overflow_add-from-2
-overflow_add-from-2 c = omega (arith, c.loop-i.invariant.0, c.requires.1)
-
-pub overflow_sub-n-2 : goal.overflow_sub-n-2
-overflow_sub-n-2 c = c.loop-i.invariant.0
-
-pub shape_of-b : goal.shape_of-b
-shape_of-b c = c.few_up.auto.b ∙ c.loop-i.invariant.1

@@ -7,9 +7,6 @@ use Rattle.image.proofs.Answered.{act_said}
 use Rattle.image.proofs.Learnt.{learned, act_refused}
 use Rattle.image.proofs.stepping.act.Goals as goal
 
-pub returns-then-not-seen : goal.returns-then-not-seen
-returns-then-not-seen c = rw c.no_table.ensures (act_refused c.args.image.now c.args.call.now (sym c.see-seen.ensures.told ∙ not-true _ c.if-not-seen.true))
-
 pub step-requires : goal.step-requires
 step-requires c =
     let s = c.args.image.now in
@@ -17,6 +14,9 @@ step-requires c =
     let r = not-false _ c.if-not-seen.false in
     let b = and_true (is_image s) _ (sym e.told ∙ r) in
     (b.0, b.1, learned s b.1 _ _ (e.kinds r) (e.alarms r))
+
+pub returns-then-not-seen : goal.returns-then-not-seen
+returns-then-not-seen c = rw c.no_table.ensures (act_refused c.args.image.now c.args.call.now (sym c.see-seen.ensures.told ∙ not-true _ c.if-not-seen.true))
 
 pub returns : goal.returns
 returns c =

@@ -15,6 +15,12 @@ decide-d-requires c = (image-parts c.args.b.now c.requires.0).0
 pub refusal-requires : goal.refusal-requires
 refusal-requires c = (image-parts c.args.b.now c.requires.0).0
 
+pub execute-walked-requires : goal.execute-walked-requires
+execute-walked-requires c = (image-parts c.args.b.now c.requires.0).0
+
+pub answer-requires : goal.answer-requires
+answer-requires c = c.execute-walked.auto.b ∙ (image-parts c.args.b.now c.requires.0).0
+
 pub returns-then-d-ne0 : goal.returns-then-d-ne0
 returns-then-d-ne0 c =
     let s = c.args.b.now in
@@ -24,12 +30,6 @@ returns-then-d-ne0 c =
     let l = loaded s i in
     let ed = decided-is s k i _ _ w (c.active-c.ensures (load_of s) l) (c.decide-d.ensures (load_of s) l w c.requires.2) in
     said-refused s k i _ _ w ed c.if-d-ne0.true (c.refusal.ensures (load_of s) l)
-
-pub execute-walked-requires : goal.execute-walked-requires
-execute-walked-requires c = (image-parts c.args.b.now c.requires.0).0
-
-pub answer-requires : goal.answer-requires
-answer-requires c = c.execute-walked.auto.b ∙ (image-parts c.args.b.now c.requires.0).0
 
 pub returns : goal.returns
 returns c =

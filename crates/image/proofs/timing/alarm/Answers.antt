@@ -11,32 +11,20 @@ use Rattle.image.proofs.ReadOff.{alarm-read, clock-read, flags-read}
 use Rattle.image.proofs.Timings.{alarm-unit, alarm-high, alarm-running, alarm-set, alarm-stored}
 use Rattle.image.proofs.timing.alarm.Goals as goal
 
+pub overflow_add-at : goal.overflow_add-at
+overflow_add-at c =
+    let s = c.args in
+    let e = interval-most s.unit s.count (omega arith) in
+    omega (arith, rw (← c.millis_of-wait.ensures) at e, c.if-now-gt-END_OF_TIME.false)
+
 pub returns-then-unit-gt-LAST_UNIT : goal.returns-then-unit-gt-LAST_UNIT
 returns-then-unit-gt-LAST_UNIT c = λ t l w m k. c.refused.ensures ∙ alarm-unit t.tasks t.rest k c.args.unit c.args.count c.args.f c.if-unit-gt-LAST_UNIT.true
 
 pub returns-then-f-gt31 : goal.returns-then-f-gt31
 returns-then-f-gt31 c = λ t l w m k. c.refused-then-f-gt31.ensures ∙ alarm-high t.tasks t.rest k c.args.unit c.args.count c.args.f c.if-unit-gt-LAST_UNIT.false c.if-f-gt31.true
 
-pub overflow_mul-f : goal.overflow_mul-f
-overflow_mul-f c = omega (arith, c.if-f-gt31.false)
-
-pub overflow_add-f : goal.overflow_add-f
-overflow_add-f c = omega (arith, c.if-f-gt31.false)
-
-pub long_in-requires : goal.long_in-requires
-long_in-requires c = omega (arith, c.if-f-gt31.false, c.requires)
-
 pub returns-then-long_in-ne0 : goal.returns-then-long_in-ne0
 returns-then-long_in-ne0 c = λ t l w m k. c.refused-then-long_in-ne0.ensures ∙ alarm-running t.tasks t.rest k c.args.unit c.args.count c.args.f c.if-unit-gt-LAST_UNIT.false c.if-f-gt31.false _ (c.long_in.ensures ∙ alarm-read t l c.args.f.0 (omega (arith, c.if-f-gt31.false))) c.if-long_in-ne0.true
-
-pub word_in-flags-requires : goal.word_in-flags-requires
-word_in-flags-requires c = omega (arith, c.requires)
-
-pub bit_of-requires : goal.bit_of-requires
-bit_of-requires c = omega (arith, c.if-f-gt31.false)
-
-pub set-deed-requires : goal.set-deed-requires
-set-deed-requires c = (c.requires, omega (arith, c.if-f-gt31.false))
 
 pub returns-then-count-eq0 : goal.returns-then-count-eq0
 returns-then-count-eq0 c =
@@ -46,17 +34,8 @@ returns-then-count-eq0 c =
     c.if-unit-gt-LAST_UNIT.false c.if-f-gt31.false _ (c.long_in.ensures ∙ alarm-read t l c.args.f.0 (omega (arith, c.if-f-gt31.false))) c.if-long_in-ne0.false
     _ _ (c.word_in-flags.ensures ∙ flags-read t l) c.bit_of.ensures c.if-count-eq0.true _ (c.set-deed.ensures t l m)
 
-pub long_in-now-requires : goal.long_in-now-requires
-long_in-now-requires c = omega (arith, c.requires)
-
 pub returns-then-now-gt-END_OF_TIME : goal.returns-then-now-gt-END_OF_TIME
 returns-then-now-gt-END_OF_TIME c = λ t l w m k. absurd (omega (arith, c.long_in-now.ensures ∙ clock-read t l, w.numbers.clock, c.if-now-gt-END_OF_TIME.true))
-
-pub overflow_add-at : goal.overflow_add-at
-overflow_add-at c =
-    let s = c.args in
-    let e = interval-most s.unit s.count (omega arith) in
-    omega (arith, rw (← c.millis_of-wait.ensures) at e, c.if-now-gt-END_OF_TIME.false)
 
 pub returns : goal.returns
 returns c =

@@ -1,6 +1,5 @@
 -- `timing::flag` meets its contract: each outcome is that of the sheet.
 use mathlib.Core.Path.{refl, ap₂, ◌∙◌}
-use native.Mathlib.Omega.{arith}
 use Rattle.executive.specs.declared.Marks.{Marks}
 use Rattle.executive.specs.declared.decisions.Deed.{Deed}
 use Rattle.executive.specs.Decisions.{doing}
@@ -14,20 +13,11 @@ returns-then-f-gt31 c = λ t l w m k. c.refused.ensures ∙ flag-high t.tasks t.
 pub returns-then-operation-gt2 : goal.returns-then-operation-gt2
 returns-then-operation-gt2 c = λ t l w m k. c.refused-then-operation-gt2.ensures ∙ flag-odd t.tasks t.rest k c.args.operation c.args.f c.if-f-gt31.false c.if-operation-gt2.true
 
-pub word_in-flags-requires : goal.word_in-flags-requires
-word_in-flags-requires c = omega (arith, c.requires)
-
-pub bit_of-bit-requires : goal.bit_of-bit-requires
-bit_of-bit-requires c = omega (arith, c.if-f-gt31.false)
-
 pub returns-then-operation-eq0 : goal.returns-then-operation-eq0
 returns-then-operation-eq0 c =
     λ t l w m k.
     c.accepted.ensures ∙ ap₂ (λ (m : Marks) (d : Deed). doing m d) c.marked.ensures c.alone-reset.ensures
     ∙ flag-reset t.tasks t.rest k c.args.operation c.args.f c.if-f-gt31.false c.if-operation-gt2.false _ _ (c.word_in-flags.ensures ∙ flags-read t l) c.bit_of-bit.ensures c.if-operation-eq0.true
-
-pub set-deed-requires : goal.set-deed-requires
-set-deed-requires c = (c.requires, omega (arith, c.if-f-gt31.false))
 
 pub returns-then-operation-eq1 : goal.returns-then-operation-eq1
 returns-then-operation-eq1 c =

@@ -4,12 +4,6 @@ use lib.Bits.{bit_or}
 use Rattle.image.proofs.Timings.{set_is, set-woken}
 use Rattle.image.proofs.timing.set.Goals as goal
 
-pub bit_of-requires : goal.bit_of-requires
-bit_of-requires c = c.requires.1
-
-pub woken-entrants-requires : goal.woken-entrants-requires
-woken-entrants-requires c = c.requires.0
-
 pub returns : goal.returns
 returns c =
     let a = c.args in

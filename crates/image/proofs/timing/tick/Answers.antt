@@ -21,12 +21,6 @@ returns-then-time-gt-END_OF_TIME c =
     let eg = granule-read t l in
     c.refused-then-time-gt-END_OF_TIME.ensures ∙ tick-late t.tasks t.rest k (omega (arith, ec, eg, c.if-time-gt-END_OF_TIME.true))
 
-pub next_due-first-requires : goal.next_due-first-requires
-next_due-first-requires c = (c.requires, omega arith)
-
-pub rings-more-requires : goal.rings-more-requires
-rings-more-requires c = (c.requires, c.next_due-first.ensures.lower_bound.1)
-
 pub returns : goal.returns
 returns c =
     λ t l w g k.
