@@ -22,7 +22,7 @@ use Rattle.executive.specs.Messages.{no_mail, with_mail}
 use Rattle.executive.specs.Table.{ArraysInOrder, FindsRoom, InFlight, Join, Out, line, items, item_of, enter_at, head_of, stays, leaves, view, levels_of, relit, depart, departed, entered, passed_by, with_rest, begin, enter_in_flight, enter_all_in_flight, lit_in_flight, apply_in_flight}
 use Rattle.executive.specs.Plans.{caller}
 use Rattle.executive.specs.Decisions.{named, out_for, gone_as, change_for, joins_for, changed, meant, Doable}
-use Rattle.executive.proofs.Assured.{blank, enter-turn, find-turn, enter-end, changed-neat, done-is, lit-same, begin-flying, depart-fit, finds-beside, fewer-flying, enter-flying, lit-on_the_way, lit-flying, line-pad, items_put, insert_desc, queue_law, eqb_self, one-le}
+use Rattle.executive.proofs.Assured.{blank, enter-turn, find-turn, enter-end, changed-neat, done-is, lit-same, begin-flying, depart-fit, finds-beside, enter-flying, lit-on_the_way, lit-flying, line-pad, items_put, insert_desc, queue_law, eqb_self, one-le}
 use Rattle.image.specs.Laid.{Laid}
 
 -- ---- the line descends after each move
@@ -88,10 +88,6 @@ module _ (q : Request) (time : Millis) (ps : List Entrant) (n : ℕ) (h : n ≤ 
       let k = enter-end ps n q time (record { table = e.table; walked = w }) i g in
       let l = sym (ap lit_in_flight k) ∙ e.left in
       (subst (Laid b) ((λ j. (v j).table) ∙ (λ j. (l j).table)) e.laid, (λ j. (v j).walked) ∙ (λ j. (l j).walked))
-
-pub stage_start : (q : Request) (time : Millis) (ps : List Entrant) (n : ℕ) {b : List ℕ} (t : Table) → Laid b t → InFlight n (begin t) → FindsRoom (joins_for q time (take n ps)) t → Desc (view t)
-    → Entering b 0 (joins_for q time (drop 0 (take n ps))) (n - 0) (lit_in_flight (enter_all_in_flight (joins_for q time (take n ps)) (begin t))).table (lit_in_flight (enter_all_in_flight (joins_for q time (take n ps)) (begin t))).walked
-stage_start q time ps n t l f h d = record { table = t; laid = l; flying = fewer-flying _ _ _ (omega arith) f; finds = h; sorted = d; left = refl }
 
 -- ---- one who stays
 pub stays-laid : {s : List ℕ} (t : Table) → t.levels ≡ levels_of (view t) → Laid s t → Laid s (relit (depart (out_for leave.Stays) t))

@@ -142,9 +142,3 @@ module _ (s : List ℕ) (m at n : ℕ) (h : m + n * 11 + 11 ≤ length s) where
       let z : m + (i - 1) * 11 + 11 ≡ m + at * 11 + 11 + (i - 1 - at) * 11 = omega arith in
       down_turn s (m + at * 11 + 11) (m + at * 11) ((n - at) * 11) r q ((i - at) * 11) ((i - 1 - at) * 11) 11 (omega arith) (omega arith) (omega arith) (omega arith) er
       (eq ∙ (λ j. written r (z j) (take 11 (drop (y j) r))))
-
-  pub blocks_end : (r : List ℕ) (i : ℕ) → i ≡ at → Lowered s m at n r i → r ≡ written s (m + at * 11 + 11) (take ((n - at) * 11) (drop (m + at * 11) s))
-  blocks_end r i e er =
-      let z : (i - at) * 11 ≡ 0 = omega arith in
-      let y : m + at * 11 + 11 + 0 ≡ m + at * 11 + 11 = omega arith in
-      rw (z, y) at er

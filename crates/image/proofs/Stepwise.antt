@@ -15,7 +15,7 @@ use Rattle.executive.specs.declared.Answer.{Answer}
 use Rattle.executive.specs.declared.Marks.{Marks}
 use Rattle.executive.specs.declared.Outcome.{Outcome}
 use Rattle.executive.specs.declared.decisions.Decision.{Decision}
-use Rattle.executive.specs.Places.{nobody, task_at}
+use Rattle.executive.specs.Places.{nobody}
 use Rattle.executive.specs.Subprograms.{no_subprogram}
 use Rattle.executive.specs.Plans.{caller}
 use Rattle.executive.specs.Lists.{◌and◌, pad}
@@ -198,13 +198,6 @@ module _ (s k : List ℕ) (i : is_image s ≡ true) where
 
   pub doable-is : (d : Decision) → WellFormed (load_of s) → d ≡ said (load_of s) k → d.number ≡ 0 → Doable d.deed (load_of s)
   doable-is d w ed h = subst (λ (x : Decision). Doable x.deed (load_of s)) (sym ed) (can_do (load_of s) k w (ap (λ (x : Decision). x.number) (sym ed) ∙ h))
-
--- ---- an answer from a table's numbers
-pub answer-is : (t : Table) (n : ℕ) (m : Marks) (w : ℕ) (k : TaskNo) (x : ℕ) → k ≡ caller t → x ≡ (task_at t.tasks k.0).argument
-    → record { number = n; z = m.z; v = m.v; c = m.c; active = k; argument = x; skipped = m.skipped; walked = w; sender = m.sender; text = m.text } ≡ answer_of n m w t
-answer-is t n m w k x ek ex =
-    let f : x ≡ (task_at t.tasks (caller t).0).argument = ex ∙ ap (λ (y : TaskNo). (task_at t.tasks y.0).argument) ek in
-    λ j. record { number = n; z = m.z; v = m.v; c = m.c; active = ek j; argument = f j; skipped = m.skipped; walked = w; sender = m.sender; text = m.text }
 
 pub refused-one : (t : Table) (n : ℕ) → n ≡ 1 → no_table ≡ (refused t n).answer
 unfolding refused

@@ -8,9 +8,6 @@ use Rattle.image.specs.Image.{place_bytes}
 use Rattle.image.proofs.RestLaid.{having-own, having-read, holder-laid, line-closed-laid, waiting-laid, free-laid, handed_on-laid}
 use Rattle.image.proofs.changes.hand_on.Goals as goal
 
-pub returns-then-m-gt7 : goal.returns-then-m-gt7
-returns-then-m-gt7 c = λ t l h f. absurd (omega (arith, h, c.if-m-gt7.true))
-
 pub returns-then-n-eq0 : goal.returns-then-n-eq0
 returns-then-n-eq0 c =
     λ t l h f.

@@ -1,10 +1,6 @@
-use native.Mathlib.Omega.{arith}
 use Rattle.executive.specs.Subprograms.{sub_at}
 use Rattle.image.proofs.RestLaid.{having-own, holder-laid}
 use Rattle.image.proofs.changes.hold.Goals as goal
-
-pub returns-then-m-gt7 : goal.returns-then-m-gt7
-returns-then-m-gt7 c = λ t l h. absurd (omega (arith, h, c.if-m-gt7.true))
 
 pub returns : goal.returns
 returns c =

@@ -3,9 +3,6 @@ use Rattle.executive.specs.Subprograms.{sub_at}
 use Rattle.image.proofs.RestLaid.{having-own, having-read, line_slid_laid, waiting-laid, joined-laid}
 use Rattle.image.proofs.changes.line_up.Goals as goal
 
-pub returns-then-m-gt7 : goal.returns-then-m-gt7
-returns-then-m-gt7 c = λ t l h f g d. absurd (omega (arith, h, c.if-m-gt7.true))
-
 pub returns-then-n-gt15 : goal.returns-then-n-gt15
 returns-then-n-gt15 c =
     λ t l h f g d.

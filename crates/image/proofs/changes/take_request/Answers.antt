@@ -6,9 +6,6 @@ use Rattle.image.proofs.changes.take_request.Goals as goal
 pub returns-then-n-eq0 : goal.returns-then-n-eq0
 returns-then-n-eq0 c = λ t l f h. absurd (omega (arith, h, queued-read t l, c.if-n-eq0.true))
 
-pub returns-then-i-gt31 : goal.returns-then-i-gt31
-returns-then-i-gt31 c = λ t l f h. absurd (omega (arith, h, f.room, c.if-i-gt31.true))
-
 pub returns : goal.returns
 returns c =
     λ t l f h.

@@ -7,9 +7,6 @@ use lib.ListN.{length}
 use Rattle.image.proofs.DoneLaid.{stage_turn, stage_end}
 use Rattle.image.proofs.doing.enter_all.Goals as goal
 
-pub returns-then-list-gt16 : goal.returns-then-list-gt16
-returns-then-list-gt16 c = λ t l f h d. absurd (omega (arith, f.room, c.if-list-gt16.true))
-
 pub loop-i-preserved : goal.loop-i-preserved
 loop-i-preserved c =
     let v = c.loop-i in

@@ -6,14 +6,8 @@ use Rattle.executive.specs.Places.{no_task}
 use Rattle.image.specs.Laid.{with_start}
 use Rattle.image.proofs.entries.enter.Goals as goal
 
-pub returns-in-Woken : goal.returns-in-Woken
-returns-in-Woken c = λ t l. rw c.in-Woken.is (c.set_state.ensures t l)
-
 pub returns-in-Risen : goal.returns-in-Risen
 returns-in-Risen c =
     λ t l.
     let e = get_or t.tasks c.args.i no_task in
     rw c.in-Risen.is (then-laid t l c.args.i c.requires.1 (with_start (aimed e.state e.start) e) (with_state state.Ready) (c.set_state-in-Risen.ensures _ (c.aim.ensures t l)))
-
-pub returns-in-Begun : goal.returns-in-Begun
-returns-in-Begun c = λ t l. rw c.in-Begun.is (c.begun.ensures t l)

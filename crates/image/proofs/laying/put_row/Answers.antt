@@ -4,8 +4,7 @@ use mathlib.Core.Path.{◌≡◌, ap}
 use native.Mathlib.Omega.{arith}
 use native.Mathlib.Numerals.{add-one}
 use lib.ListN.{length, get_or}
-use lib.Seq.{take_all}
-use Rattle.image.proofs.Spans.{each_more, Wide, row-begun, row-turned, row_done, block-within}
+use Rattle.image.proofs.Spans.{each_more, Wide, row-begun, row-turned, block-within}
 use Rattle.image.proofs.laying.put_row.Goals as goal
 
 pub loop-i-init : goal.loop-i-init
@@ -25,13 +24,3 @@ loop-i-preserved g c =
           (ap (λ n. a.at + v.i * n) c.WIDTH.ensures) (rw e at c.put.ensures.value) h k,
       rw add-one (each_more (Wide b.bytes b.WIDTH) v.i a.blocks.now x v.invariant.1 wide h),
     )
-
-pub returns : goal.returns
-returns g c =
-    let b = g.T.Block in
-    let a = c.args in
-    let v = c.loop-i in
-    record {
-      width = rw (take_all v.i a.blocks.now c.loop-i-test.false) at v.invariant.1;
-      value = row_done b.bytes b.WIDTH a.out.now v.out a.blocks.now a.at v.i v.invariant.0 c.loop-i-test.false;
-    }

@@ -1,5 +1,5 @@
 -- `moving::few_up` meets its contract. The invariant of both loops: the first i bytes are moved, and nothing else.
-use mathlib.Core.Path.{◌≡◌, refl, ◌∙◌}
+use mathlib.Core.Path.{refl, ◌∙◌}
 use native.Mathlib.Omega.{arith}
 use Rattle.image.proofs.Shifts.{one_copied, up_start, up_turn}
 use Rattle.image.proofs.moving.few_up.Goals as goal
@@ -22,9 +22,3 @@ loop-j-preserved c =
     let a = c.args in
     up_turn a.b.now a.to a.from a.n v.b _ v.j 1 c.requires.0 c.requires.1 (omega arith) v.invariant
     (one_copied v.b _ _ (omega (arith, c.requires.0, c.requires.1)) (omega (arith, c.requires.1)))
-
-pub returns : goal.returns
-returns c =
-    let v = c.loop-j in
-    let e : v.j ≡ c.args.n = omega arith in
-    rw e at v.invariant

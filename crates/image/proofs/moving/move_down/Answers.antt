@@ -1,6 +1,4 @@
 -- `moving::move_down` meets its contract. The invariant: the bytes from i on are moved, and nothing else.
-use Prim.Native.Nat.{◌+◌}
-use mathlib.Core.Path.{◌≡◌}
 use native.Mathlib.Omega.{arith}
 use Rattle.image.proofs.Shifts.{one_copied, down-start, down_turn}
 use Rattle.image.proofs.moving.move_down.Goals as goal
@@ -14,10 +12,3 @@ loop-i-preserved c =
     let a = c.args in
     down_turn _ a.to a.from a.n v.b _ v.i _ 1 c.requires.0 c.requires.1 (omega arith) (omega arith) v.invariant
     (one_copied v.b _ _ (omega (arith, c.requires.1)) (omega (arith, c.requires.0, c.requires.1)))
-
-pub returns : goal.returns
-returns c =
-    let v = c.loop-i in
-    let e : v.i ≡ 0 = omega arith in
-    let z : c.args.to + 0 ≡ c.args.to = omega arith in
-    rw (e, z) at v.invariant

@@ -4,7 +4,7 @@ use mathlib.Core.Path.{refl}
 use native.Mathlib.Omega.{arith}
 use Rattle.executive.specs.Places.{no_task}
 use Rattle.image.specs.Image.{awaited_bytes, awaited_at}
-use Rattle.image.proofs.Spans.{row-start, row-turn, row-end}
+use Rattle.image.proofs.Spans.{row-start, row-turn}
 use Rattle.image.proofs.storing.put_all_awaited.Goals as goal
 
 pub loop-i-init : goal.loop-i-init
@@ -16,9 +16,3 @@ loop-i-preserved c =
     let v = c.loop-i in
     row-turn awaited_bytes 1 (λ x. refl) a.out.now v.out c.put_awaited.new.out a.tasks.now awaited_at v.i (awaited_at + v.i) no_task
     v.invariant (omega arith) c.put_awaited.ensures (omega arith) (omega (arith, c.requires))
-
-pub returns : goal.returns
-returns c =
-    let a = c.args in
-    let v = c.loop-i in
-    row-end awaited_bytes 1 (λ x. refl) a.out.now v.out a.tasks.now awaited_at v.i v.invariant (omega arith)
