@@ -61,13 +61,8 @@ pub(crate) fn execute(b: &mut [u8], d: Deed, running: u32) -> u8
         → Laid b.new (apply_in_flight (meant d t) t).table × (result ≡ (apply_in_flight (meant d t) t).walked) }
 {
     let time = Millis(numbers::long_in(b, fields::CLOCK));
-    let how = d.leave;
-    leave(b, how);
-    let what = d.change;
-    let q = d.request;
-    changes::change(b, what, q, running);
-    let k = d.empties;
-    fields::set_mail(b, k, NO_MAIL);
-    let list = d.entrants;
-    enter_all(b, list, q, time)
+    leave(b, d.leave);
+    changes::change(b, d.change, d.request, running);
+    fields::set_mail(b, d.empties, NO_MAIL);
+    enter_all(b, d.entrants, d.request, time)
 }

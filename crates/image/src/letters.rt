@@ -8,9 +8,9 @@ ghost use Rattle.executive.specs.Sheet.{decided};
 ghost use Rattle.image.specs.Image.{image_length};
 ghost use Rattle.image.specs.Laid.{Laid};
 
-use crate::{MESSAGES, SENT, fields, loading};
-use executive::decisions::{Change, Decision, Deed, Leave};
-use executive::{Mail, Message, answers, decisions, messages, pool, refusals};
+use crate::{MESSAGES, SENT, deeds, fields, loading};
+use executive::decisions::{Change, Decision, Leave};
+use executive::{Mail, Message, answers, decisions, messages, refusals};
 use records::{TaskNo, Text};
 
 // How many of the first n messages stay ahead of one of priority p.
@@ -66,16 +66,9 @@ pub(crate) fn send(b: &[u8], c: TaskNo, k: TaskNo, text: Text) -> Decision
     }
     let marks = answers::only_z(false);
     let e = fields::entry(b, k);
-    let state = e.state;
-    if messages::takes(state, c) {
-        let entrants = decisions::only_woken(k);
-        let deed = Deed {
-            leave: Leave::Stays,
-            entrants,
-            request: pool::NO_REQUEST,
-            change: Change::Delivered(k, Mail { sender: c, text }),
-            empties: TaskNo(0),
-        };
+    if messages::takes(e.state, c) {
+        let delivered = Change::Delivered(k, Mail { sender: c, text });
+        let deed = deeds::letting_in(decisions::only_woken(k), delivered);
         return decisions::accepted(marks, deed);
     }
     let sent = b[SENT];

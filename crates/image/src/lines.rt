@@ -9,9 +9,9 @@ ghost use Rattle.executive.specs.Sheet.{decided};
 ghost use Rattle.image.specs.Image.{image_length};
 ghost use Rattle.image.specs.Laid.{Laid};
 
-use crate::{SUBS, fields, moves};
-use executive::decisions::{Change, Decision, Deed, Leave};
-use executive::{State, answers, decisions, pool};
+use crate::{SUBS, deeds, fields, moves};
+use executive::decisions::{Change, Decision, Leave};
+use executive::{State, answers, decisions};
 use records::{SubNo, TaskNo};
 
 // Kind 06: the caller gets in, or departs and waits behind all of equal or higher priority.
@@ -68,13 +68,6 @@ pub(crate) fn exit(b: &[u8], c: TaskNo, m: SubNo) -> Decision
     }
     let marks = answers::only_z(false);
     let w = first_of(b, m);
-    let entrants = decisions::only_woken(w);
-    let deed = Deed {
-        leave: Leave::Stays,
-        entrants,
-        request: pool::NO_REQUEST,
-        change: Change::HandedOn(m),
-        empties: TaskNo(0),
-    };
+    let deed = deeds::letting_in(decisions::only_woken(w), Change::HandedOn(m));
     decisions::accepted(marks, deed)
 }

@@ -32,20 +32,17 @@ fn answer(b: &[u8], number: u8, m: Marks, walked: u8) -> Answer
     ensures { (t : Table) → Laid b.now t → result ≡ answer_of number m walked t }
 {
     let active = active(b);
-    let argument = fields::argument(b, active);
-    let sender = m.sender;
-    let text = m.text;
     Answer {
         number,
         z: m.z,
         v: m.v,
         c: m.c,
         active,
-        argument,
+        argument: fields::argument(b, active),
         skipped: m.skipped,
         walked,
-        sender,
-        text,
+        sender: m.sender,
+        text: m.text,
     }
 }
 
@@ -76,10 +73,8 @@ fn step(b: &mut [u8], call: &[u8], w: Watched) -> Answer
     if d.number != 0 {
         return refusal(b, d.number);
     }
-    let deed = d.deed;
-    let walked = doing::execute(b, deed, w.running);
-    let m = d.marks;
-    answer(b, 0, m, walked)
+    let walked = doing::execute(b, d.deed, w.running);
+    answer(b, 0, d.marks, walked)
 }
 
 // A step, whatever the bytes are, and its answer. Accepted, the image is rewritten; refused, every byte is kept.

@@ -19,7 +19,7 @@ returns-then-takes c =
     λ t l w.
     let x = such-task t.rest a.k _ _ (count-read t l) c.no_such_task.ensures in
     let y = c.takes.ensures ∙ ap (λ (e : Task). takes a.c.0 e.state) (c.entry-e.ensures t l) in
-    rw (c.accepted.ensures, c.only_woken-entrants.ensures, c.only_z-marks.ensures) (send-taken t.tasks t.rest a.c a.k a.text _ x c.if-no_such_task.false _ y c.if-takes.true)
+    rw (c.accepted.ensures, c.letting_in-deed.ensures _ c.only_woken.ensures, c.only_z-marks.ensures) (send-taken t.tasks t.rest a.c a.k a.text _ x c.if-no_such_task.false _ y c.if-takes.true)
 
 pub returns-then-sent-ge32 : goal.returns-then-sent-ge32
 returns-then-sent-ge32 c =

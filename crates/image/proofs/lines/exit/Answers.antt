@@ -16,5 +16,5 @@ pub returns : goal.returns
 returns c =
     let a = c.args in
     λ t l.
-    rw (c.accepted.ensures, c.only_woken-entrants.ensures, c.only_z-marks.ensures)
+    rw (c.accepted.ensures, c.letting_in-deed.ensures _ c.only_woken.ensures, c.only_z-marks.ensures)
     (exit_done t.tasks t.rest a.c a.m c.if-m-gt7.false _ (holder-read t l a.m.0 (omega (arith, c.if-m-gt7.false))) c.if-c-b.false _ (c.first_of-w.ensures t l))
