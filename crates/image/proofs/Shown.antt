@@ -16,9 +16,14 @@ use Rattle.image.specs.Image.{levels_at, image_length, load_of}
 use Rattle.image.specs.EntryPoints.{WellFormedImage, lamp_byte, lamp_number, ShowsImage}
 use Rattle.image.proofs.Alike.{decide}
 use Rattle.image.proofs.Trips.{image-parts}
-use Rattle.std.proofs.Common.{Option}
+use Rattle.std.specs.Option.{unwrap_or}
+use Rattle.std.proofs.Common.{Option, None, Some}
 
 -- ---- for the code
+pub byte-is : (l : Option ℕ) → unwrap_or l 16 ≡ lamp_byte l
+byte-is None = refl
+byte-is (Some p) = refl
+
 module _ (s : List ℕ) where
   pub lamp-short : (length s ≡ image_length → ⊥) → 16 ≡ lamp_number s
   unfolding lamp_number

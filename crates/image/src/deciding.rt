@@ -11,7 +11,7 @@ ghost use Rattle.image.specs.Waking.{Learned};
 use crate::{letters, lines, runs, timing};
 use executive::decisions::Decision;
 use executive::{deciding, decisions};
-use records::{Call, Got, TaskNo, kinds, reading};
+use records::{Call, Refusal, TaskNo, kinds, reading};
 
 // What the check has learned, and a decision need not look for again, as sets of a bit each: the tasks that wait until a
 // time, those that wait for flags, the alarms that are running.
@@ -58,7 +58,7 @@ fn decide_call(b: &[u8], c: TaskNo, call: Call, w: Watched) -> Decision
         → result ≡ decision_of t.tasks t.rest c call }
 {
     if deciding::nobody_active(c, call) {
-        return decisions::refused(5);
+        return decisions::refuse(Refusal::NobodyActive);
     }
     by_kind(b, c, call, w)
 }
@@ -70,14 +70,14 @@ pub(crate) fn decide(b: &[u8], c: TaskNo, call: &[u8], w: Watched) -> Decision
         → result ≡ decision_in t.tasks t.rest c call.now }
 {
     if call.len() == 0 {
-        return decisions::refused(3);
+        return decisions::refuse(Refusal::WrongLength);
     }
     let kind = kinds::kind_of(call[0]);
     if kinds::is_call(kind) {
         return match reading::read(call) {
-            Got::Call(asked) => decide_call(b, c, asked, w),
-            Got::Refused(number) => decisions::refused(number),
+            Ok(asked) => decide_call(b, c, asked, w),
+            Err(why) => decisions::refuse(why),
         };
     }
-    decisions::refused(4)
+    decisions::refuse(Refusal::UnknownKind)
 }

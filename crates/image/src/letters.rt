@@ -11,7 +11,7 @@ ghost use Rattle.image.specs.Laid.{Laid};
 use crate::{MESSAGES, SENT, deeds, fields, loading};
 use executive::decisions::{Change, Decision, Leave};
 use executive::{Mail, Message, answers, decisions, messages, refusals};
-use records::{TaskNo, Text};
+use records::{Refusal, TaskNo, Text};
 
 // How many of the first n messages stay ahead of one of priority p.
 fn ahead(b: &[u8], n: usize, p: u8) -> usize
@@ -62,7 +62,7 @@ pub(crate) fn send(b: &[u8], c: TaskNo, k: TaskNo, text: Text) -> Decision
         → result ≡ decided t.tasks t.rest c (call.Send k text) }
 {
     if refusals::no_such_task(b[fields::COUNT], k) {
-        return decisions::refused(6);
+        return decisions::refuse(Refusal::OutOfRange);
     }
     let marks = answers::only_z(false);
     let e = fields::entry(b, k);
@@ -73,7 +73,7 @@ pub(crate) fn send(b: &[u8], c: TaskNo, k: TaskNo, text: Text) -> Decision
     }
     let sent = b[SENT];
     if 32 <= sent {
-        return decisions::refused(16);
+        return decisions::refuse(Refusal::MessagesFull);
     }
     let priority = fields::level(b, c.0);
     let at = ahead(b, sent as usize, priority);
@@ -105,7 +105,7 @@ pub(crate) fn receive(b: &[u8], c: TaskNo, s: TaskNo) -> Decision
         → result ≡ decided t.tasks t.rest c (call.Receive s) }
 {
     if b[fields::COUNT] < s.0 {
-        return decisions::refused(6);
+        return decisions::refuse(Refusal::OutOfRange);
     }
     let n = fields::at_most(b[SENT], 32) as usize;
     let i = first_fit(b, n, c, s);

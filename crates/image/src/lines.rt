@@ -12,7 +12,7 @@ ghost use Rattle.image.specs.Laid.{Laid};
 use crate::{SUBS, deeds, fields, moves};
 use executive::decisions::{Change, Decision, Leave};
 use executive::{State, answers, decisions};
-use records::{SubNo, TaskNo};
+use records::{Refusal, SubNo, TaskNo};
 
 // Kind 06: the caller gets in, or departs and waits behind all of equal or higher priority.
 pub(crate) fn enter(b: &[u8], c: TaskNo, m: SubNo) -> Decision
@@ -21,12 +21,12 @@ pub(crate) fn enter(b: &[u8], c: TaskNo, m: SubNo) -> Decision
         → result ≡ decided t.tasks t.rest c (call.Enter m) }
 {
     if 7 < m.0 {
-        return decisions::refused(6);
+        return decisions::refuse(Refusal::OutOfRange);
     }
     let base = SUBS + (m.0 as usize) * 18;
     let holder = b[base];
     if c.0 == holder {
-        return decisions::refused(13);
+        return decisions::refuse(Refusal::HeldAlready);
     }
     let marks = answers::only_z(false);
     if holder == 0 {
@@ -61,10 +61,10 @@ pub(crate) fn exit(b: &[u8], c: TaskNo, m: SubNo) -> Decision
     ensures { (t : Table) → Laid b.now t → result ≡ decided t.tasks t.rest c (call.Exit m) }
 {
     if 7 < m.0 {
-        return decisions::refused(6);
+        return decisions::refuse(Refusal::OutOfRange);
     }
     if c.0 != b[SUBS + (m.0 as usize) * 18] {
-        return decisions::refused(14);
+        return decisions::refuse(Refusal::NotHeld);
     }
     let marks = answers::only_z(false);
     let w = first_of(b, m);

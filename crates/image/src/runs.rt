@@ -13,7 +13,7 @@ ghost use Rattle.image.specs.Laid.{Laid};
 use crate::{POOL, SUBS, fields, loading, numbers};
 use executive::decisions::Decision;
 use executive::{Millis, State, Task, calls, decisions, flags, starts};
-use records::TaskNo;
+use records::{Refusal, TaskNo};
 
 // Whether a task holds any subprogram.
 fn holds_any(b: &[u8], k: TaskNo) -> bool
@@ -40,7 +40,7 @@ pub(crate) fn terminate(b: &[u8], c: TaskNo) -> Decision
         → result ≡ decided t.tasks t.rest c call.Terminate }
 {
     if holds_any(b, c) {
-        return decisions::refused(15);
+        return decisions::refuse(Refusal::StillHeld);
     }
     let w = fields::end_waiter(b, c);
     let n = fields::at_most(b[fields::QUEUED], 32);

@@ -16,7 +16,7 @@ use crate::deciding::Watched;
 use crate::{ALARMS, changes, deeds, fields, numbers, ringing, waking};
 use executive::decisions::{Change, Decision, Deed, Leave};
 use executive::{Millis, answers, clock, decisions};
-use records::FlagNo;
+use records::{FlagNo, Refusal};
 
 // Kind 09, operation 1, and kind 0B with count 0: all tasks whose condition now holds enter.
 fn set(b: &[u8], flags: u32, f: FlagNo, flagged: u16) -> Deed
@@ -37,10 +37,10 @@ pub(crate) fn flag(b: &[u8], operation: u8, f: FlagNo, flagged: u16) -> Decision
         → result ≡ decided t.tasks t.rest c (call.Flag operation f) }
 {
     if 31 < f.0 {
-        return decisions::refused(6);
+        return decisions::refuse(Refusal::OutOfRange);
     }
     if 2 < operation {
-        return decisions::refused(6);
+        return decisions::refuse(Refusal::OutOfRange);
     }
     let flags = numbers::word_in(b, fields::FLAGS);
     let bit = changes::bit_of(f.0 as usize);
@@ -66,13 +66,13 @@ pub(crate) fn alarm(b: &[u8], unit: u8, count: u8, f: FlagNo, flagged: u16) -> D
         → result ≡ decided t.tasks t.rest c (call.Alarm unit count f) }
 {
     if clock::LAST_UNIT < unit {
-        return decisions::refused(6);
+        return decisions::refuse(Refusal::OutOfRange);
     }
     if 31 < f.0 {
-        return decisions::refused(6);
+        return decisions::refuse(Refusal::OutOfRange);
     }
     if numbers::long_in(b, ALARMS + (f.0 as usize) * 8) != 0 {
-        return decisions::refused(9);
+        return decisions::refuse(Refusal::AlarmRunning);
     }
     let flags = numbers::word_in(b, fields::FLAGS);
     let old = flags & changes::bit_of(f.0 as usize) != 0;
@@ -82,7 +82,7 @@ pub(crate) fn alarm(b: &[u8], unit: u8, count: u8, f: FlagNo, flagged: u16) -> D
     }
     let now = numbers::long_in(b, fields::CLOCK);
     if clock::END_OF_TIME < now {
-        return decisions::refused(1);
+        return decisions::refuse(Refusal::NoTable);
     }
     let wait = clock::millis_of(unit, count);
     let at = Millis(now + wait.0);
@@ -108,11 +108,11 @@ pub(crate) fn tick(b: &[u8], w: Watched) -> Decision
 {
     let now = numbers::long_in(b, fields::CLOCK);
     if clock::END_OF_TIME < now {
-        return decisions::refused(10);
+        return decisions::refuse(Refusal::EndOfTime);
     }
     let time = now + b[fields::GRANULE] as u64;
     if clock::END_OF_TIME < time {
-        return decisions::refused(10);
+        return decisions::refuse(Refusal::EndOfTime);
     }
     let flags = numbers::word_in(b, fields::FLAGS);
     let first = ringing::next_due(b, w.running, 0, time);

@@ -5,7 +5,7 @@ use Rattle.image.proofs.deciding.decide_call.Goals as goal
 
 pub returns-then-nobody_active : goal.returns-then-nobody_active
 unfolding decision_of
-returns-then-nobody_active c = λ t l w k. rw (c.refused.ensures, ← c.nobody_active.ensures t.tasks t.rest, c.if-nobody_active.true) refl
+returns-then-nobody_active c = λ t l w k. rw (c.refuse.ensures, ← c.nobody_active.ensures t.tasks t.rest, c.if-nobody_active.true) refl
 
 pub returns : goal.returns
 unfolding decision_of

@@ -5,7 +5,7 @@ use Rattle.image.proofs.Sheets.{receive-bad, receive-done}
 use Rattle.image.proofs.letters.receive.Goals as goal
 
 pub returns-then-b-s : goal.returns-then-b-s
-returns-then-b-s c = λ t l w. c.refused.ensures ∙ receive-bad t.tasks t.rest c.args.c c.args.s (rw (count-read t l) at c.if-b-s.true)
+returns-then-b-s c = λ t l w. c.refuse.ensures ∙ receive-bad t.tasks t.rest c.args.c c.args.s (rw (count-read t l) at c.if-b-s.true)
 
 pub returns : goal.returns
 returns c =

@@ -11,7 +11,7 @@ use Rattle.image.proofs.letters.send.Goals as goal
 pub returns-then-no_such_task : goal.returns-then-no_such_task
 returns-then-no_such_task c =
     let a = c.args in
-    λ t l w. c.refused.ensures ∙ send-bad t.tasks t.rest a.c a.k a.text _ (such-task t.rest a.k _ _ (count-read t l) c.no_such_task.ensures) c.if-no_such_task.true
+    λ t l w. c.refuse.ensures ∙ send-bad t.tasks t.rest a.c a.k a.text _ (such-task t.rest a.k _ _ (count-read t l) c.no_such_task.ensures) c.if-no_such_task.true
 
 pub returns-then-takes : goal.returns-then-takes
 returns-then-takes c =
@@ -27,7 +27,7 @@ returns-then-sent-ge32 c =
     λ t l w.
     let x = such-task t.rest a.k _ _ (count-read t l) c.no_such_task.ensures in
     let y = c.takes.ensures ∙ ap (λ (e : Task). takes a.c.0 e.state) (c.entry-e.ensures t l) in
-    c.refused-then-sent-ge32.ensures ∙ send-crowded t.tasks t.rest a.c a.k a.text _ x c.if-no_such_task.false _ y c.if-takes.false (rw (sent-read t l) at c.if-sent-ge32.true)
+    c.refuse-then-sent-ge32.ensures ∙ send-crowded t.tasks t.rest a.c a.k a.text _ x c.if-no_such_task.false _ y c.if-takes.false (rw (sent-read t l) at c.if-sent-ge32.true)
 
 pub returns : goal.returns
 returns c =

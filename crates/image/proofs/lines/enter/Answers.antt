@@ -6,12 +6,12 @@ use Rattle.image.proofs.Sheets.{enter-bad, enter-inside, enter-free, enter-held}
 use Rattle.image.proofs.lines.enter.Goals as goal
 
 pub returns-then-m-gt7 : goal.returns-then-m-gt7
-returns-then-m-gt7 c = λ t l w. c.refused.ensures ∙ enter-bad t.tasks t.rest c.args.c c.args.m c.if-m-gt7.true
+returns-then-m-gt7 c = λ t l w. c.refuse.ensures ∙ enter-bad t.tasks t.rest c.args.c c.args.m c.if-m-gt7.true
 
 pub returns-then-c-holder : goal.returns-then-c-holder
 returns-then-c-holder c =
     let a = c.args in
-    λ t l w. c.refused-then-c-holder.ensures ∙ enter-inside t.tasks t.rest a.c a.m c.if-m-gt7.false _ (holder-read t l a.m.0 (omega (arith, c.if-m-gt7.false))) c.if-c-holder.true
+    λ t l w. c.refuse-then-c-holder.ensures ∙ enter-inside t.tasks t.rest a.c a.m c.if-m-gt7.false _ (holder-read t l a.m.0 (omega (arith, c.if-m-gt7.false))) c.if-c-holder.true
 
 pub returns-then-holder-eq0 : goal.returns-then-holder-eq0
 returns-then-holder-eq0 c =

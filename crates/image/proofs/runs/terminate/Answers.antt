@@ -6,7 +6,7 @@ use Rattle.image.proofs.Sheets.{end-held, end_anew, end_none}
 use Rattle.image.proofs.runs.terminate.Goals as goal
 
 pub returns-then-holds_any : goal.returns-then-holds_any
-returns-then-holds_any c = λ t l w. c.refused.ensures ∙ end-held t.tasks t.rest c.args.c _ (c.holds_any.ensures t l) c.if-holds_any.true
+returns-then-holds_any c = λ t l w. c.refuse.ensures ∙ end-held t.tasks t.rest c.args.c _ (c.holds_any.ensures t l) c.if-holds_any.true
 
 pub returns-in-Some : goal.returns-in-Some
 returns-in-Some c =

@@ -18,13 +18,13 @@ overflow_add-at c =
     omega (arith, rw (← c.millis_of-wait.ensures) at e, c.if-now-gt-END_OF_TIME.false)
 
 pub returns-then-unit-gt-LAST_UNIT : goal.returns-then-unit-gt-LAST_UNIT
-returns-then-unit-gt-LAST_UNIT c = λ t l w m k. c.refused.ensures ∙ alarm-unit t.tasks t.rest k c.args.unit c.args.count c.args.f c.if-unit-gt-LAST_UNIT.true
+returns-then-unit-gt-LAST_UNIT c = λ t l w m k. c.refuse.ensures ∙ alarm-unit t.tasks t.rest k c.args.unit c.args.count c.args.f c.if-unit-gt-LAST_UNIT.true
 
 pub returns-then-f-gt31 : goal.returns-then-f-gt31
-returns-then-f-gt31 c = λ t l w m k. c.refused-then-f-gt31.ensures ∙ alarm-high t.tasks t.rest k c.args.unit c.args.count c.args.f c.if-unit-gt-LAST_UNIT.false c.if-f-gt31.true
+returns-then-f-gt31 c = λ t l w m k. c.refuse-then-f-gt31.ensures ∙ alarm-high t.tasks t.rest k c.args.unit c.args.count c.args.f c.if-unit-gt-LAST_UNIT.false c.if-f-gt31.true
 
 pub returns-then-long_in-ne0 : goal.returns-then-long_in-ne0
-returns-then-long_in-ne0 c = λ t l w m k. c.refused-then-long_in-ne0.ensures ∙ alarm-running t.tasks t.rest k c.args.unit c.args.count c.args.f c.if-unit-gt-LAST_UNIT.false c.if-f-gt31.false _ (c.long_in.ensures ∙ alarm-read t l c.args.f.0 (omega (arith, c.if-f-gt31.false))) c.if-long_in-ne0.true
+returns-then-long_in-ne0 c = λ t l w m k. c.refuse-then-long_in-ne0.ensures ∙ alarm-running t.tasks t.rest k c.args.unit c.args.count c.args.f c.if-unit-gt-LAST_UNIT.false c.if-f-gt31.false _ (c.long_in.ensures ∙ alarm-read t l c.args.f.0 (omega (arith, c.if-f-gt31.false))) c.if-long_in-ne0.true
 
 pub returns-then-count-eq0 : goal.returns-then-count-eq0
 returns-then-count-eq0 c =

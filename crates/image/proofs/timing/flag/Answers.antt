@@ -8,10 +8,10 @@ use Rattle.image.proofs.Timings.{flag-high, flag-odd, flag-reset, flag-set, flag
 use Rattle.image.proofs.timing.flag.Goals as goal
 
 pub returns-then-f-gt31 : goal.returns-then-f-gt31
-returns-then-f-gt31 c = λ t l w m k. c.refused.ensures ∙ flag-high t.tasks t.rest k c.args.operation c.args.f c.if-f-gt31.true
+returns-then-f-gt31 c = λ t l w m k. c.refuse.ensures ∙ flag-high t.tasks t.rest k c.args.operation c.args.f c.if-f-gt31.true
 
 pub returns-then-operation-gt2 : goal.returns-then-operation-gt2
-returns-then-operation-gt2 c = λ t l w m k. c.refused-then-operation-gt2.ensures ∙ flag-odd t.tasks t.rest k c.args.operation c.args.f c.if-f-gt31.false c.if-operation-gt2.true
+returns-then-operation-gt2 c = λ t l w m k. c.refuse-then-operation-gt2.ensures ∙ flag-odd t.tasks t.rest k c.args.operation c.args.f c.if-f-gt31.false c.if-operation-gt2.true
 
 pub returns-then-operation-eq0 : goal.returns-then-operation-eq0
 returns-then-operation-eq0 c =

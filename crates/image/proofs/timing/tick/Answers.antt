@@ -12,14 +12,14 @@ use Rattle.image.proofs.Timings.{tick-late, tick-done, tick_is, tick-woken}
 use Rattle.image.proofs.timing.tick.Goals as goal
 
 pub returns-then-now-gt-END_OF_TIME : goal.returns-then-now-gt-END_OF_TIME
-returns-then-now-gt-END_OF_TIME c = λ t l w g k. c.refused.ensures ∙ tick-late t.tasks t.rest k (omega (arith, c.long_in-now.ensures ∙ clock-read t l, c.if-now-gt-END_OF_TIME.true))
+returns-then-now-gt-END_OF_TIME c = λ t l w g k. c.refuse.ensures ∙ tick-late t.tasks t.rest k (omega (arith, c.long_in-now.ensures ∙ clock-read t l, c.if-now-gt-END_OF_TIME.true))
 
 pub returns-then-time-gt-END_OF_TIME : goal.returns-then-time-gt-END_OF_TIME
 returns-then-time-gt-END_OF_TIME c =
     λ t l w g k.
     let ec = c.long_in-now.ensures ∙ clock-read t l in
     let eg = granule-read t l in
-    c.refused-then-time-gt-END_OF_TIME.ensures ∙ tick-late t.tasks t.rest k (omega (arith, ec, eg, c.if-time-gt-END_OF_TIME.true))
+    c.refuse-then-time-gt-END_OF_TIME.ensures ∙ tick-late t.tasks t.rest k (omega (arith, ec, eg, c.if-time-gt-END_OF_TIME.true))
 
 pub returns : goal.returns
 returns c =
