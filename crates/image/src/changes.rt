@@ -15,14 +15,15 @@ ghost use Rattle.image.specs.Laid.{Laid};
 ghost use Rattle.image.specs.Marks.{Running};
 
 use crate::laying::Block;
-use crate::{ALARMS, MESSAGES, POOL, SENT, SUBS, fields, members, moves, moving, numbers, storing};
+use crate::{
+    ALARMS, IMAGE, MESSAGES, POOL, SENT, SUBS, fields, members, moves, moving, numbers, storing,
+};
 use executive::decisions::Change;
 use executive::{Message, Millis, Request, messages, pool};
 use records::{SubNo, TaskNo};
 
 // A request is queued behind the others.
-fn add_request(b: &mut [u8], q: Request)
-    requires { length b.old ≡ image_length }
+fn add_request(b: &mut [u8; IMAGE], q: Request)
     ensures { (t : Table) → Laid b.old t → PoolInOrder t.rest → t.rest.queued < 32
         → Laid b.new (with_rest (with_requests (requests t.rest ++ (q ∷ [])) t.rest) t) }
 {
@@ -48,8 +49,7 @@ fn take_out<T: Block>(b: &mut [u8], row: usize, i: usize, blank: &T)
 }
 
 // The request at a place is taken out: those behind it move up, and the last place is free.
-fn take_request(b: &mut [u8], i: usize)
-    requires { length b.old ≡ image_length }
+fn take_request(b: &mut [u8; IMAGE], i: usize)
     ensures { (t : Table) → Laid b.old t → PoolInOrder t.rest → i < t.rest.queued
         → Laid b.new (with_rest (with_requests (removed i (requests t.rest)) t.rest) t) }
 {
@@ -65,8 +65,7 @@ fn take_request(b: &mut [u8], i: usize)
 }
 
 // A message waits at a place: those from there on move down.
-fn post(b: &mut [u8], m: Message, at: usize)
-    requires { length b.old ≡ image_length }
+fn post(b: &mut [u8; IMAGE], m: Message, at: usize)
     ensures { (t : Table) → Laid b.old t → LettersInOrder t.rest → at ≤ t.rest.sent
         → t.rest.sent < 32
         → Laid b.new (with_rest (with_letters (put_in_at at m (letters t.rest)) t.rest) t) }
@@ -85,8 +84,7 @@ fn post(b: &mut [u8], m: Message, at: usize)
 }
 
 // The message at a place is taken out.
-fn hand_out(b: &mut [u8], i: usize)
-    requires { length b.old ≡ image_length }
+fn hand_out(b: &mut [u8; IMAGE], i: usize)
     ensures { (t : Table) → Laid b.old t → LettersInOrder t.rest → i < t.rest.sent
         → Laid b.new (with_rest (with_letters (removed i (letters t.rest)) t.rest) t) }
 {
@@ -102,8 +100,7 @@ fn hand_out(b: &mut [u8], i: usize)
 }
 
 // Task k gets into subprogram m.
-fn hold(b: &mut [u8], m: SubNo, k: TaskNo)
-    requires { length b.old ≡ image_length }
+fn hold(b: &mut [u8; IMAGE], m: SubNo, k: TaskNo)
     ensures { (t : Table) → Laid b.old t → m.0 < sub_count
         → Laid b.new (with_rest (with_sub m.0 (enters_it k (sub_at t.rest m.0)) t.rest) t) }
 {
@@ -114,8 +111,7 @@ fn hold(b: &mut [u8], m: SubNo, k: TaskNo)
 }
 
 // Task k joins its line at a place.
-fn line_up(b: &mut [u8], m: SubNo, k: TaskNo, at: usize)
-    requires { length b.old ≡ image_length }
+fn line_up(b: &mut [u8; IMAGE], m: SubNo, k: TaskNo, at: usize)
     ensures { (t : Table) → Laid b.old t → m.0 < sub_count → LineInOrder (sub_at t.rest m.0)
         → at ≤ (sub_at t.rest m.0).waiting
         → (sub_at t.rest m.0).waiting < most_tasks
@@ -137,8 +133,7 @@ fn line_up(b: &mut [u8], m: SubNo, k: TaskNo, at: usize)
 }
 
 // Its holder gets out: the first of its line gets in, or nobody.
-fn hand_on(b: &mut [u8], m: SubNo)
-    requires { length b.old ≡ image_length }
+fn hand_on(b: &mut [u8; IMAGE], m: SubNo)
     ensures { (t : Table) → Laid b.old t → m.0 < sub_count → LineInOrder (sub_at t.rest m.0)
         → Laid b.new (with_rest (with_sub m.0 (handed_on (sub_at t.rest m.0)) t.rest) t) }
 {
@@ -166,8 +161,8 @@ pub(crate) fn bit_of(n: usize) -> u32
 }
 
 // Alarm i, if it is due, sets its flag and is cleared.
-fn ring(b: &mut [u8], i: usize, time: u64)
-    requires { (length b.old ≡ image_length) × (i < 32) }
+fn ring(b: &mut [u8; IMAGE], i: usize, time: u64)
+    requires { i < 32 }
     ensures { (t : Table) → Laid b.old t → time ≡ t.rest.clock.0
         → Laid b.new (with_rest (rung t.rest i) t) }
 {
@@ -184,8 +179,7 @@ fn ring(b: &mut [u8], i: usize, time: u64)
 }
 
 // The due alarms ring, of those that are running, from a place on.
-fn ring_from(b: &mut [u8], running: u32, first: usize, time: u64)
-    requires { length b.old ≡ image_length }
+fn ring_from(b: &mut [u8; IMAGE], running: u32, first: usize, time: u64)
     ensures { (t : Table) → Laid b.old t → Running running t.rest.alarms
         → time ≡ t.rest.clock.0 → Laid b.new (with_rest (each rung (32 - first) first t.rest) t) }
 {
@@ -201,8 +195,7 @@ fn ring_from(b: &mut [u8], running: u32, first: usize, time: u64)
 }
 
 // The clock gains a granule, and the due alarms ring, from the first of them on.
-fn advance(b: &mut [u8], first: usize, running: u32)
-    requires { length b.old ≡ image_length }
+fn advance(b: &mut [u8; IMAGE], first: usize, running: u32)
     ensures { (t : Table) → Laid b.old t → Running running t.rest.alarms
         → t.rest.clock.0 + t.rest.granule ≤ end_of_time → first ≡ first_due t.rest
         → Laid b.new (with_rest (advanced t.rest) t) }
@@ -217,8 +210,7 @@ fn advance(b: &mut [u8], first: usize, running: u32)
 }
 
 // The rest after a change.
-pub(crate) fn change(b: &mut [u8], what: Change, q: Request, running: u32)
-    requires { length b.old ≡ image_length }
+pub(crate) fn change(b: &mut [u8; IMAGE], what: Change, q: Request, running: u32)
     ensures { (t : Table) → Laid b.old t → Running running t.rest.alarms → PoolInOrder t.rest
         → Able what t.rest
         → Laid b.new (with_rest (changed what q t.rest) t) }

@@ -42,8 +42,8 @@ pub(crate) fn is_code(kind: u8, time: Millis, mask: u32, number: u8) -> bool
 }
 
 // Whether the i-th entry holds the numbers of a state.
-fn holds_code(bytes: &[u8], i: usize) -> bool
-    requires { (length bytes.now ≡ image_length) × (i < 16) }
+fn holds_code(bytes: &[u8; IMAGE], i: usize) -> bool
+    requires { i < 16 }
     ensures { result ≡ code_at bytes.now i }
 {
     let at = i * 26;
@@ -56,8 +56,8 @@ fn holds_code(bytes: &[u8], i: usize) -> bool
 pub(crate) fn is_image(bytes: &[u8]) -> bool
     ensures { result ≡ is_image bytes.now }
 {
-    if bytes.len() != IMAGE {
+    let Some(b) = bytes.as_array::<IMAGE>() else {
         return false;
-    }
-    (0..16usize).all(|i| holds_code(bytes, i))
+    };
+    (0..16usize).all(|i| holds_code(b, i))
 }

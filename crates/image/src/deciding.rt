@@ -8,7 +8,7 @@ ghost use Rattle.image.specs.Image.{image_length};
 ghost use Rattle.image.specs.Laid.{Laid};
 ghost use Rattle.image.specs.Waking.{Learned};
 
-use crate::{letters, lines, runs, timing};
+use crate::{IMAGE, letters, lines, runs, timing};
 use executive::decisions::Decision;
 use executive::{deciding, decisions};
 use records::{Call, Refusal, TaskNo, kinds, reading};
@@ -23,8 +23,7 @@ pub(crate) struct Watched {
 }
 
 // Each kind's own decision.
-fn by_kind(b: &[u8], c: TaskNo, call: Call, w: Watched) -> Decision
-    requires { length b.now ≡ image_length }
+fn by_kind(b: &[u8; IMAGE], c: TaskNo, call: Call, w: Watched) -> Decision
     ensures { (t : Table) → Laid b.now t → WellFormed t → Learned w.timed w.flagged w.running t
         → result ≡ decided t.tasks t.rest c call }
 {
@@ -52,8 +51,7 @@ fn by_kind(b: &[u8], c: TaskNo, call: Call, w: Watched) -> Decision
 }
 
 // A call's decision: 5 first, then its kind's.
-fn decide_call(b: &[u8], c: TaskNo, call: Call, w: Watched) -> Decision
-    requires { length b.now ≡ image_length }
+fn decide_call(b: &[u8; IMAGE], c: TaskNo, call: Call, w: Watched) -> Decision
     ensures { (t : Table) → Laid b.now t → WellFormed t → Learned w.timed w.flagged w.running t
         → result ≡ decision_of t.tasks t.rest c call }
 {
@@ -64,8 +62,7 @@ fn decide_call(b: &[u8], c: TaskNo, call: Call, w: Watched) -> Decision
 }
 
 // A record's decision: 3, 4 and 3, then its call's.
-pub(crate) fn decide(b: &[u8], c: TaskNo, call: &[u8], w: Watched) -> Decision
-    requires { length b.now ≡ image_length }
+pub(crate) fn decide(b: &[u8; IMAGE], c: TaskNo, call: &[u8], w: Watched) -> Decision
     ensures { (t : Table) → Laid b.now t → WellFormed t → Learned w.timed w.flagged w.running t
         → result ≡ decision_in t.tasks t.rest c call.now }
 {

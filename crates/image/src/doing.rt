@@ -11,7 +11,7 @@ ghost use Rattle.image.specs.Image.{image_length};
 ghost use Rattle.image.specs.Laid.{Laid};
 ghost use Rattle.image.specs.Marks.{Running};
 
-use crate::{changes, fields, moves, numbers};
+use crate::{IMAGE, changes, fields, moves, numbers};
 use executive::decisions::{Deed, Entrants, Leave};
 use executive::{Mail, Millis, Request};
 use records::{TaskNo, Text};
@@ -22,8 +22,7 @@ const NO_MAIL: Mail = Mail {
 };
 
 // The caller leaves, if it is to.
-fn leave(b: &mut [u8], how: Leave)
-    requires { length b.old ≡ image_length }
+fn leave(b: &mut [u8; IMAGE], how: Leave)
     ensures { (t : Table) → Laid b.old t → ArraysInOrder t → Line is_ready t.tasks (line t)
         → t.levels ≡ levels_of (view t)
         → Laid b.new (relit (depart (out_for how) t)) }
@@ -35,8 +34,7 @@ fn leave(b: &mut [u8], how: Leave)
 }
 
 // Those who are listed enter, in order; how many they pass over, all together.
-fn enter_all(b: &mut [u8], list: Entrants, q: Request, time: Millis) -> u8
-    requires { length b.old ≡ image_length }
+fn enter_all(b: &mut [u8; IMAGE], list: Entrants, q: Request, time: Millis) -> u8
     ensures { (t : Table) → Laid b.old t → InFlight list.count (begin t)
         → FindsRoom (joins_for q time (named list)) t → Desc (view t)
         → Laid b.new (lit_in_flight (enter_all_in_flight (joins_for q time (named list)) (begin t))).table
@@ -55,8 +53,7 @@ fn enter_all(b: &mut [u8], list: Entrants, q: Request, time: Millis) -> u8
 }
 
 // What is to be done is done; how many ready tasks those who entered were put behind.
-pub(crate) fn execute(b: &mut [u8], d: Deed, running: u32) -> u8
-    requires { length b.old ≡ image_length }
+pub(crate) fn execute(b: &mut [u8; IMAGE], d: Deed, running: u32) -> u8
     ensures { (t : Table) → Laid b.old t → Running running t.rest.alarms → Doable d t
         → Laid b.new (apply_in_flight (meant d t) t).table × (result ≡ (apply_in_flight (meant d t) t).walked) }
 {

@@ -7,14 +7,14 @@ ghost use Rattle.executive.specs.Decisions.{gone_as, change_for};
 ghost use Rattle.image.specs.Image.{image_length};
 ghost use Rattle.image.specs.Laid.{Laid, with_tasks, with_run, with_start, with_waiter};
 
-use crate::{AWAITED, fields, numbers, storing};
+use crate::{AWAITED, IMAGE, fields, numbers, storing};
 use executive::decisions::{How, Leave};
 use executive::{Millis, Request, State, Task, pool, states};
 use records::TaskNo;
 
 // The state of the task whose entry is the i-th.
-fn set_state(b: &mut [u8], i: usize, s: State)
-    requires { (length b.old ≡ image_length) × (i < 16) }
+fn set_state(b: &mut [u8; IMAGE], i: usize, s: State)
+    requires { i < 16 }
     ensures { (t : Table) → Laid b.old t
         → Laid b.new (with_tasks (set t.tasks i (with_state s (get_or t.tasks i no_task))) t) }
 {
@@ -25,8 +25,8 @@ fn set_state(b: &mut [u8], i: usize, s: State)
 }
 
 // Its run: priority and argument, the last scheduled start, who waits for the end.
-fn set_run(b: &mut [u8], i: usize, q: Request, start: Millis)
-    requires { (length b.old ≡ image_length) × (i < 16) }
+fn set_run(b: &mut [u8; IMAGE], i: usize, q: Request, start: Millis)
+    requires { i < 16 }
     ensures { (t : Table) → Laid b.old t
         → Laid b.new (with_tasks (set t.tasks i (with_run q start (get_or t.tasks i no_task))) t) }
 {
@@ -43,8 +43,8 @@ fn set_run(b: &mut [u8], i: usize, q: Request, start: Millis)
 }
 
 // Its last scheduled start.
-fn set_start(b: &mut [u8], i: usize, start: Millis)
-    requires { (length b.old ≡ image_length) × (i < 16) }
+fn set_start(b: &mut [u8; IMAGE], i: usize, start: Millis)
+    requires { i < 16 }
     ensures { (t : Table) → Laid b.old t
         → Laid b.new (with_tasks (set t.tasks i (with_start start (get_or t.tasks i no_task))) t) }
 {
@@ -52,8 +52,8 @@ fn set_start(b: &mut [u8], i: usize, start: Millis)
 }
 
 // Who waits for its end.
-fn set_waiter(b: &mut [u8], i: usize, w: TaskNo)
-    requires { (length b.old ≡ image_length) × (i < 16) }
+fn set_waiter(b: &mut [u8; IMAGE], i: usize, w: TaskNo)
+    requires { i < 16 }
     ensures { (t : Table) → Laid b.old t
         → Laid b.new (with_tasks (set t.tasks i (with_waiter w (get_or t.tasks i no_task))) t) }
 {
@@ -61,8 +61,8 @@ fn set_waiter(b: &mut [u8], i: usize, w: TaskNo)
 }
 
 // A due task's last scheduled start becomes the time aimed at; any other keeps its own.
-fn aim(b: &mut [u8], i: usize)
-    requires { (length b.old ≡ image_length) × (i < 16) }
+fn aim(b: &mut [u8; IMAGE], i: usize)
+    requires { i < 16 }
     ensures { (t : Table) → Laid b.old t
         → Laid b.new (with_tasks (set t.tasks i (with_start
         (aimed (get_or t.tasks i no_task).state (get_or t.tasks i no_task).start) (get_or t.tasks i no_task))) t) }
@@ -76,8 +76,8 @@ fn aim(b: &mut [u8], i: usize)
 }
 
 // The entry as its task leaves; one that stays keeps it.
-fn leave(b: &mut [u8], i: usize, how: Leave)
-    requires { (length b.old ≡ image_length) × (i < 16) }
+fn leave(b: &mut [u8; IMAGE], i: usize, how: Leave)
+    requires { i < 16 }
     ensures { (t : Table) → Laid b.old t
         → Laid b.new (with_tasks (set t.tasks i (gone_as how (get_or t.tasks i no_task))) t) }
 {
@@ -96,8 +96,8 @@ fn leave(b: &mut [u8], i: usize, how: Leave)
 }
 
 // Its run begins.
-fn begun(b: &mut [u8], i: usize, q: Request, time: Millis)
-    requires { (length b.old ≡ image_length) × (i < 16) }
+fn begun(b: &mut [u8; IMAGE], i: usize, q: Request, time: Millis)
+    requires { i < 16 }
     ensures { (t : Table) → Laid b.old t
         → Laid b.new (with_tasks (set t.tasks i (begun q time (get_or t.tasks i no_task))) t) }
 {
@@ -106,8 +106,8 @@ fn begun(b: &mut [u8], i: usize, q: Request, time: Millis)
 }
 
 // The entry as its task enters.
-fn enter(b: &mut [u8], i: usize, how: How, q: Request, time: Millis)
-    requires { (length b.old ≡ image_length) × (i < 16) }
+fn enter(b: &mut [u8; IMAGE], i: usize, how: How, q: Request, time: Millis)
+    requires { i < 16 }
     ensures { (t : Table) → Laid b.old t
         → Laid b.new (with_tasks (set t.tasks i (change_for q time how (get_or t.tasks i no_task))) t) }
 {
@@ -122,8 +122,7 @@ fn enter(b: &mut [u8], i: usize, how: How, q: Request, time: Millis)
 }
 
 // The entry of task k as it leaves; a number that names no task changes nothing.
-pub(crate) fn gone(b: &mut [u8], k: TaskNo, how: Leave)
-    requires { length b.old ≡ image_length }
+pub(crate) fn gone(b: &mut [u8; IMAGE], k: TaskNo, how: Leave)
     ensures { (t : Table) → Laid b.old t
         → Laid b.new (with_tasks (put_at t.tasks k.0 (gone_as how (task_at t.tasks k.0))) t) }
 {
@@ -135,8 +134,7 @@ pub(crate) fn gone(b: &mut [u8], k: TaskNo, how: Leave)
 }
 
 // The entry of task k as it enters; a number that names no task changes nothing.
-pub(crate) fn entering(b: &mut [u8], k: TaskNo, how: How, q: Request, time: Millis)
-    requires { length b.old ≡ image_length }
+pub(crate) fn entering(b: &mut [u8; IMAGE], k: TaskNo, how: How, q: Request, time: Millis)
     ensures { (t : Table) → Laid b.old t
         → Laid b.new (with_tasks (put_at t.tasks k.0
         (change_for q time how (task_at t.tasks k.0))) t) }
@@ -149,8 +147,7 @@ pub(crate) fn entering(b: &mut [u8], k: TaskNo, how: How, q: Request, time: Mill
 }
 
 // The entry of task k as its run begins; a number that names no task changes nothing.
-pub(crate) fn beginning(b: &mut [u8], k: TaskNo, q: Request, time: Millis)
-    requires { length b.old ≡ image_length }
+pub(crate) fn beginning(b: &mut [u8; IMAGE], k: TaskNo, q: Request, time: Millis)
     ensures { (t : Table) → Laid b.old t
         → Laid b.new (with_tasks (put_at t.tasks k.0 (begun q time (task_at t.tasks k.0))) t) }
 {

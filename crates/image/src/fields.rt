@@ -11,7 +11,7 @@ ghost use Rattle.executive.specs.Messages.{with_mail};
 ghost use Rattle.image.specs.Image.{image_length};
 ghost use Rattle.image.specs.Laid.{Laid, with_ready, with_levels, with_pool};
 
-use crate::{ALARMS, LEVELS, MAIL, SENT, loading, numbers, storing};
+use crate::{ALARMS, IMAGE, LEVELS, MAIL, SENT, loading, numbers, storing};
 use executive::{Mail, Millis, State, Task};
 use records::{FlagNo, TaskNo};
 
@@ -38,38 +38,34 @@ pub(crate) const CLOCK: usize = 436;
 
 pub(crate) const FLAGS: usize = 444;
 
-pub(crate) fn set_ready(b: &mut [u8], n: u8)
-    requires { length b.old ≡ image_length }
+pub(crate) fn set_ready(b: &mut [u8; IMAGE], n: u8)
     ensures { (t : Table) → Laid b.old t → Laid b.new (with_ready n t) }
 {
     numbers::put_byte(b, READY, n);
 }
 
-pub(crate) fn set_levels(b: &mut [u8], n: u16)
-    requires { length b.old ≡ image_length }
+pub(crate) fn set_levels(b: &mut [u8; IMAGE], n: u16)
     ensures { (t : Table) → Laid b.old t → Laid b.new (with_levels n t) }
 {
     numbers::put_pair(b, LEVELS, n);
 }
 
-pub(crate) fn set_flags(b: &mut [u8], flags: u32)
-    requires { length b.old ≡ image_length }
+pub(crate) fn set_flags(b: &mut [u8; IMAGE], flags: u32)
     ensures { (t : Table) → Laid b.old t
         → Laid b.new (with_rest (with_flags flags t.rest) t) }
 {
     numbers::put_word(b, FLAGS, flags);
 }
 
-pub(crate) fn set_clock(b: &mut [u8], time: Millis)
-    requires { length b.old ≡ image_length }
+pub(crate) fn set_clock(b: &mut [u8; IMAGE], time: Millis)
     ensures { (t : Table) → Laid b.old t
         → Laid b.new (with_rest (with_clock time t.rest) t) }
 {
     numbers::put_long(b, CLOCK, time.0);
 }
 
-pub(crate) fn set_alarm(b: &mut [u8], n: usize, time: Millis)
-    requires { (length b.old ≡ image_length) × (n < 32) }
+pub(crate) fn set_alarm(b: &mut [u8; IMAGE], n: usize, time: Millis)
+    requires { n < 32 }
     ensures { (t : Table) → Laid b.old t
         → Laid b.new (with_rest (with_alarm n time t.rest) t) }
 {
@@ -77,8 +73,7 @@ pub(crate) fn set_alarm(b: &mut [u8], n: usize, time: Millis)
 }
 
 // The alarm of a flag; a number that names no flag changes nothing.
-pub(crate) fn set_alarm_of(b: &mut [u8], f: FlagNo, time: Millis)
-    requires { length b.old ≡ image_length }
+pub(crate) fn set_alarm_of(b: &mut [u8; IMAGE], f: FlagNo, time: Millis)
     ensures { (t : Table) → Laid b.old t → f.0 < flag_count
         → Laid b.new (with_rest (with_alarm f.0 time t.rest) t) }
 {
@@ -89,16 +84,14 @@ pub(crate) fn set_alarm_of(b: &mut [u8], f: FlagNo, time: Millis)
 }
 
 // How many requests are queued.
-pub(crate) fn set_queued(b: &mut [u8], n: u8)
-    requires { length b.old ≡ image_length }
+pub(crate) fn set_queued(b: &mut [u8; IMAGE], n: u8)
     ensures { (t : Table) → Laid b.old t → Laid b.new (with_pool t.rest.pool n t) }
 {
     numbers::put_byte(b, QUEUED, n);
 }
 
 // How many messages wait.
-pub(crate) fn set_sent(b: &mut [u8], n: u8)
-    requires { length b.old ≡ image_length }
+pub(crate) fn set_sent(b: &mut [u8; IMAGE], n: u8)
     ensures { (t : Table) → Laid b.old t
         → Laid b.new (with_rest (with_post t.rest.messages n t.rest.mail t.rest) t) }
 {
@@ -128,8 +121,7 @@ pub(crate) fn at_most(n: u8, most: u8) -> u8
 }
 
 // The mail of a task; a number that names no task has none.
-pub(crate) fn set_mail(b: &mut [u8], k: TaskNo, mail: Mail)
-    requires { length b.old ≡ image_length }
+pub(crate) fn set_mail(b: &mut [u8; IMAGE], k: TaskNo, mail: Mail)
     ensures { (t : Table) → Laid b.old t
         → Laid b.new (with_rest (with_mail k.0 mail t.rest) t) }
 {
@@ -141,8 +133,7 @@ pub(crate) fn set_mail(b: &mut [u8], k: TaskNo, mail: Mail)
 }
 
 // The entry of a task, read; a blank one for a number that names no task.
-pub(crate) fn entry(b: &[u8], k: TaskNo) -> Task
-    requires { length b.now ≡ image_length }
+pub(crate) fn entry(b: &[u8; IMAGE], k: TaskNo) -> Task
     ensures { (t : Table) → Laid b.now t → result ≡ task_at t.tasks k.0 }
 {
     let i = place(k.0);
@@ -153,8 +144,7 @@ pub(crate) fn entry(b: &[u8], k: TaskNo) -> Task
 }
 
 // The priority of a task; a number that names no task has none.
-pub(crate) fn level(b: &[u8], k: u8) -> u8
-    requires { length b.now ≡ image_length }
+pub(crate) fn level(b: &[u8; IMAGE], k: u8) -> u8
     ensures { (t : Table) → Laid b.now t → result ≡ (task_at t.tasks k).priority }
 {
     let n = numbers::wide(k);
@@ -168,8 +158,7 @@ pub(crate) fn level(b: &[u8], k: u8) -> u8
 }
 
 // Its argument, its last scheduled start, who waits for its end.
-pub(crate) fn argument(b: &[u8], k: TaskNo) -> u16
-    requires { length b.now ≡ image_length }
+pub(crate) fn argument(b: &[u8; IMAGE], k: TaskNo) -> u16
     ensures { (t : Table) → Laid b.now t → result ≡ (task_at t.tasks k.0).argument }
 {
     let i = place(k.0);
@@ -179,8 +168,7 @@ pub(crate) fn argument(b: &[u8], k: TaskNo) -> u16
     numbers::pair_in(b, i * 26 + 15)
 }
 
-pub(crate) fn start(b: &[u8], k: TaskNo) -> Millis
-    requires { length b.now ≡ image_length }
+pub(crate) fn start(b: &[u8; IMAGE], k: TaskNo) -> Millis
     ensures { (t : Table) → Laid b.now t → result ≡ (task_at t.tasks k.0).start }
 {
     let i = place(k.0);
@@ -190,8 +178,7 @@ pub(crate) fn start(b: &[u8], k: TaskNo) -> Millis
     Millis(numbers::long_in(b, i * 26 + 17))
 }
 
-pub(crate) fn end_waiter(b: &[u8], k: TaskNo) -> TaskNo
-    requires { length b.now ≡ image_length }
+pub(crate) fn end_waiter(b: &[u8; IMAGE], k: TaskNo) -> TaskNo
     ensures { (t : Table) → Laid b.now t → result ≡ (task_at t.tasks k.0).end_waiter }
 {
     let i = place(k.0);

@@ -8,14 +8,14 @@ ghost use Rattle.executive.specs.Sheet.{decided};
 ghost use Rattle.image.specs.Image.{image_length};
 ghost use Rattle.image.specs.Laid.{Laid};
 
-use crate::{MESSAGES, SENT, deeds, fields, loading};
+use crate::{IMAGE, MESSAGES, SENT, deeds, fields, loading};
 use executive::decisions::{Change, Decision, Leave};
 use executive::{Mail, Message, answers, decisions, messages, refusals};
 use records::{Refusal, TaskNo, Text};
 
 // How many of the first n messages stay ahead of one of priority p.
-fn ahead(b: &[u8], n: usize, p: u8) -> usize
-    requires { (length b.now ≡ image_length) × (n ≤ 32) }
+fn ahead(b: &[u8; IMAGE], n: usize, p: u8) -> usize
+    requires { n ≤ 32 }
     ensures { (t : Table) → Laid b.now t → result ≡ stay_ahead urgency p (take n t.rest.messages) }
 {
     for i in 0..n {
@@ -27,8 +27,8 @@ fn ahead(b: &[u8], n: usize, p: u8) -> usize
 }
 
 // Whether the message at a place fits one who receives as task k, from number s or, where s is 0, from any.
-fn is_fit(b: &[u8], i: usize, k: TaskNo, s: TaskNo) -> bool
-    requires { (length b.now ≡ image_length) × (i < 32) }
+fn is_fit(b: &[u8; IMAGE], i: usize, k: TaskNo, s: TaskNo) -> bool
+    requires { i < 32 }
     ensures { (t : Table) → Laid b.now t
         → result ≡ fits k.0 s.0 (get_or t.rest.messages i no_message) }
 {
@@ -42,8 +42,8 @@ fn is_fit(b: &[u8], i: usize, k: TaskNo, s: TaskNo) -> bool
 }
 
 // The place of the first of n messages that fits; n where there is none, as `messages::receiving` takes it.
-fn first_fit(b: &[u8], n: usize, k: TaskNo, s: TaskNo) -> usize
-    requires { (length b.now ≡ image_length) × (n ≤ 32) }
+fn first_fit(b: &[u8; IMAGE], n: usize, k: TaskNo, s: TaskNo) -> usize
+    requires { n ≤ 32 }
     ensures { (t : Table) → Laid b.now t
         → result ≡ first_fit k.0 s.0 (take n t.rest.messages) }
 {
@@ -56,8 +56,7 @@ fn first_fit(b: &[u8], n: usize, k: TaskNo, s: TaskNo) -> usize
 }
 
 // Kind 14: a task that waits for it gets it and enters; else it waits, behind all of equal or higher priority.
-pub(crate) fn send(b: &[u8], c: TaskNo, k: TaskNo, text: Text) -> Decision
-    requires { length b.now ≡ image_length }
+pub(crate) fn send(b: &[u8; IMAGE], c: TaskNo, k: TaskNo, text: Text) -> Decision
     ensures { (t : Table) → Laid b.now t → WellFormed t
         → result ≡ decided t.tasks t.rest c (call.Send k text) }
 {
@@ -88,8 +87,8 @@ pub(crate) fn send(b: &[u8], c: TaskNo, k: TaskNo, text: Text) -> Decision
 }
 
 // The message at place i of n; a blank one past the last.
-fn message_at(b: &[u8], i: usize, n: usize) -> Message
-    requires { (length b.now ≡ image_length) × (n ≤ 32) }
+fn message_at(b: &[u8; IMAGE], i: usize, n: usize) -> Message
+    requires { n ≤ 32 }
     ensures { (t : Table) → Laid b.now t → result ≡ get_or (take n t.rest.messages) i no_message }
 {
     if i < n {
@@ -99,8 +98,7 @@ fn message_at(b: &[u8], i: usize, n: usize) -> Message
 }
 
 // Kind 15: the first waiting message that fits is handed out; where there is none, the caller departs and waits.
-pub(crate) fn receive(b: &[u8], c: TaskNo, s: TaskNo) -> Decision
-    requires { length b.now ≡ image_length }
+pub(crate) fn receive(b: &[u8; IMAGE], c: TaskNo, s: TaskNo) -> Decision
     ensures { (t : Table) → Laid b.now t → WellFormed t
         → result ≡ decided t.tasks t.rest c (call.Receive s) }
 {

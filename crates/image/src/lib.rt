@@ -84,13 +84,13 @@ const LAMP_DARK: u8 = 16;
 pub fn fresh(config: &[u8], image: &mut [u8]) -> u8
     ensures { MakesImage config.now image.old image.new result }
 {
-    if image.len() != IMAGE {
+    let Some(b) = image.as_mut_array::<IMAGE>() else {
         return NO_ROOM;
-    }
+    };
     if !configuration::is_configuration(config) {
         return NO_CONFIGURATION;
     }
-    making::make(image, config);
+    making::make(b, config);
     0
 }
 
@@ -152,8 +152,8 @@ pub fn mend(image: &mut [u8], list: &mut [u8]) -> u8
     if list.len() < 33 {
         return NO_ROOM;
     }
-    if image.len() != IMAGE {
+    let Some(b) = image.as_mut_array::<IMAGE>() else {
         return 1;
-    }
-    mending::mend_whole(image, list)
+    };
+    mending::mend_whole(b, list)
 }

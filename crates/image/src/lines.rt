@@ -9,14 +9,13 @@ ghost use Rattle.executive.specs.Sheet.{decided};
 ghost use Rattle.image.specs.Image.{image_length};
 ghost use Rattle.image.specs.Laid.{Laid};
 
-use crate::{SUBS, deeds, fields, moves};
+use crate::{IMAGE, SUBS, deeds, fields, moves};
 use executive::decisions::{Change, Decision, Leave};
 use executive::{State, answers, decisions};
 use records::{Refusal, SubNo, TaskNo};
 
 // Kind 06: the caller gets in, or departs and waits behind all of equal or higher priority.
-pub(crate) fn enter(b: &[u8], c: TaskNo, m: SubNo) -> Decision
-    requires { length b.now ≡ image_length }
+pub(crate) fn enter(b: &[u8; IMAGE], c: TaskNo, m: SubNo) -> Decision
     ensures { (t : Table) → Laid b.now t → WellFormed t
         → result ≡ decided t.tasks t.rest c (call.Enter m) }
 {
@@ -44,8 +43,8 @@ pub(crate) fn enter(b: &[u8], c: TaskNo, m: SubNo) -> Decision
 }
 
 // The first of a subprogram's line; nobody where none waits.
-fn first_of(b: &[u8], m: SubNo) -> TaskNo
-    requires { (length b.now ≡ image_length) × (m.0 < 8) }
+fn first_of(b: &[u8; IMAGE], m: SubNo) -> TaskNo
+    requires { m.0 < 8 }
     ensures { (t : Table) → Laid b.now t → result ≡ head_of (line_of (sub_at t.rest m.0)) }
 {
     let base = SUBS + (m.0 as usize) * 18;
@@ -56,8 +55,7 @@ fn first_of(b: &[u8], m: SubNo) -> TaskNo
 }
 
 // Kind 07: the first of the line gets in and enters the ready queue.
-pub(crate) fn exit(b: &[u8], c: TaskNo, m: SubNo) -> Decision
-    requires { length b.now ≡ image_length }
+pub(crate) fn exit(b: &[u8; IMAGE], c: TaskNo, m: SubNo) -> Decision
     ensures { (t : Table) → Laid b.now t → result ≡ decided t.tasks t.rest c (call.Exit m) }
 {
     if 7 < m.0 {

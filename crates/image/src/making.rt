@@ -10,22 +10,20 @@ ghost use Rattle.executive.specs.Configuration.{blank_rest, zero_table, sleepers
 ghost use Rattle.image.specs.Image.{image_length};
 ghost use Rattle.image.specs.Laid.{Laid, with_tasks};
 
-use crate::{entries, fields, moves, numbers};
+use crate::{IMAGE, entries, fields, moves, numbers};
 use executive::{Millis, configuration, pool};
 use records::TaskNo;
 use records::reading::byte_at;
 
 // The table of nobody: every byte is zero.
-fn clear(b: &mut [u8])
-    requires { length b.old ≡ image_length }
+fn clear(b: &mut [u8; IMAGE])
     ensures { Laid b.new zero_table }
 {
     b.fill(0);
 }
 
 // How many tasks there are, and the granule.
-fn set_sizes(b: &mut [u8], n: u8, granule: u8)
-    requires { length b.old ≡ image_length }
+fn set_sizes(b: &mut [u8; IMAGE], n: u8, granule: u8)
     ensures { Laid b.old zero_table
         → Laid b.new (with_rest (blank_rest n granule) zero_table) }
 {
@@ -34,8 +32,8 @@ fn set_sizes(b: &mut [u8], n: u8, granule: u8)
 }
 
 // The own priorities of the tasks 1 to n, all of whom are dormant.
-fn set_own(b: &mut [u8], config: &[u8], n: u8)
-    requires { (length b.old ≡ image_length) × (n ≤ 16) }
+fn set_own(b: &mut [u8; IMAGE], config: &[u8], n: u8)
+    requires { n ≤ 16 }
     ensures { (t : Table) → Laid b.old t → t.tasks ≡ pad 16 no_task []
         → Laid b.new (with_tasks (pad 16 no_task (sleepers config.now n 1)) t) }
 {
@@ -46,8 +44,8 @@ fn set_own(b: &mut [u8], config: &[u8], n: u8)
 }
 
 // Task k, which is not ready yet, starts if it is marked: at its own priority, with argument 0 and scheduled start 0.
-fn start_at(b: &mut [u8], config: &[u8], k: TaskNo)
-    requires { (length b.old ≡ image_length) × (0 < k.0) }
+fn start_at(b: &mut [u8; IMAGE], config: &[u8], k: TaskNo)
+    requires { 0 < k.0 }
     ensures { (t : Table) → (n : ℕ) → Laid b.old t → InFlight 1 (record { table = t; walked = n })
         → Desc (view t) → count k.0 (view t) ≡ 0
         → Laid b.new (lit_in_flight (enter_all_in_flight (marked_start config.now k.0)
@@ -68,8 +66,8 @@ fn start_at(b: &mut [u8], config: &[u8], k: TaskNo)
 }
 
 // The marked tasks of 1 to n start, in ascending number, where nobody is ready.
-fn start_marked(b: &mut [u8], config: &[u8], n: u8)
-    requires { (length b.old ≡ image_length) × (n ≤ 16) }
+fn start_marked(b: &mut [u8; IMAGE], config: &[u8], n: u8)
+    requires { n ≤ 16 }
     ensures { (t : Table) → Laid b.old t → InFlight n (begin t) → t.ready ≡ 0
         → Laid b.new (lit_in_flight (enter_all_in_flight (starters config.now n 1)
         (begin t))).table }
@@ -80,8 +78,7 @@ fn start_marked(b: &mut [u8], config: &[u8], n: u8)
 }
 
 // The image of the table that a configuration makes.
-pub(crate) fn make(b: &mut [u8], config: &[u8])
-    requires { length b.old ≡ image_length }
+pub(crate) fn make(b: &mut [u8; IMAGE], config: &[u8])
     ensures { Laid b.new (fresh_table config.now) }
 {
     let n = configuration::tasks_in(config);

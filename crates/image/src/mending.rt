@@ -6,7 +6,7 @@ ghost use Rattle.image.specs.Image.{image_length};
 ghost use Rattle.image.specs.Mending.{is_plain, rule_for, list_rule, notes_from, placed, with_note, list_length, note_bytes, notes_bytes, MendsImage};
 
 use crate::laying::Block;
-use crate::{AWAITED, checking, laying, loading, numbers, storing};
+use crate::{AWAITED, IMAGE, checking, laying, loading, numbers, storing};
 use executive::Millis;
 use mender::{Note, mending};
 use records::TaskNo;
@@ -119,8 +119,8 @@ fn put_list(out: &mut [u8], l: &Notes)
 }
 
 // Mends the bytes of an image, whatever they are.
-pub(crate) fn mend_whole(image: &mut [u8], list: &mut [u8]) -> u8
-    requires { (length image.old ≡ image_length) × (list_length ≤ length list.old) }
+pub(crate) fn mend_whole(image: &mut [u8; IMAGE], list: &mut [u8]) -> u8
+    requires { list_length ≤ length list.old }
     ensures { MendsImage image.old list.old image.new list.new result }
 {
     let table = loading::load_whole(image);

@@ -6,7 +6,7 @@ ghost use Rattle.std.specs.Prelude.{◌≡◌, ◌+◌, ◌-◌, ◌*◌, ◌≤
 ghost use Rattle.image.specs.Blocks.{written};
 ghost use Rattle.image.specs.Image.{image_length};
 
-use crate::MESSAGES;
+use crate::{IMAGE, MESSAGES};
 
 // Four bytes are written where others stand. All are read first, as the two places may overlap.
 fn copy_four(b: &mut [u8], to: usize, from: usize)
@@ -106,8 +106,8 @@ fn letter_down(b: &mut [u8], at: usize)
 }
 
 // The messages from one place up to another move down by one place.
-pub(crate) fn letters_down(b: &mut [u8], at: u8, n: u8)
-    requires { (length b.old ≡ image_length) × (at ≤ n) × (n < 32) }
+pub(crate) fn letters_down(b: &mut [u8; IMAGE], at: u8, n: u8)
+    requires { (at ≤ n) × (n < 32) }
     ensures { b.new
         ≡ written b.old (1058 + at * 11 + 11) (take ((n - at) * 11)
         (drop (1058 + at * 11) b.old)) }

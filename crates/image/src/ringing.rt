@@ -9,11 +9,11 @@ ghost use Rattle.image.specs.Image.{image_length};
 ghost use Rattle.image.specs.Laid.{Laid};
 ghost use Rattle.image.specs.Marks.{Running};
 
-use crate::{ALARMS, changes, members, numbers};
+use crate::{ALARMS, IMAGE, changes, members, numbers};
 
 // Whether the time of an alarm, which is running, has come.
-fn is_due(b: &[u8], i: usize, time: u64) -> bool
-    requires { (length b.now ≡ image_length) × (i < 32) }
+fn is_due(b: &[u8; IMAGE], i: usize, time: u64) -> bool
+    requires { i < 32 }
     ensures { (t : Table) → Laid b.now t → (eqb (get_or t.rest.alarms i never).0 0 ≡ false)
         → result ≡ is_due time (get_or t.rest.alarms i never) }
 {
@@ -21,8 +21,8 @@ fn is_due(b: &[u8], i: usize, time: u64) -> bool
 }
 
 // The place of the next alarm that is due, of those that are running, from a place on; 32 where there is none.
-pub(crate) fn next_due(b: &[u8], running: u32, from: u8, time: u64) -> u8
-    requires { (length b.now ≡ image_length) × (from ≤ 32) }
+pub(crate) fn next_due(b: &[u8; IMAGE], running: u32, from: u8, time: u64) -> u8
+    requires { from ≤ 32 }
     ensures lower_bound { (from ≤ result) × (result ≤ 32) }
     ensures value { (t : Table) → Laid b.now t → Running running t.rest.alarms
         → result ≡ next_of (is_due time) from (drop from t.rest.alarms) }
@@ -39,8 +39,8 @@ pub(crate) fn next_due(b: &[u8], running: u32, from: u8, time: u64) -> u8
 }
 
 // The flags once the due alarms have rung, from the first of them on.
-pub(crate) fn rings(b: &[u8], running: u32, flags: u32, first: u8, time: u64) -> u32
-    requires { (length b.now ≡ image_length) × (first ≤ 32) }
+pub(crate) fn rings(b: &[u8; IMAGE], running: u32, flags: u32, first: u8, time: u64) -> u32
+    requires { first ≤ 32 }
     ensures { (t : Table) → Laid b.now t → Running running t.rest.alarms
         → first ≡ next_of (is_due time) 0 t.rest.alarms
         → result ≡ each (rung_in time t.rest.alarms) 32 0 flags }

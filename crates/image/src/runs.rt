@@ -10,22 +10,21 @@ ghost use Rattle.executive.specs.Sheet.{decided};
 ghost use Rattle.image.specs.Image.{image_length};
 ghost use Rattle.image.specs.Laid.{Laid};
 
-use crate::{POOL, SUBS, fields, loading, numbers};
+use crate::{IMAGE, POOL, SUBS, fields, loading, numbers};
 use executive::decisions::Decision;
 use executive::{Millis, State, Task, calls, decisions, flags, starts};
 use records::{Refusal, TaskNo};
 
 // Whether a task holds any subprogram.
-fn holds_any(b: &[u8], k: TaskNo) -> bool
-    requires { length b.now ≡ image_length }
+fn holds_any(b: &[u8; IMAGE], k: TaskNo) -> bool
     ensures { (t : Table) → Laid b.now t → result ≡ holds_any_of k t.rest.subs }
 {
     (0..8usize).any(|i| k.0 == b[SUBS + i * 18])
 }
 
 // The place of the earliest request for a task, of the first n.
-fn first_for(b: &[u8], n: u8, k: TaskNo) -> Option<u8>
-    requires { (length b.now ≡ image_length) × (n ≤ 32) }
+fn first_for(b: &[u8; IMAGE], n: u8, k: TaskNo) -> Option<u8>
+    requires { n ≤ 32 }
     ensures place { IfSome result (λ i. i < n) }
     ensures value { (t : Table) → Laid b.now t
         → place_of k.0 (take n t.rest.pool) ≡ unwrap_or result n }
@@ -34,8 +33,7 @@ fn first_for(b: &[u8], n: u8, k: TaskNo) -> Option<u8>
 }
 
 // Kind 00.
-pub(crate) fn terminate(b: &[u8], c: TaskNo) -> Decision
-    requires { length b.now ≡ image_length }
+pub(crate) fn terminate(b: &[u8; IMAGE], c: TaskNo) -> Decision
     ensures { (t : Table) → Laid b.now t → WellFormed t
         → result ≡ decided t.tasks t.rest c call.Terminate }
 {
@@ -53,8 +51,7 @@ pub(crate) fn terminate(b: &[u8], c: TaskNo) -> Decision
 }
 
 // Kind 01. Of the caller's entry it asks the last scheduled start and who waits for the end.
-pub(crate) fn restart(b: &[u8], c: TaskNo, param: u8, count: u8) -> Decision
-    requires { length b.now ≡ image_length }
+pub(crate) fn restart(b: &[u8; IMAGE], c: TaskNo, param: u8, count: u8) -> Decision
     ensures { (t : Table) → Laid b.now t → WellFormed t
         → result ≡ decided t.tasks t.rest c (call.Restart param count) }
 {
@@ -74,8 +71,7 @@ pub(crate) fn restart(b: &[u8], c: TaskNo, param: u8, count: u8) -> Decision
 }
 
 // Kind 02.
-pub(crate) fn pause(b: &[u8], c: TaskNo, unit: u8, count: u8) -> Decision
-    requires { length b.now ≡ image_length }
+pub(crate) fn pause(b: &[u8; IMAGE], c: TaskNo, unit: u8, count: u8) -> Decision
     ensures { (t : Table) → Laid b.now t → WellFormed t
         → result ≡ decided t.tasks t.rest c (call.Pause unit count) }
 {
@@ -84,8 +80,7 @@ pub(crate) fn pause(b: &[u8], c: TaskNo, unit: u8, count: u8) -> Decision
 }
 
 // Kind 03.
-pub(crate) fn cancel_pause(b: &[u8], c: TaskNo, k: TaskNo) -> Decision
-    requires { length b.now ≡ image_length }
+pub(crate) fn cancel_pause(b: &[u8; IMAGE], c: TaskNo, k: TaskNo) -> Decision
     ensures { (t : Table) → Laid b.now t
         → result ≡ decided t.tasks t.rest c (call.CancelPause k) }
 {
@@ -94,8 +89,7 @@ pub(crate) fn cancel_pause(b: &[u8], c: TaskNo, k: TaskNo) -> Decision
 }
 
 // Kind 04.
-pub(crate) fn start_if_dormant(b: &[u8], c: TaskNo, option: u8, k: TaskNo) -> Decision
-    requires { length b.now ≡ image_length }
+pub(crate) fn start_if_dormant(b: &[u8; IMAGE], c: TaskNo, option: u8, k: TaskNo) -> Decision
     ensures { (t : Table) → Laid b.now t
         → result ≡ decided t.tasks t.rest c (call.StartIfDormant option k) }
 {
@@ -104,8 +98,13 @@ pub(crate) fn start_if_dormant(b: &[u8], c: TaskNo, option: u8, k: TaskNo) -> De
 }
 
 // Kind 05.
-pub(crate) fn start_or_queue(b: &[u8], c: TaskNo, option: u8, k: TaskNo, argument: u16) -> Decision
-    requires { length b.now ≡ image_length }
+pub(crate) fn start_or_queue(
+    b: &[u8; IMAGE],
+    c: TaskNo,
+    option: u8,
+    k: TaskNo,
+    argument: u16,
+) -> Decision
     ensures { (t : Table) → Laid b.now t
         → result ≡ decided t.tasks t.rest c (call.StartOrQueue option k argument) }
 {
@@ -122,8 +121,7 @@ pub(crate) fn start_or_queue(b: &[u8], c: TaskNo, option: u8, k: TaskNo, argumen
 }
 
 // Kind 0A.
-pub(crate) fn wait(b: &[u8], c: TaskNo, mode: u8, mask: u32) -> Decision
-    requires { length b.now ≡ image_length }
+pub(crate) fn wait(b: &[u8; IMAGE], c: TaskNo, mode: u8, mask: u32) -> Decision
     ensures { (t : Table) → Laid b.now t
         → result ≡ decided t.tasks t.rest c (call.Wait mode mask) }
 {

@@ -31,12 +31,9 @@ const BROKEN: Seen = Seen {
 };
 
 // The entries, the alarms and the ready queue keep their rules.
-pub(crate) fn begin(b: &[u8]) -> Seen
+pub(crate) fn begin(b: &[u8; IMAGE]) -> Seen
     ensures { Begun b.now result.right result.sets result.running }
 {
-    if b.len() != IMAGE {
-        return BROKEN;
-    }
     let count = b[fields::COUNT];
     let time = numbers::long_in(b, fields::CLOCK);
     if !rules::in_bounds(count, b[fields::GRANULE], Millis(time), b[fields::QUEUED]) {
@@ -64,9 +61,8 @@ pub(crate) fn begin(b: &[u8]) -> Seen
 }
 
 // The requests, the subprograms, the messages and the mail keep their rules.
-pub(crate) fn lists_right(b: &[u8], sets: [u16; 10]) -> bool
-    requires { (length b.now ≡ image_length) × ((load_of b.now).rest.queued ≤ 32)
-        × ((load_of b.now).rest.count ≤ 16)
+pub(crate) fn lists_right(b: &[u8; IMAGE], sets: [u16; 10]) -> bool
+    requires { ((load_of b.now).rest.queued ≤ 32) × ((load_of b.now).rest.count ≤ 16)
         × KindsKnown b.now (load_of b.now).rest.count
         × Kinds (load_of b.now).rest.count sets (load_of b.now).tasks
         × (up_to (names_other (load_of b.now).tasks) (load_of b.now).rest.count ≡ true) }
@@ -86,7 +82,7 @@ pub(crate) fn lists_right(b: &[u8], sets: [u16; 10]) -> bool
 }
 
 // Whether the bytes are the image of a well-formed table, and what was learned of it.
-pub(crate) fn see(b: &[u8]) -> Seen
+pub(crate) fn see(b: &[u8; IMAGE]) -> Seen
     ensures { Sees b.now result.right result.sets result.running }
 {
     let seen = begin(b);
@@ -101,9 +97,12 @@ pub(crate) fn see(b: &[u8]) -> Seen
 }
 
 // Whether they are, and no more.
-pub(crate) fn is_sound(b: &[u8]) -> bool
-    ensures { result ≡ (is_image b.now and is_well_formed (load_of b.now)) }
+pub(crate) fn is_sound(bytes: &[u8]) -> bool
+    ensures { result ≡ (is_image bytes.now and is_well_formed (load_of bytes.now)) }
 {
+    let Some(b) = bytes.as_array::<IMAGE>() else {
+        return false;
+    };
     let seen = begin(b);
     if !seen.right {
         return false;

@@ -10,7 +10,7 @@ ghost use Rattle.image.specs.Image.{image_length, load_of};
 ghost use Rattle.image.specs.Sound.{tasks_in, noughts, fields_right, state_right, code_at, sound_at, KindsKnown, below};
 ghost use Rattle.image.specs.Marks.{Kinds, Running};
 
-use crate::{ALARMS, AWAITED, QUEUE, SUBS, changes, numbers, zeros};
+use crate::{ALARMS, AWAITED, IMAGE, QUEUE, SUBS, changes, numbers, zeros};
 use executive::{Millis, rules};
 
 // The entry of task k: its own priority, its priority, its waiter and its last scheduled start keep the rules, and its
@@ -34,8 +34,8 @@ fn fields_right(k: u8, own: u8, level: u8, waiter: u8, start: u64, count: u8, ti
 }
 
 // The time until which the state of the i-th task waits keeps the rule.
-fn time_right(b: &[u8], i: usize, time: Millis) -> bool
-    requires { (length b.now ≡ image_length) × (i < 16) }
+fn time_right(b: &[u8; IMAGE], i: usize, time: Millis) -> bool
+    requires { i < 16 }
     ensures { result ≡ is_stored time.0 (number_of (part 8 (i * 26 + 2) b.now)) }
 {
     let at = numbers::long_in(b, i * 26 + 2);
@@ -56,38 +56,38 @@ fn not_all_set(mask: u32, flags: u32) -> bool
 }
 
 // The time of the i-th entry, its mask and the number that it waits for are zero.
-fn no_wait(b: &[u8], i: usize) -> bool
-    requires { (length b.now ≡ image_length) × (i < 16) }
+fn no_wait(b: &[u8; IMAGE], i: usize) -> bool
+    requires { i < 16 }
     ensures { result ≡ (noughts b.now 12 (i * 26 + 2) and eqb (get_or b.now (898 + i) 0) 0) }
 {
     zeros::twelve(b, i * 26 + 2) | numbers::wide(b[AWAITED + i]) == 0
 }
 
 // Its mask and that number are; its time and that number are.
-fn no_mask(b: &[u8], i: usize) -> bool
-    requires { (length b.now ≡ image_length) × (i < 16) }
+fn no_mask(b: &[u8; IMAGE], i: usize) -> bool
+    requires { i < 16 }
     ensures { result ≡ (noughts b.now 4 (i * 26 + 10) and eqb (get_or b.now (898 + i) 0) 0) }
 {
     zeros::quad(b, i * 26 + 10) | numbers::wide(b[AWAITED + i]) == 0
 }
 
-fn no_time(b: &[u8], i: usize) -> bool
-    requires { (length b.now ≡ image_length) × (i < 16) }
+fn no_time(b: &[u8; IMAGE], i: usize) -> bool
+    requires { i < 16 }
     ensures { result ≡ (noughts b.now 8 (i * 26 + 2) and eqb (get_or b.now (898 + i) 0) 0) }
 {
     zeros::eight(b, i * 26 + 2) | numbers::wide(b[AWAITED + i]) == 0
 }
 
 // Its time and its mask are; and all of it is but its own priority and its kind.
-fn no_other(b: &[u8], i: usize) -> bool
-    requires { (length b.now ≡ image_length) × (i < 16) }
+fn no_other(b: &[u8; IMAGE], i: usize) -> bool
+    requires { i < 16 }
     ensures { result ≡ noughts b.now 12 (i * 26 + 2) }
 {
     zeros::twelve(b, i * 26 + 2) == 0
 }
 
-fn is_dormant(b: &[u8], i: usize) -> bool
-    requires { (length b.now ≡ image_length) × (i < 16) }
+fn is_dormant(b: &[u8; IMAGE], i: usize) -> bool
+    requires { i < 16 }
     ensures { result ≡ (noughts b.now 24 (i * 26 + 2) and eqb (get_or b.now (898 + i) 0) 0) }
 {
     zeros::twelve(b, i * 26 + 2) | zeros::twelve(b, i * 26 + 14) | numbers::wide(b[AWAITED + i])
@@ -96,8 +96,8 @@ fn is_dormant(b: &[u8], i: usize) -> bool
 
 // The numbers of the state of the i-th task are those of the state that they make, and it keeps the rules; dormant, the
 // entry holds zeros. Only what its kind has is read as a number.
-fn state_right(b: &[u8], i: usize, count: u8, time: Millis, flags: u32) -> bool
-    requires { (length b.now ≡ image_length) × (i < 16) }
+fn state_right(b: &[u8; IMAGE], i: usize, count: u8, time: Millis, flags: u32) -> bool
+    requires { i < 16 }
     ensures { result ≡ (code_at b.now i and state_right count time.0 flags
         (get_or (tasks_in b.now) i no_task).state
         and dormant_entry_right (get_or (tasks_in b.now) i no_task)) }
@@ -119,8 +119,8 @@ fn state_right(b: &[u8], i: usize, count: u8, time: Millis, flags: u32) -> bool
 }
 
 // The i-th entry is as it should be.
-fn entry_right(b: &[u8], i: usize, count: u8, time: Millis, flags: u32) -> bool
-    requires { (length b.now ≡ image_length) × (i < 16) }
+fn entry_right(b: &[u8; IMAGE], i: usize, count: u8, time: Millis, flags: u32) -> bool
+    requires { i < 16 }
     ensures { result ≡ sound_at b.now count time.0 flags i }
 {
     let at = i * 26;
@@ -140,16 +140,16 @@ fn entry_right(b: &[u8], i: usize, count: u8, time: Millis, flags: u32) -> bool
 }
 
 // The entries of the tasks are as they should be.
-pub(crate) fn entries_right(b: &[u8], count: u8, time: Millis, flags: u32) -> bool
-    requires { (length b.now ≡ image_length) × (count ≤ 16) }
+pub(crate) fn entries_right(b: &[u8; IMAGE], count: u8, time: Millis, flags: u32) -> bool
+    requires { count ≤ 16 }
     ensures { result ≡ below (sound_at b.now count time.0 flags) count }
 {
     (0..count).all(|i| entry_right(b, i as usize, count, time, flags))
 }
 
 // The entries past the task count are zero, and the numbers that their states wait for.
-pub(crate) fn blank_past(b: &[u8], count: u8) -> bool
-    requires { (length b.now ≡ image_length) × (count ≤ 16) }
+pub(crate) fn blank_past(b: &[u8; IMAGE], count: u8) -> bool
+    requires { count ≤ 16 }
     ensures { result ≡ (noughts b.now (416 - count * 26) (count * 26) and noughts b.now
         (914 - (898 + count)) (898 + count)) }
 {
@@ -160,8 +160,8 @@ pub(crate) fn blank_past(b: &[u8], count: u8) -> bool
 }
 
 // Those of each kind, bit i for the task whose entry is the i-th.
-pub(crate) fn kind_sets(b: &[u8], count: u8) -> [u16; 10]
-    requires { (length b.now ≡ image_length) × (count ≤ 16) × KindsKnown b.now count }
+pub(crate) fn kind_sets(b: &[u8; IMAGE], count: u8) -> [u16; 10]
+    requires { (count ≤ 16) × KindsKnown b.now count }
     ensures { Kinds count result (tasks_in b.now) }
 {
     let mut sets = [0u16; 10];
@@ -173,8 +173,7 @@ pub(crate) fn kind_sets(b: &[u8], count: u8) -> [u16; 10]
 }
 
 // The alarms that are running, where each of them has a stored time.
-pub(crate) fn all_alarms(b: &[u8], time: Millis) -> Option<u32>
-    requires { length b.now ≡ image_length }
+pub(crate) fn all_alarms(b: &[u8; IMAGE], time: Millis) -> Option<u32>
     ensures right { is_some result ≡ all_of (alarm_right time.0) (load_of b.now).rest.alarms }
     ensures running { IfSome result (λ running. Running running (load_of b.now).rest.alarms) }
 {

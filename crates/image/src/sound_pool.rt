@@ -9,12 +9,11 @@ ghost use Rattle.image.specs.Image.{image_length, load_of};
 ghost use Rattle.image.specs.Sound.{tasks_in, pool_in, naming, namings, names_in, names_other};
 ghost use Rattle.image.specs.Marks.{passed, Marked};
 
-use crate::{LEVELS, POOL, changes, fields, loading, zeros};
+use crate::{IMAGE, LEVELS, POOL, changes, fields, loading, zeros};
 use executive::rules;
 
 // Whether task k is dormant; so is what a number reads that names no task.
-pub(crate) fn is_idle(b: &[u8], k: u8) -> bool
-    requires { length b.now ≡ image_length }
+pub(crate) fn is_idle(b: &[u8; IMAGE], k: u8) -> bool
     ensures { result ≡ is_dormant (task_at (tasks_in b.now) k).state }
 {
     let i = fields::place(k);
@@ -43,8 +42,8 @@ fn with(set: u32, k: u8, count: u8) -> u32
 }
 
 // A set with those whose numbers stand from a place on, each so many places after the one before.
-pub(crate) fn named(b: &[u8], set: u32, at: usize, step: usize, n: u8, count: u8) -> u32
-    requires { (length b.now ≡ image_length) × (count ≤ 16) × ((i : ℕ) → i < n → at + i * step < image_length) }
+pub(crate) fn named(b: &[u8; IMAGE], set: u32, at: usize, step: usize, n: u8, count: u8) -> u32
+    requires { (count ≤ 16) × ((i : ℕ) → i < n → at + i * step < image_length) }
     ensures { result ≡ namings count set (names_in b.now step n at) }
 {
     let mut all = set;
@@ -64,8 +63,8 @@ struct Waiters {
 // Looks at the queued requests: whom they name, where they keep the rules on one request and name busy tasks only. Idle
 // has bit k where task k is dormant, and bit 0, and ends those whom the runs name. Most requests name no waiter: four
 // bytes from the argument on tell that at once.
-fn requests_right(b: &[u8], queued: u8, count: u8, idle: u32, ends: u32) -> Option<Waiters>
-    requires { (length b.now ≡ image_length) × (queued ≤ 32) × (count ≤ 16)
+fn requests_right(b: &[u8; IMAGE], queued: u8, count: u8, idle: u32, ends: u32) -> Option<Waiters>
+    requires { (queued ≤ 32) × (count ≤ 16)
         × ((k : ℕ) → k ≤ count → is_set idle k ≡ is_dormant (task_at (tasks_in b.now) k).state) }
     ensures right { is_some result ≡ all_of (request_right (tasks_in b.now) count)
         (take queued (pool_in b.now)) }
@@ -104,9 +103,15 @@ fn requests_right(b: &[u8], queued: u8, count: u8, idle: u32, ends: u32) -> Opti
 // The requests, their waiters and those of the runs; the pool's free places are last and zero. The sets are of those
 // who are dormant, who wait for a start and who wait for an end, bit i for the task whose entry is the i-th; no run
 // names itself.
-pub(crate) fn pool_right(b: &[u8], queued: u8, count: u8, idle: u16, starts: u16, ends: u16) -> bool
-    requires { (length b.now ≡ image_length) × (queued ≤ 32) × (count ≤ 16)
-        × Marked count idle (passed is_dormant (tasks_in b.now))
+pub(crate) fn pool_right(
+    b: &[u8; IMAGE],
+    queued: u8,
+    count: u8,
+    idle: u16,
+    starts: u16,
+    ends: u16,
+) -> bool
+    requires { (queued ≤ 32) × (count ≤ 16) × Marked count idle (passed is_dormant (tasks_in b.now))
         × Marked count starts (passed (is_of await_start) (tasks_in b.now))
         × Marked count ends (passed (is_of await_end) (tasks_in b.now))
         × (up_to (names_other (tasks_in b.now)) count ≡ true) }

@@ -8,11 +8,10 @@ ghost use Rattle.image.specs.Image.{image_length, load_of};
 ghost use Rattle.image.specs.Sound.{tasks_in, messages_in, mail_in};
 ghost use Rattle.image.specs.Marks.{passed, Marked};
 
-use crate::{AWAITED, MAIL, MESSAGES, SENT, fields, numbers, zeros};
+use crate::{AWAITED, IMAGE, MAIL, MESSAGES, SENT, fields, numbers, zeros};
 
 // Whether a task takes a message from this sender.
-fn is_taken(b: &[u8], to: u8, sender: u8) -> bool
-    requires { length b.now ≡ image_length }
+fn is_taken(b: &[u8; IMAGE], to: u8, sender: u8) -> bool
     ensures { result ≡ takes sender (task_at (tasks_in b.now) to).state }
 {
     let i = fields::place(to);
@@ -31,9 +30,8 @@ fn is_taken(b: &[u8], to: u8, sender: u8) -> bool
 
 // Those that wait are in range and descend, and no addressee waits for one of them; free has bit k where task k waits
 // for no message.
-fn letters_right(b: &[u8], sent: u8, count: u8, free: u32) -> bool
-    requires { (length b.now ≡ image_length) × (sent ≤ 32) × (count ≤ 16)
-        × ((k : ℕ) → k ≤ count → is_set free k ≡ true → (0 < k)
+fn letters_right(b: &[u8; IMAGE], sent: u8, count: u8, free: u32) -> bool
+    requires { (sent ≤ 32) × (count ≤ 16) × ((k : ℕ) → k ≤ count → is_set free k ≡ true → (0 < k)
         × (is_of await_message (task_at (tasks_in b.now) k).state ≡ false)) }
     ensures { result ≡ letters_right (tasks_in b.now) count 15 (take sent (messages_in b.now)) }
 {
@@ -69,9 +67,8 @@ fn letters_right(b: &[u8], sent: u8, count: u8, free: u32) -> bool
 }
 
 // The messages keep their rules. The set is of those who wait for a message, bit i for the i-th entry's task.
-pub(crate) fn sent_right(b: &[u8], sent: u8, count: u8, receivers: u16) -> bool
-    requires { (length b.now ≡ image_length) × (count ≤ 16)
-        × Marked count receivers (passed (is_of await_message) (tasks_in b.now)) }
+pub(crate) fn sent_right(b: &[u8; IMAGE], sent: u8, count: u8, receivers: u16) -> bool
+    requires { (count ≤ 16) × Marked count receivers (passed (is_of await_message) (tasks_in b.now)) }
     ensures { result ≡ sent_right (load_of b.now).tasks count sent
         (load_of b.now).rest.messages }
 {
@@ -85,8 +82,8 @@ pub(crate) fn sent_right(b: &[u8], sent: u8, count: u8, receivers: u16) -> bool
 }
 
 // The mail of the task after number i is in range, and a dormant one has none. Zeros are.
-fn one_mail(b: &[u8], i: usize, count: u8) -> bool
-    requires { (length b.now ≡ image_length) × (i < 16) }
+fn one_mail(b: &[u8; IMAGE], i: usize, count: u8) -> bool
+    requires { i < 16 }
     ensures { result ≡ mail_right_at (tasks_in b.now) count (mail_in b.now) (i + 1) }
 {
     let at = MAIL + i * 9;
@@ -100,8 +97,7 @@ fn one_mail(b: &[u8], i: usize, count: u8) -> bool
 }
 
 // The mail of each task is in range, and a dormant one has none.
-pub(crate) fn mail_right(b: &[u8], count: u8) -> bool
-    requires { length b.now ≡ image_length }
+pub(crate) fn mail_right(b: &[u8; IMAGE], count: u8) -> bool
     ensures { result ≡ mail_right (load_of b.now).tasks count (load_of b.now).rest.mail }
 {
     (0..16usize).all(|i| one_mail(b, i, count))

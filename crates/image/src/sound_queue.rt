@@ -7,7 +7,7 @@ ghost use Rattle.executive.specs.Check.{is_nobody, queue_right};
 ghost use Rattle.image.specs.Image.{image_length, line_from, load_of};
 ghost use Rattle.image.specs.Marks.{passed, Marked, Walks};
 
-use crate::{LEVELS, QUEUE, changes, moves, numbers, zeros};
+use crate::{IMAGE, LEVELS, QUEUE, changes, moves, numbers, zeros};
 use executive::places;
 use records::TaskNo;
 
@@ -20,8 +20,8 @@ pub(crate) struct Walked {
 
 // Walks over the first places of a line, where those who stand there are tasks, in descending priority, and nobody
 // twice.
-pub(crate) fn walk(b: &[u8], at: usize, taken: u8, count: u8) -> Option<Walked>
-    requires { (length b.now ≡ image_length) × (at + 16 ≤ image_length) × (taken ≤ 16) × (count ≤ 16) }
+pub(crate) fn walk(b: &[u8; IMAGE], at: usize, taken: u8, count: u8) -> Option<Walked>
+    requires { (at + 16 ≤ image_length) × (taken ≤ 16) × (count ≤ 16) }
     ensures { MatchOption result
         (Walks (load_of b.now).tasks count (take taken (line_from b.now at)) false 0 0)
         (λ w. Walks (load_of b.now).tasks count (take taken (line_from b.now at)) true w.seen w.word) }
@@ -50,8 +50,8 @@ pub(crate) fn walk(b: &[u8], at: usize, taken: u8, count: u8) -> Option<Walked>
 }
 
 // The free places of a line are zero.
-pub(crate) fn blank_from(b: &[u8], at: usize, taken: u8) -> bool
-    requires { (length b.now ≡ image_length) × (at + 16 ≤ image_length) × (taken ≤ 16) }
+pub(crate) fn blank_from(b: &[u8; IMAGE], at: usize, taken: u8) -> bool
+    requires { (at + 16 ≤ image_length) × (taken ≤ 16) }
     ensures { result ≡ all_of is_nobody (drop taken (line_from b.now at)) }
 {
     zeros::are_zero(b, at + taken as usize, at + 16)
@@ -59,9 +59,8 @@ pub(crate) fn blank_from(b: &[u8], at: usize, taken: u8) -> bool
 
 // The ready queue holds exactly the ready tasks, whose set is given, once each, in descending priority; its free places
 // are zero; the word of the ready levels is theirs.
-pub(crate) fn queue_right(b: &[u8], ready: u8, count: u8, set: u16) -> bool
-    requires { (length b.now ≡ image_length) × (ready ≡ (load_of b.now).ready)
-        × (count ≡ (load_of b.now).rest.count)
+pub(crate) fn queue_right(b: &[u8; IMAGE], ready: u8, count: u8, set: u16) -> bool
+    requires { (ready ≡ (load_of b.now).ready) × (count ≡ (load_of b.now).rest.count)
         × Marked count set (passed is_ready (load_of b.now).tasks) }
     ensures { result ≡ queue_right (load_of b.now) }
 {

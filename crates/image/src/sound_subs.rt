@@ -8,12 +8,12 @@ ghost use Rattle.image.specs.Image.{image_length, line_from, sub_from, load_of};
 ghost use Rattle.image.specs.Sound.{tasks_in, noughts, KindsKnown};
 ghost use Rattle.image.specs.Marks.{passed, Marked, Waiting};
 
-use crate::{AWAITED, SUBS, changes, members, sound_pool, sound_queue, zeros};
+use crate::{AWAITED, IMAGE, SUBS, changes, members, sound_pool, sound_queue, zeros};
 
 // Those who wait for each subprogram, of those who wait for any, bit i for the task whose entry is the i-th: sixteen
 // bits for sixteen tasks.
-fn waiting_sets(b: &[u8], count: u8, waiters: u16) -> [u16; 8]
-    requires { (length b.now ≡ image_length) × (count ≤ 16) × KindsKnown b.now count
+fn waiting_sets(b: &[u8; IMAGE], count: u8, waiters: u16) -> [u16; 8]
+    requires { (count ≤ 16) × KindsKnown b.now count
         × Marked count waiters (passed (is_of await_sub) (tasks_in b.now)) }
     ensures { Waiting count result (tasks_in b.now) }
 {
@@ -31,8 +31,7 @@ fn waiting_sets(b: &[u8], count: u8, waiters: u16) -> [u16; 8]
 }
 
 // Those that are not free: held, with a line, or waited for.
-fn used_subs(b: &[u8], sets: [u16; 8]) -> u32
-    requires { length b.now ≡ image_length }
+fn used_subs(b: &[u8; IMAGE], sets: [u16; 8]) -> u32
     ensures { (m : ℕ) → m < 8
         → is_set result m ≡ not (noughts b.now 18 (914 + m * 18) and eqb (get_or sets m 0) 0) }
 {
@@ -48,8 +47,8 @@ fn used_subs(b: &[u8], sets: [u16; 8]) -> u32
 
 // A line holds exactly those in a set, once each, in descending priority; its free places are zero. So it holds
 // exactly those who wait for subprogram m where the set is theirs.
-fn line_right(b: &[u8], at: usize, waiting: u8, set: u16, count: u8) -> bool
-    requires { (length b.now ≡ image_length) × (at + 16 ≤ image_length) × (waiting ≤ 16) × (count ≤ 16) }
+fn line_right(b: &[u8; IMAGE], at: usize, waiting: u8, set: u16, count: u8) -> bool
+    requires { (at + 16 ≤ image_length) × (waiting ≤ 16) × (count ≤ 16) }
     ensures { (m : ℕ) → Marked count set (passed (waits_for m) (tasks_in b.now))
         → result ≡ line_right (waits_for m) (tasks_in b.now) count waiting (line_from b.now at) }
 {
@@ -63,8 +62,8 @@ fn line_right(b: &[u8], at: usize, waiting: u8, set: u16, count: u8) -> bool
 }
 
 // A holder is busy; a free subprogram has no waiters.
-fn holder_right(b: &[u8], at: usize) -> bool
-    requires { (length b.now ≡ image_length) × (at + 18 ≤ image_length) }
+fn holder_right(b: &[u8; IMAGE], at: usize) -> bool
+    requires { at + 18 ≤ image_length }
     ensures { result ≡ holder_right (tasks_in b.now) (sub_from b.now at) }
 {
     if b[at] == 0 {
@@ -74,8 +73,8 @@ fn holder_right(b: &[u8], at: usize) -> bool
 }
 
 // A subprogram at its place, and the set of those who wait for it: its numbers are in range, and it keeps the rule.
-fn sub_right(b: &[u8], at: usize, set: u16, count: u8) -> bool
-    requires { (length b.now ≡ image_length) × (at + 18 ≤ image_length) × (count ≤ 16) }
+fn sub_right(b: &[u8; IMAGE], at: usize, set: u16, count: u8) -> bool
+    requires { (at + 18 ≤ image_length) × (count ≤ 16) }
     ensures { (m : ℕ) → Marked count set (passed (waits_for m) (tasks_in b.now))
         → result ≡ (sub_in_range count (sub_from b.now at) and sub_right (tasks_in b.now) count m
         (sub_from b.now at)) }
@@ -93,8 +92,8 @@ fn sub_right(b: &[u8], at: usize, set: u16, count: u8) -> bool
 }
 
 // The subprograms keep their rules. Only those that are not free are looked at one by one.
-pub(crate) fn subs_right(b: &[u8], count: u8, waiters: u16) -> bool
-    requires { (length b.now ≡ image_length) × (count ≤ 16) × KindsKnown b.now count
+pub(crate) fn subs_right(b: &[u8; IMAGE], count: u8, waiters: u16) -> bool
+    requires { (count ≤ 16) × KindsKnown b.now count
         × Marked count waiters (passed (is_of await_sub) (tasks_in b.now)) }
     ensures { result ≡ held_right (load_of b.now).tasks count (load_of b.now).rest.subs }
 {

@@ -11,13 +11,12 @@ ghost use Rattle.image.specs.Waking.{Learned};
 ghost use Rattle.image.specs.Acting.{Acts};
 
 use crate::deciding::Watched;
-use crate::{QUEUE, deciding, doing, fields, sound};
+use crate::{IMAGE, QUEUE, deciding, doing, fields, sound};
 use executive::{Answer, Marks, answers};
 use records::TaskNo;
 
 // The active task; 0 when idle.
-fn active(b: &[u8]) -> TaskNo
-    requires { length b.now ≡ image_length }
+fn active(b: &[u8; IMAGE]) -> TaskNo
     ensures { (t : Table) → Laid b.now t → result ≡ caller t }
 {
     if b[fields::READY] == 0 {
@@ -27,8 +26,7 @@ fn active(b: &[u8]) -> TaskNo
 }
 
 // The answer with a number, marks and how far those that entered walked.
-fn answer(b: &[u8], number: u8, m: Marks, walked: u8) -> Answer
-    requires { length b.now ≡ image_length }
+fn answer(b: &[u8; IMAGE], number: u8, m: Marks, walked: u8) -> Answer
     ensures { (t : Table) → Laid b.now t → result ≡ answer_of number m walked t }
 {
     let active = active(b);
@@ -47,8 +45,7 @@ fn answer(b: &[u8], number: u8, m: Marks, walked: u8) -> Answer
 }
 
 // The answer of a refusal. After 1 active and argument are 0, after the others the kept table's.
-fn refusal(b: &[u8], number: u8) -> Answer
-    requires { length b.now ≡ image_length }
+fn refusal(b: &[u8; IMAGE], number: u8) -> Answer
     ensures { (t : Table) → Laid b.now t → result ≡ (refused t number).answer }
 {
     if number == 1 {
@@ -61,7 +58,7 @@ fn refusal(b: &[u8], number: u8) -> Answer
 
 // A step at the image of a well-formed table, with what the check has learned of it: refused, no byte is written;
 // accepted, the deed is done in place.
-fn step(b: &mut [u8], call: &[u8], w: Watched) -> Answer
+fn step(b: &mut [u8; IMAGE], call: &[u8], w: Watched) -> Answer
     requires { (is_image b.old ≡ true) × (is_well_formed (load_of b.old) ≡ true)
         × Learned w.timed w.flagged w.running (load_of b.old) }
     ensures { (result ≡ (step_of (load_of b.old) call.now).answer)
@@ -81,7 +78,10 @@ fn step(b: &mut [u8], call: &[u8], w: Watched) -> Answer
 pub fn act(image: &mut [u8], call: &[u8]) -> Answer
     ensures { Acts image.old call.now image.new result }
 {
-    let seen = sound::see(image);
+    let Some(b) = image.as_mut_array::<IMAGE>() else {
+        return answers::no_table();
+    };
+    let seen = sound::see(b);
     if !seen.right {
         return answers::no_table();
     }
@@ -91,5 +91,5 @@ pub fn act(image: &mut [u8], call: &[u8]) -> Answer
         flagged: sets[4] | sets[5],
         running: seen.running,
     };
-    step(image, call, w)
+    step(b, call, w)
 }

@@ -83,8 +83,7 @@ impl Block for Request {
 }
 
 // Writes the numbers that stand alone over 16 bytes.
-fn put_head(out: &mut [u8], ready: u8, rest: &Rest)
-    requires { length out.old ≡ image_length }
+fn put_head(out: &mut [u8; IMAGE], ready: u8, rest: &Rest)
     ensures { out.new ≡ written out.old head_at (head_of ready rest.now) }
 {
     put_both(out, 432, ready, rest.count);
@@ -137,8 +136,7 @@ pub(crate) fn put_awaited(out: &mut [u8], at: usize, task: Task)
 }
 
 // Writes the numbers that the tasks' states wait for.
-fn put_all_awaited(out: &mut [u8], tasks: &[Task; 16])
-    requires { length out.old ≡ image_length }
+fn put_all_awaited(out: &mut [u8; IMAGE], tasks: &[Task; 16])
     ensures { out.new ≡ written out.old awaited_at (row awaited_bytes tasks.now) }
 {
     for (i, task) in tasks.iter().enumerate() {
@@ -203,8 +201,7 @@ impl Block for Mail {
 }
 
 // Writes the messages, how many of them wait, and the tasks' mail.
-fn put_post(out: &mut [u8], rest: &Rest)
-    requires { length out.old ≡ image_length }
+fn put_post(out: &mut [u8; IMAGE], rest: &Rest)
     ensures sizes { (length rest.now.messages ≡ 32) × (length rest.now.mail ≡ 16) }
     ensures value { out.new ≡ written out.old messages_at (post_bytes rest.now) }
 {
@@ -214,8 +211,7 @@ fn put_post(out: &mut [u8], rest: &Rest)
 }
 
 // Writes the image over a buffer of its length.
-pub(crate) fn put_table(out: &mut [u8], table: &Table)
-    requires { length out.old ≡ image_length }
+pub(crate) fn put_table(out: &mut [u8; IMAGE], table: &Table)
     ensures { out.new ≡ image_of table.now }
 {
     laying::put_row(out, 0, &table.tasks);
@@ -234,10 +230,10 @@ pub(crate) fn put_table(out: &mut [u8], table: &Table)
 pub fn store(table: Table, out: &mut [u8]) -> u8
     ensures { Stores table out.old out.new result }
 {
-    if out.len() != IMAGE {
+    let Some(image) = out.as_mut_array::<IMAGE>() else {
         return NO_ROOM;
-    }
-    put_table(out, &table);
+    };
+    put_table(image, &table);
     0
 }
 

@@ -13,14 +13,14 @@ ghost use Rattle.image.specs.Marks.{passed, Marked};
 ghost use Rattle.image.specs.Waking.{Learned};
 
 use crate::deciding::Watched;
-use crate::{ALARMS, changes, deeds, fields, numbers, ringing, waking};
+use crate::{ALARMS, IMAGE, changes, deeds, fields, numbers, ringing, waking};
 use executive::decisions::{Change, Decision, Deed, Leave};
 use executive::{Millis, answers, clock, decisions};
 use records::{FlagNo, Refusal};
 
 // Kind 09, operation 1, and kind 0B with count 0: all tasks whose condition now holds enter.
-fn set(b: &[u8], flags: u32, f: FlagNo, flagged: u16) -> Deed
-    requires { (length b.now ≡ image_length) × (f.0 < 32) }
+fn set(b: &[u8; IMAGE], flags: u32, f: FlagNo, flagged: u16) -> Deed
+    requires { f.0 < 32 }
     ensures { (t : Table) → Laid b.now t → Marked 16 flagged (passed has_mask t.tasks)
         → result ≡ set_deed t.tasks flags f }
 {
@@ -30,8 +30,7 @@ fn set(b: &[u8], flags: u32, f: FlagNo, flagged: u16) -> Deed
 }
 
 // Kind 09: operation 0 resets, 1 sets, 2 tests.
-pub(crate) fn flag(b: &[u8], operation: u8, f: FlagNo, flagged: u16) -> Decision
-    requires { length b.now ≡ image_length }
+pub(crate) fn flag(b: &[u8; IMAGE], operation: u8, f: FlagNo, flagged: u16) -> Decision
     ensures { (t : Table) → Laid b.now t → WellFormed t
         → Marked 16 flagged (passed has_mask t.tasks) → (c : TaskNo)
         → result ≡ decided t.tasks t.rest c (call.Flag operation f) }
@@ -59,8 +58,7 @@ pub(crate) fn flag(b: &[u8], operation: u8, f: FlagNo, flagged: u16) -> Decision
 
 // Kind 0B: count 0 is a set, with its marks; any other count a mere look at the flag. A clock past its end is none of a
 // well-formed table.
-pub(crate) fn alarm(b: &[u8], unit: u8, count: u8, f: FlagNo, flagged: u16) -> Decision
-    requires { length b.now ≡ image_length }
+pub(crate) fn alarm(b: &[u8; IMAGE], unit: u8, count: u8, f: FlagNo, flagged: u16) -> Decision
     ensures { (t : Table) → Laid b.now t → WellFormed t
         → Marked 16 flagged (passed has_mask t.tasks) → (c : TaskNo)
         → result ≡ decided t.tasks t.rest c (call.Alarm unit count f) }
@@ -101,8 +99,7 @@ fn held_by(flags: u32, more: u32, flagged: u16) -> u16
 }
 
 // Kind 80: the first alarm that is due is looked for once, and told with the deed.
-pub(crate) fn tick(b: &[u8], w: Watched) -> Decision
-    requires { length b.now ≡ image_length }
+pub(crate) fn tick(b: &[u8; IMAGE], w: Watched) -> Decision
     ensures { (t : Table) → Laid b.now t → WellFormed t → Learned w.timed w.flagged w.running t
         → (c : TaskNo) → result ≡ decided t.tasks t.rest c call.Tick }
 {

@@ -11,7 +11,7 @@ use Rattle.image.proofs.RestLaid.{Rung}
 use Rattle.image.proofs.changes.ring_from.Given as goal
 
 abbrev pub invariant-loop-i : goal.invariant-loop-i
-invariant-loop-i l = (length l.b ≡ 1555) × ((t : Table) → Laid l.initial.b t → Running l.running t.rest.alarms → l.time ≡ t.rest.clock.0 → Rung l.b t l.time l.first l.i)
+invariant-loop-i l = (t : Table) → Laid l.initial.b t → Running l.running t.rest.alarms → l.time ≡ t.rest.clock.0 → Rung l.b t l.time l.first l.i
 
 abbrev pub decreases-loop-i : goal.decreases-loop-i
 decreases-loop-i l = 32 - l.i

@@ -8,11 +8,12 @@ use Rattle.image.proofs.Beheld.{image-codes}
 use Rattle.image.proofs.Ranges.{checked-below}
 use Rattle.image.proofs.checking.is_image.Goals as goal
 
-pub returns-then-bytes-ne-IMAGE : goal.returns-then-bytes-ne-IMAGE
-returns-then-bytes-ne-IMAGE c = not-long c.args.bytes.now c.if-bytes-ne-IMAGE.true
+pub returns-in_default : goal.returns-in_default
+returns-in_default c = not-long c.args.bytes.now c.in_default.ensures.cases
 
 pub returns : goal.returns
 returns c =
+    let w = c.in-Some.ensures.cases in
     let s = c.args.bytes.now in
-    checked-below _ _ c.all.result 16 (code_at s) refl (λ i y q e. search rules) c.all.ensures.ran
-    ∙ sym (image-codes s (λ k. omega (arith, c.type_inv.bytes k)) c.if-bytes-ne-IMAGE.false)
+    rw w.same at (checked-below _ _ c.all.result 16 (code_at c.in-Some.b.now) refl (λ i y q e. search rules) c.all.ensures.ran)
+    ∙ sym (image-codes s (λ k. omega (arith, c.type_inv.bytes k)) w.long)

@@ -2,7 +2,6 @@
 -- which those who are still to enter make the whole.
 use Prim.Native.Nat.{◌≤◌}
 use native.Mathlib.Omega.{arith}
-use mathlib.Core.Path.{◌∙◌}
 use lib.ListN.{length}
 use Rattle.image.proofs.DoneLaid.{stage_turn, stage_end}
 use Rattle.image.proofs.doing.enter_all.Goals as goal
@@ -11,13 +10,12 @@ pub loop-i-preserved : goal.loop-i-preserved
 loop-i-preserved c =
     let v = c.loop-i in
     let n : c.args.list.count ≤ length c.args.list.places = omega arith in (
-      c.enter-walked.auto.b ∙ v.invariant.0,
-      omega (arith, v.invariant.1, c.enter-walked.ensures.upper_bound),
-      λ t l f h d. stage_turn _ _ _ _ n _ _ v.walked _ v.i c.loop-i-test.true (v.invariant.2 t l f h d) c.enter-walked.ensures.laid,
+      omega (arith, v.invariant.0, c.enter-walked.ensures.upper_bound),
+      λ t l f h d. stage_turn _ _ _ _ n _ _ v.walked _ v.i c.loop-i-test.true (v.invariant.1 t l f h d) c.enter-walked.ensures.laid,
     )
 
 pub returns : goal.returns
 returns c =
     let v = c.loop-i in
     let n : c.args.list.count ≤ length c.args.list.places = omega arith in
-    λ t l f h d. stage_end _ _ _ _ n _ _ v.walked v.i c.loop-i-test.false (v.invariant.2 t l f h d)
+    λ t l f h d. stage_end _ _ _ _ n _ _ v.walked v.i c.loop-i-test.false (v.invariant.1 t l f h d)

@@ -14,6 +14,6 @@ use Rattle.image.proofs.doing.enter_all.Given as goal
 abbrev pub invariant-loop-i : goal.invariant-loop-i
 invariant-loop-i l =
     let n = l.fn.list.count in
-    (length l.b ≡ 1555) × (l.walked ≤ 15 * l.i)
+    (l.walked ≤ 15 * l.i)
     × ((t : Table) → Laid l.initial.b t → InFlight n (begin t) → FindsRoom (joins_for l.q l.time (take n l.fn.list.places)) t → Desc (view t)
     → Entering l.b l.walked (joins_for l.q l.time (drop l.i (take n l.fn.list.places))) (n - l.i) (lit_in_flight (enter_all_in_flight (joins_for l.q l.time (take n l.fn.list.places)) (begin t))).table (lit_in_flight (enter_all_in_flight (joins_for l.q l.time (take n l.fn.list.places)) (begin t))).walked)

@@ -9,5 +9,5 @@ use Rattle.image.proofs.entries.begun.Goals as goal
 
 pub returns : goal.returns
 returns c =
-    λ t l. then-laid t l c.args.i c.requires.1 (with_run c.args.q c.args.time (get_or t.tasks c.args.i no_task)) (with_state state.Ready)
+    λ t l. then-laid t l c.args.i c.requires (with_run c.args.q c.args.time (get_or t.tasks c.args.i no_task)) (with_state state.Ready)
     (c.set_state.ensures _ (c.set_run.ensures t l))

@@ -10,4 +10,4 @@ pub returns-in-Risen : goal.returns-in-Risen
 returns-in-Risen c =
     λ t l.
     let e = get_or t.tasks c.args.i no_task in
-    rw c.in-Risen.is (then-laid t l c.args.i c.requires.1 (with_start (aimed e.state e.start) e) (with_state state.Ready) (c.set_state-in-Risen.ensures _ (c.aim.ensures t l)))
+    rw c.in-Risen.is (then-laid t l c.args.i c.requires (with_start (aimed e.state e.start) e) (with_state state.Ready) (c.set_state-in-Risen.ensures _ (c.aim.ensures t l)))

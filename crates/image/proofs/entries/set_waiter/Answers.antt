@@ -2,4 +2,4 @@ use Rattle.image.proofs.EntryLaid.{waiter-laid}
 use Rattle.image.proofs.entries.set_waiter.Goals as goal
 
 pub returns : goal.returns
-returns c = λ t l. waiter-laid t l c.args.i c.requires.1 c.args.w c.put_byte.ensures
+returns c = λ t l. waiter-laid t l c.args.i c.requires c.args.w c.put_byte.ensures

@@ -5,7 +5,7 @@ use Rattle.image.proofs.FreshLaid.{own_first, own_turn}
 use Rattle.image.proofs.making.set_own.Goals as goal
 
 pub loop-i-init : goal.loop-i-init
-loop-i-init c = let p = c.requires in (p.0, λ t l e. own_first _ t l e)
+loop-i-init c = let p = c.requires in (c.told-b, λ t l e. own_first _ t l e)
 
 pub loop-i-preserved : goal.loop-i-preserved
 loop-i-preserved c =

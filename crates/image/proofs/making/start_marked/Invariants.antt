@@ -10,4 +10,4 @@ use Rattle.image.proofs.FreshLaid.{Starting}
 use Rattle.image.proofs.making.start_marked.Given as goal
 
 abbrev pub invariant-loop-k : goal.invariant-loop-k
-invariant-loop-k l = (length l.b ≡ image_length) × ((t : Table) → Laid l.initial.b t → InFlight l.n (begin t) → t.ready ≡ 0 → Starting l.config l.b t l.n l.k)
+invariant-loop-k l = (t : Table) → Laid l.initial.b t → InFlight l.n (begin t) → t.ready ≡ 0 → Starting l.config l.b t l.n l.k

@@ -12,13 +12,13 @@ use Rattle.image.proofs.mending.mend_whole.Goals as goal
 pub returns-then-number-ne0 : goal.returns-then-number-ne0
 returns-then-number-ne0 c =
     let a = c.args in
-    mend_refused a.image.now a.list.now c.requires.0 c.requires.1 c.mend-mended.result
+    mend_refused a.image.now a.list.now c.told-image c.requires c.mend-mended.result
     (c.mend-mended.ensures.answer ∙ ap mend_of c.load_whole-table.ensures) c.if-number-ne0.true
 
 pub returns : goal.returns
 returns c =
     let a = c.args in
     let x = c.mend-mended.result in
-    mend_done a.image.now a.list.now c.requires.0 c.requires.1 x (c.mend-mended.ensures.answer ∙ ap mend_of c.load_whole-table.ensures)
+    mend_done a.image.now a.list.now c.told-image c.requires x (c.mend-mended.ensures.answer ∙ ap mend_of c.load_whole-table.ensures)
     (omega (arith, c.if-number-ne0.false)) (mended-owned x _ c.mend-mended.type_inv) c.put_table.ensures
     (c.put_list.ensures ∙ ap (λ (y : Notes). written a.list.now 0 (notes_bytes y)) c.notes_of-notes.ensures)

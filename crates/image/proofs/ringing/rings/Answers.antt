@@ -11,7 +11,7 @@ use Rattle.image.proofs.ringing.rings.Goals as goal
 pub loop-i-init : goal.loop-i-init
 loop-i-init c =
     let a = c.args in (
-      c.requires.1,
+      c.requires,
       λ t l r e.
           let h = in_on (record { 0 = a.time }) t.rest.alarms a.flags l.sizes.alarms 0 a.first (omega arith) e in
           (h.2, sym h.3),

@@ -17,5 +17,5 @@ returns c =
       place = first-within h a.n c.find.result m;
       value = λ t l.
           let z = l.sizes.pool in
-          first-place a.k.0 t.rest.pool a.n (rw z c.requires.1) (λ i. get_or a.b.now (704 + i * 6) 0) (λ i b. target-read t l i (omega (arith, c.requires.1))) c.find.result m;
+          first-place a.k.0 t.rest.pool a.n (rw z c.requires) (λ i. get_or a.b.now (704 + i * 6) 0) (λ i b. target-read t l i (omega (arith, c.requires))) c.find.result m;
     }

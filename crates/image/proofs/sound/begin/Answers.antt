@@ -3,46 +3,39 @@ use mathlib.Core.Path.{refl, sym, ◌∙◌}
 use native.Mathlib.Omega.{arith}
 use Rattle.records.specs.Numbers.{Bytes}
 use Rattle.image.proofs.Alike.{never}
-use Rattle.image.proofs.Canonical.{not-long}
 use Rattle.image.proofs.Loaded.{ready-there, count-there}
-use Rattle.image.proofs.FirstPart.{few, no-image, rule-broken, entries-broken, blanks-broken, kinds-known, begun-right}
+use Rattle.image.proofs.FirstPart.{few, rule-broken, entries-broken, blanks-broken, kinds-known, begun-right}
 use Rattle.image.proofs.sound.begin.Goals as goal
-
-pub returns-then-b-ne-IMAGE : goal.returns-then-b-ne-IMAGE
-returns-then-b-ne-IMAGE c =
-    let s = c.args.b.now in
-    let h : Bytes s = λ k. omega (arith, c.type_inv.b k) in
-    no-image s h (sym (not-long s c.if-b-ne-IMAGE.true))
 
 pub returns-then-not-in_bounds : goal.returns-then-not-in_bounds
 returns-then-not-in_bounds c =
     let s = c.args.b.now in
-    let h : Bytes s = λ k. omega (arith, c.type_inv.b k) in
+    let h : Bytes s = c.fits-b in
     let t = c.long_in-time in
     rule-broken s h t.result _ t.ensures refl (λ z. never (sym (sym c.in_bounds.ensures ∙ c.if-not-in_bounds.true) ∙ z.bounds))
 
 pub returns-then-not-entries_right : goal.returns-then-not-entries_right
 returns-then-not-entries_right c =
     let s = c.args.b.now in
-    let h : Bytes s = λ k. omega (arith, c.type_inv.b k) in
+    let h : Bytes s = c.fits-b in
     let t = c.long_in-time in
     let fs = c.word_in-flags in
     let n = few s c.long_in-time.result (sym c.in_bounds.ensures ∙ c.if-not-in_bounds.false) in
-    entries-broken s h t.result fs.result t.ensures fs.ensures c.if-b-ne-IMAGE.false n (sym c.entries_right.ensures ∙ c.if-not-entries_right.true)
+    entries-broken s h t.result fs.result t.ensures fs.ensures c.told-b n (sym c.entries_right.ensures ∙ c.if-not-entries_right.true)
 
 pub returns-then-not-blank_past : goal.returns-then-not-blank_past
 returns-then-not-blank_past c =
     let s = c.args.b.now in
-    let h : Bytes s = λ k. omega (arith, c.type_inv.b k) in
+    let h : Bytes s = c.fits-b in
     let t = c.long_in-time in
     let fs = c.word_in-flags in
     let n = few s c.long_in-time.result (sym c.in_bounds.ensures ∙ c.if-not-in_bounds.false) in
-    blanks-broken s h t.result fs.result t.ensures fs.ensures c.if-b-ne-IMAGE.false n (sym c.blank_past.ensures ∙ c.if-not-blank_past.true)
+    blanks-broken s h t.result fs.result t.ensures fs.ensures c.told-b n (sym c.blank_past.ensures ∙ c.if-not-blank_past.true)
 
 pub returns-in_default : goal.returns-in_default
 returns-in_default c =
     let s = c.args.b.now in
-    let h : Bytes s = λ k. omega (arith, c.type_inv.b k) in
+    let h : Bytes s = c.fits-b in
     let t = c.long_in-time in
     let fs = c.word_in-flags in
     rule-broken s h t.result fs.result t.ensures fs.ensures (λ z. never (c.in_default.ensures.right ∙ z.alarms))
@@ -50,7 +43,7 @@ returns-in_default c =
 pub returns-then-not-queue_right : goal.returns-then-not-queue_right
 returns-then-not-queue_right c =
     let s = c.args.b.now in
-    let h : Bytes s = λ k. omega (arith, c.type_inv.b k) in
+    let h : Bytes s = c.fits-b in
     let t = c.long_in-time in
     let fs = c.word_in-flags in
     let e = c.queue_right.ensures in
@@ -59,14 +52,14 @@ returns-then-not-queue_right c =
 pub returns : goal.returns
 returns c =
     let s = c.args.b.now in
-    let h : Bytes s = λ k. omega (arith, c.type_inv.b k) in
+    let h : Bytes s = c.fits-b in
     let t = c.long_in-time in
     let fs = c.word_in-flags in
     let n = few s c.long_in-time.result (sym c.in_bounds.ensures ∙ c.if-not-in_bounds.false) in
     let es = sym c.entries_right.ensures ∙ c.if-not-entries_right.false in
     let zs = sym c.blank_past.ensures ∙ c.if-not-blank_past.false in
     let bs = sym c.in_bounds.ensures ∙ c.if-not-in_bounds.false in
-    begun-right s h t.result fs.result t.ensures fs.ensures c.if-b-ne-IMAGE.false n es zs bs
+    begun-right s h t.result fs.result t.ensures fs.ensures c.told-b n es zs bs
     (sym c.in-Some.ensures.right)
     (sym c.queue_right.ensures ∙ c.if-not-queue_right.false)
     c.kind_sets-sets.ensures c.in-Some.ensures.running
@@ -74,14 +67,14 @@ returns c =
 pub kind_sets-sets-requires : goal.kind_sets-sets-requires
 kind_sets-sets-requires c =
     let s = c.args.b.now in
-    let h : Bytes s = λ k. omega (arith, c.type_inv.b k) in
+    let h : Bytes s = c.fits-b in
     let t = c.long_in-time in
     let fs = c.word_in-flags in
     let n = few s c.long_in-time.result (sym c.in_bounds.ensures ∙ c.if-not-in_bounds.false) in
     let es = sym c.entries_right.ensures ∙ c.if-not-entries_right.false in
-    (c.if-b-ne-IMAGE.false, n, kinds-known s h t.result fs.result t.ensures fs.ensures c.if-b-ne-IMAGE.false n es)
+    (n, kinds-known s h t.result fs.result t.ensures fs.ensures c.told-b n es)
 
 pub queue_right-requires : goal.queue_right-requires
 queue_right-requires c =
     let s = c.args.b.now in
-    (c.if-b-ne-IMAGE.false, ready-there s, count-there s, c.kind_sets-sets.ensures.each 1 (omega arith))
+    (ready-there s, count-there s, c.kind_sets-sets.ensures.each 1 (omega arith))

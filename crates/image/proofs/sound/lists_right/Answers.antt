@@ -44,16 +44,16 @@ pub pool_right-requires : goal.pool_right-requires
 pool_right-requires c =
     let s = c.args.b.now in
     let p = c.requires in
-    rw (count-there s, queued-there s) (p.0, p.1, p.2, p.4.each 0 (omega arith), p.4.each 6 (omega arith), p.4.each 7 (omega arith), p.5)
+    rw (count-there s, queued-there s) (p.0, p.1, p.3.each 0 (omega arith), p.3.each 6 (omega arith), p.3.each 7 (omega arith), p.4)
 
 pub subs_right-requires : goal.subs_right-requires
 subs_right-requires c =
     let s = c.args.b.now in
     let p = c.requires in
-    rw (count-there s) (p.0, p.2, p.3, p.4.each 8 (omega arith))
+    rw (count-there s) (p.1, p.2, p.3.each 8 (omega arith))
 
 pub sent_right-requires : goal.sent_right-requires
 sent_right-requires c =
     let s = c.args.b.now in
     let p = c.requires in
-    rw (count-there s) (p.0, p.2, p.4.each 9 (omega arith))
+    rw (count-there s) (p.1, p.3.each 9 (omega arith))

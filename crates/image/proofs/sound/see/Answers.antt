@@ -18,4 +18,4 @@ pub lists_right-requires : goal.lists_right-requires
 lists_right-requires c =
     let r = not-false _ c.if-not-seen.false in
     let b = c.begin-seen.ensures in
-    ((image-parts c.args.b.now (b.image r)).0, (b.counted r).1, (b.counted r).0, b.known r, b.kinds r, b.others r)
+    ((b.counted r).1, (b.counted r).0, b.known r, b.kinds r, b.others r)

@@ -6,9 +6,9 @@ use Rattle.image.proofs.sound_entries.entry_right.Goals as goal
 pub returns-then-not-fields_right : goal.returns-then-not-fields_right
 returns-then-not-fields_right c =
     let s = c.args.b.now in
-    sound-not s c.args.i c.requires.1 c.args.count c.args.time.0 c.args.flags c.long_in-start.result c.long_in-start.ensures (sym c.fields_right.ensures ∙ c.if-not-fields_right.true)
+    sound-not s c.args.i c.requires c.args.count c.args.time.0 c.args.flags c.long_in-start.result c.long_in-start.ensures (sym c.fields_right.ensures ∙ c.if-not-fields_right.true)
 
 pub returns : goal.returns
 returns c =
     let s = c.args.b.now in
-    sound_so s c.args.i c.requires.1 c.args.count c.args.time.0 c.args.flags c.long_in-start.result c.long_in-start.ensures (sym c.fields_right.ensures ∙ c.if-not-fields_right.false) c.state_right.result c.state_right.ensures
+    sound_so s c.args.i c.requires c.args.count c.args.time.0 c.args.flags c.long_in-start.result c.long_in-start.ensures (sym c.fields_right.ensures ∙ c.if-not-fields_right.false) c.state_right.result c.state_right.ensures

@@ -15,9 +15,9 @@ loop-k-init c = sets_none 10 is_of (tasks_in c.args.b.now)
 pub loop-k-preserved : goal.loop-k-preserved
 loop-k-preserved c =
     let v = c.loop-k in
-    let h : v.k < 16 = omega (arith, c.requires.1) in
+    let h : v.k < 16 = omega (arith, c.requires.0) in
     let bit : 1 * 2 ^ v.k % 65536 ≡ 2 ^ v.k = simp (one-mul, mod-eq_of_lt (pow-lt {j = 16} h)) in
-    kinds-one c.args.b.now v.k h v.sets v.invariant _ bit (c.requires.2 v.k c.loop-k-test.true)
+    kinds-one c.args.b.now v.k h v.sets v.invariant _ bit (c.requires.1 v.k c.loop-k-test.true)
 
 pub returns : goal.returns
 returns c = let e : c.loop-k.k ≡ c.args.count = omega arith in rw e at c.loop-k.invariant

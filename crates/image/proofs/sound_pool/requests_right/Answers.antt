@@ -15,28 +15,28 @@ returns-then-count-target c =
     let a = c.args in
     let g = c.requires in
     let v = c.loop-i in
-    record { right = one-wrong a.b.now a.queued a.count g.1 v.i c.loop-i-test.true v.invariant.0 (target-over a.b.now a.count (704 + v.i * 6) c.if-count-target.true); waiters = tt }
+    record { right = one-wrong a.b.now a.queued a.count g.0 v.i c.loop-i-test.true v.invariant.0 (target-over a.b.now a.count (704 + v.i * 6) c.if-count-target.true); waiters = tt }
 
 pub returns-then-idle-target-eq1 : goal.returns-then-idle-target-eq1
 returns-then-idle-target-eq1 c =
     let a = c.args in
     let g = c.requires in
     let v = c.loop-i in
-    record { right = one-wrong a.b.now a.queued a.count g.1 v.i c.loop-i-test.true v.invariant.0 (target-idle a.b.now a.count (704 + v.i * 6) a.idle g.3 c.if-count-target.false c.if-idle-target-eq1.true); waiters = tt }
+    record { right = one-wrong a.b.now a.queued a.count g.0 v.i c.loop-i-test.true v.invariant.0 (target-idle a.b.now a.count (704 + v.i * 6) a.idle g.2 c.if-count-target.false c.if-idle-target-eq1.true); waiters = tt }
 
 pub returns-then-b-at-gt15 : goal.returns-then-b-at-gt15
 returns-then-b-at-gt15 c =
     let a = c.args in
     let g = c.requires in
     let v = c.loop-i in
-    record { right = one-wrong a.b.now a.queued a.count g.1 v.i c.loop-i-test.true v.invariant.0 (level-over a.b.now a.count (704 + v.i * 6) c.if-b-at-gt15.true); waiters = tt }
+    record { right = one-wrong a.b.now a.queued a.count g.0 v.i c.loop-i-test.true v.invariant.0 (level-over a.b.now a.count (704 + v.i * 6) c.if-b-at-gt15.true); waiters = tt }
 
 pub returns-then-not-request_fits : goal.returns-then-not-request_fits
 returns-then-not-request_fits c =
     let a = c.args in
     let g = c.requires in
     let v = c.loop-i in
-    record { right = one-wrong a.b.now a.queued a.count g.1 v.i c.loop-i-test.true v.invariant.0 (request_unfit a.b.now a.count (704 + v.i * 6) c.request_in-q.result c.request_in-q.ensures (sym c.request_fits.ensures ∙ c.if-not-request_fits.true)); waiters = tt }
+    record { right = one-wrong a.b.now a.queued a.count g.0 v.i c.loop-i-test.true v.invariant.0 (request_unfit a.b.now a.count (704 + v.i * 6) c.request_in-q.result c.request_in-q.ensures (sym c.request_fits.ensures ∙ c.if-not-request_fits.true)); waiters = tt }
 
 pub loop-i-preserved : goal.loop-i-preserved
 loop-i-preserved c =
@@ -46,14 +46,14 @@ loop-i-preserved c =
     let h = c.loop-i-test.true in
     elim c.if-quad-gt65535.branch [
       | then-quad-gt65535+else-not-request_fits w ↦ (
-        one_right a.b.now a.queued a.count g.1 v.i h v.invariant.0 (request_fit a.b.now a.count (704 + v.i * 6) a.idle g.3 c.if-count-target.false c.if-idle-target-eq1.false w.request_in-q.result w.request_in-q.ensures (sym w.request_fits.ensures ∙ w.if-not-request_fits.false)),
-        one-named a.b.now a.queued a.count g.1 v.i h 4 v.starts _ v.invariant.1 _ (w.starts-is ∙ w.with-starts.ensures),
-        one-named a.b.now a.queued a.count g.1 v.i h 5 v.all_ends _ v.invariant.2 _ (w.all_ends-is ∙ w.with-all_ends.ensures),
+        one_right a.b.now a.queued a.count g.0 v.i h v.invariant.0 (request_fit a.b.now a.count (704 + v.i * 6) a.idle g.2 c.if-count-target.false c.if-idle-target-eq1.false w.request_in-q.result w.request_in-q.ensures (sym w.request_fits.ensures ∙ w.if-not-request_fits.false)),
+        one-named a.b.now a.queued a.count g.0 v.i h 4 v.starts _ v.invariant.1 _ (w.starts-is ∙ w.with-starts.ensures),
+        one-named a.b.now a.queued a.count g.0 v.i h 5 v.all_ends _ v.invariant.2 _ (w.all_ends-is ∙ w.with-all_ends.ensures),
       )
       | else-quad-gt65535 w ↦ (
-        one_right a.b.now a.queued a.count g.1 v.i h v.invariant.0 (request_lone a.b.now a.count (704 + v.i * 6) a.idle g.3 c.if-count-target.false c.if-idle-target-eq1.false c.if-b-at-gt15.false c.quad.result c.quad.ensures.result_value_2 w.if-quad-gt65535.false),
-        rw w.starts-is (none_named a.b.now a.queued a.count g.1 v.i h 4 v.starts _ v.invariant.1 (start-nobody a.b.now a.count (704 + v.i * 6) a.idle g.3 c.if-count-target.false c.if-idle-target-eq1.false c.if-b-at-gt15.false c.quad.result c.quad.ensures.result_value_2 w.if-quad-gt65535.false)),
-        rw w.all_ends-is (none_named a.b.now a.queued a.count g.1 v.i h 5 v.all_ends _ v.invariant.2 (end-nobody a.b.now a.count (704 + v.i * 6) a.idle g.3 c.if-count-target.false c.if-idle-target-eq1.false c.if-b-at-gt15.false c.quad.result c.quad.ensures.result_value_2 w.if-quad-gt65535.false)),
+        one_right a.b.now a.queued a.count g.0 v.i h v.invariant.0 (request_lone a.b.now a.count (704 + v.i * 6) a.idle g.2 c.if-count-target.false c.if-idle-target-eq1.false c.if-b-at-gt15.false c.quad.result c.quad.ensures.result_value_2 w.if-quad-gt65535.false),
+        rw w.starts-is (none_named a.b.now a.queued a.count g.0 v.i h 4 v.starts _ v.invariant.1 (start-nobody a.b.now a.count (704 + v.i * 6) a.idle g.2 c.if-count-target.false c.if-idle-target-eq1.false c.if-b-at-gt15.false c.quad.result c.quad.ensures.result_value_2 w.if-quad-gt65535.false)),
+        rw w.all_ends-is (none_named a.b.now a.queued a.count g.0 v.i h 5 v.all_ends _ v.invariant.2 (end-nobody a.b.now a.count (704 + v.i * 6) a.idle g.2 c.if-count-target.false c.if-idle-target-eq1.false c.if-b-at-gt15.false c.quad.result c.quad.ensures.result_value_2 w.if-quad-gt65535.false)),
       )
     ]
 
@@ -64,9 +64,9 @@ returns c =
     let v = c.loop-i in
     let h = c.loop-i-test.false in
     record {
-      right = all_right a.b.now a.queued a.count g.1 v.i h v.invariant.0;
+      right = all_right a.b.now a.queued a.count g.0 v.i h v.invariant.0;
       waiters = (
-        all_named a.b.now a.queued a.count g.1 v.i h 708 v.starts _ v.invariant.1,
-        all_named a.b.now a.queued a.count g.1 v.i h 709 v.all_ends _ v.invariant.2,
+        all_named a.b.now a.queued a.count g.0 v.i h 708 v.starts _ v.invariant.1,
+        all_named a.b.now a.queued a.count g.0 v.i h 709 v.all_ends _ v.invariant.2,
       );
     }

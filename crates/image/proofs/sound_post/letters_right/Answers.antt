@@ -23,7 +23,7 @@ broken : (c : In-loop-i) → let a = c.args in
 broken c f =
     let a = c.args in
     let v = c.loop-i in
-    sym (sym v.invariant.1 ∙ letter-bad a.b.now a.count a.sent c.requires.1 v.p v.i c.loop-i-test.true f)
+    sym (sym v.invariant.1 ∙ letter-bad a.b.now a.count a.sent c.requires.0 v.p v.i c.loop-i-test.true f)
 
 pub returns-then-count-to : goal.returns-then-count-to
 returns-then-count-to c = broken (goal.at.returns-then-count-to c).In-loop-i (λ g. omega (arith, g.1, c.if-count-to.true))
@@ -55,7 +55,7 @@ addressed c =
     elim c.if-free-to-eq0.branch [
       | then-free-to-eq0+else-to-eq0+else-is_taken w ↦ (omega arith, sym w.is_taken.ensures ∙ w.if-is_taken.false)
       | else-free-to-eq0 w ↦
-          let f = c.requires.3 (letter_to s i) c.if-count-to.false (bit-set a.free (letter_to s i) w.if-free-to-eq0.false) in
+          let f = c.requires.2 (letter_to s i) c.if-count-to.false (bit-set a.free (letter_to s i) w.if-free-to-eq0.false) in
           (f.0, takes_none (tasks_in s) (letter_by s i) (letter_to s i) f.1)
     ]
 
@@ -65,11 +65,11 @@ loop-i-preserved c =
     let s = a.b.now in
     let v = c.loop-i in
     let q = addressed (goal.at.loop-i-preserved c).Joined-free-to-eq0 in
-    (omega (arith, v.invariant.0, c.if-p-priority.false), letter-good s a.count a.sent c.requires.1 v.p v.i c.loop-i-test.true v.invariant.0 (q.0, c.if-count-to.false, omega (arith, c.if-sender-eq0.false), c.if-count-sender.false, c.if-p-priority.false, q.1) ∙ v.invariant.1)
+    (omega (arith, v.invariant.0, c.if-p-priority.false), letter-good s a.count a.sent c.requires.0 v.p v.i c.loop-i-test.true v.invariant.0 (q.0, c.if-count-to.false, omega (arith, c.if-sender-eq0.false), c.if-count-sender.false, c.if-p-priority.false, q.1) ∙ v.invariant.1)
 
 pub returns : goal.returns
 returns c =
     let a = c.args in
     let s = a.b.now in
     let v = c.loop-i in
-    sym (sym v.invariant.1 ∙ letters-over s a.count a.sent c.requires.1 v.p v.i c.loop-i-test.false)
+    sym (sym v.invariant.1 ∙ letters-over s a.count a.sent c.requires.0 v.p v.i c.loop-i-test.false)

@@ -21,4 +21,4 @@ returns c =
 pub letters_right-requires : goal.letters_right-requires
 letters_right-requires c =
     let a = c.args in
-    (c.requires.0, c.if-sent-gt32.false, c.requires.1, not-waiting (tasks_in a.b.now) a.count a.receivers c.requires.1 c.requires.2)
+    (c.if-sent-gt32.false, c.requires.0, not-waiting (tasks_in a.b.now) a.count a.receivers c.requires.0 c.requires.1)

@@ -4,4 +4,4 @@ use Rattle.image.proofs.Noughts.{line-nought}
 use Rattle.image.proofs.sound_queue.blank_from.Goals as goal
 
 pub returns : goal.returns
-returns c = c.are_zero.ensures ∙ sym (line-nought c.args.b.now c.args.at c.args.taken c.requires.2)
+returns c = c.are_zero.ensures ∙ sym (line-nought c.args.b.now c.args.at c.args.taken c.requires.1)

@@ -13,7 +13,7 @@ returns-then-count-k c =
     let g = c.requires in
     let s = a.b.now in
     let v = c.loop-i in
-    line-off s a.at a.taken a.count g.2 g.3 v.i v.p v.seen v.word v.invariant c.loop-i-test.true c.entry_place-k.result c.entry_place-k.ensures _ _ c.if-count-k.true
+    line-off s a.at a.taken a.count g.1 g.2 v.i v.p v.seen v.word v.invariant c.loop-i-test.true c.entry_place-k.result c.entry_place-k.ensures _ _ c.if-count-k.true
 
 pub returns-then-p-level : goal.returns-then-p-level
 returns-then-p-level c =
@@ -21,7 +21,7 @@ returns-then-p-level c =
     let g = c.requires in
     let s = a.b.now in
     let v = c.loop-i in
-    line-over s a.at a.taken a.count g.2 g.3 v.i v.p v.seen v.word v.invariant c.loop-i-test.true c.entry_place-k.result c.entry_place-k.ensures c.if-count-k.false _ _ c.if-p-level.true
+    line-over s a.at a.taken a.count g.1 g.2 v.i v.p v.seen v.word v.invariant c.loop-i-test.true c.entry_place-k.result c.entry_place-k.ensures c.if-count-k.false _ _ c.if-p-level.true
 
 pub returns-then-seen-bit-ne0 : goal.returns-then-seen-bit-ne0
 returns-then-seen-bit-ne0 c =
@@ -29,7 +29,7 @@ returns-then-seen-bit-ne0 c =
     let g = c.requires in
     let s = a.b.now in
     let v = c.loop-i in
-    line-twice s a.at a.taken a.count g.2 g.3 v.i v.p v.seen v.word v.invariant c.loop-i-test.true c.entry_place-k.result c.entry_place-k.ensures c.if-count-k.false c.bit_of-bit.result c.bit_of-bit.ensures _ _ c.if-seen-bit-ne0.true
+    line-twice s a.at a.taken a.count g.1 g.2 v.i v.p v.seen v.word v.invariant c.loop-i-test.true c.entry_place-k.result c.entry_place-k.ensures c.if-count-k.false c.bit_of-bit.result c.bit_of-bit.ensures _ _ c.if-seen-bit-ne0.true
 
 pub loop-i-preserved : goal.loop-i-preserved
 loop-i-preserved c =
@@ -37,7 +37,7 @@ loop-i-preserved c =
     let g = c.requires in
     let s = a.b.now in
     let v = c.loop-i in
-    line-turn s a.at a.taken a.count g.2 g.3 v.i v.p v.seen v.word v.invariant c.loop-i-test.true c.entry_place-k.result c.entry_place-k.ensures c.if-count-k.false c.bit_of-bit.result c.bit_of-bit.ensures c.level_bit-word.result c.level_bit-word.ensures c.if-p-level.false c.if-seen-bit-ne0.false
+    line-turn s a.at a.taken a.count g.1 g.2 v.i v.p v.seen v.word v.invariant c.loop-i-test.true c.entry_place-k.result c.entry_place-k.ensures c.if-count-k.false c.bit_of-bit.result c.bit_of-bit.ensures c.level_bit-word.result c.level_bit-word.ensures c.if-p-level.false c.if-seen-bit-ne0.false
 
 pub returns : goal.returns
 returns c =
@@ -45,4 +45,4 @@ returns c =
     let g = c.requires in
     let s = a.b.now in
     let v = c.loop-i in
-    line-end s a.at a.taken a.count g.2 g.3 v.i v.p v.seen v.word v.invariant c.loop-i-test.false
+    line-end s a.at a.taken a.count g.1 g.2 v.i v.p v.seen v.word v.invariant c.loop-i-test.false

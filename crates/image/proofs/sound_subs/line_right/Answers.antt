@@ -7,10 +7,10 @@ pub returns-then-line-set : goal.returns-then-line-set
 returns-then-line-set c =
     let a = c.args in
     let g = c.requires in
-    λ m k. line_other a.b.now m a.at a.waiting a.count g.2 g.3 _ _ _ c.in-Some.ensures refl a.set k c.if-line-set.true
+    λ m k. line_other a.b.now m a.at a.waiting a.count g.1 g.2 _ _ _ c.in-Some.ensures refl a.set k c.if-line-set.true
 
 pub returns : goal.returns
 returns c =
     let a = c.args in
     let g = c.requires in
-    λ m k. line-last a.b.now m a.at a.waiting a.count g.2 g.3 _ _ _ c.in-Some.ensures refl a.set k c.if-line-set.false _ c.blank_from.ensures
+    λ m k. line-last a.b.now m a.at a.waiting a.count g.1 g.2 _ _ _ c.in-Some.ensures refl a.set k c.if-line-set.false _ c.blank_from.ensures

@@ -8,7 +8,7 @@ loop-m-init c =
     let s = c.args.b.now in
     let a = c.args in
     let g = c.requires in
-    (c.next_in-m.ensures.most, held_start s c.waiting_sets-sets.result a.count c.used_subs-used.result g.1 c.waiting_sets-sets.ensures c.used_subs-used.ensures c.next_in-m.result c.next_in-m.ensures)
+    (c.next_in-m.ensures.most, held_start s c.waiting_sets-sets.result a.count c.used_subs-used.result g.0 c.waiting_sets-sets.ensures c.used_subs-used.ensures c.next_in-m.result c.next_in-m.ensures)
 
 pub returns-then-not-sub_right : goal.returns-then-not-sub_right
 returns-then-not-sub_right c =
@@ -16,7 +16,7 @@ returns-then-not-sub_right c =
     let a = c.args in
     let g = c.requires in
     let v = c.loop-m in
-    held-off s c.waiting_sets-sets.result a.count c.used_subs-used.result g.1 c.waiting_sets-sets.ensures c.used_subs-used.ensures v.m c.loop-m-test.true v.invariant.1 c.sub_right.result c.sub_right.ensures c.if-not-sub_right.true
+    held-off s c.waiting_sets-sets.result a.count c.used_subs-used.result g.0 c.waiting_sets-sets.ensures c.used_subs-used.ensures v.m c.loop-m-test.true v.invariant.1 c.sub_right.result c.sub_right.ensures c.if-not-sub_right.true
 
 pub loop-m-preserved : goal.loop-m-preserved
 loop-m-preserved c =
@@ -25,7 +25,7 @@ loop-m-preserved c =
     let g = c.requires in
     let v = c.loop-m in (
       c.next_in-m-in-loop-m.ensures.most,
-      held_next s c.waiting_sets-sets.result a.count c.used_subs-used.result g.1 c.waiting_sets-sets.ensures c.used_subs-used.ensures v.m c.loop-m-test.true v.invariant.1 c.sub_right.result c.sub_right.ensures c.if-not-sub_right.false c.next_in-m-in-loop-m.result c.next_in-m-in-loop-m.ensures,
+      held_next s c.waiting_sets-sets.result a.count c.used_subs-used.result g.0 c.waiting_sets-sets.ensures c.used_subs-used.ensures v.m c.loop-m-test.true v.invariant.1 c.sub_right.result c.sub_right.ensures c.if-not-sub_right.false c.next_in-m-in-loop-m.result c.next_in-m-in-loop-m.ensures,
     )
 
 pub returns : goal.returns

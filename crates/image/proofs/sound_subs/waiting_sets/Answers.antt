@@ -15,7 +15,7 @@ loop-k-init c =
     let a = c.args in
     let g = c.requires in
     let r = c.next_in-k.ensures in
-    (r.most, r.member, waiting-first a.b.now a.count a.waiters g.1 g.3 c.next_in-k.result r)
+    (r.most, r.member, waiting-first a.b.now a.count a.waiters g.0 g.2 c.next_in-k.result r)
 
 pub loop-k-preserved : goal.loop-k-preserved
 loop-k-preserved c =
@@ -24,14 +24,14 @@ loop-k-preserved c =
     let g = c.requires in
     let v = c.loop-k in
     let l = c.loop-k-test.true in
-    let h : v.k < 16 = omega (arith, g.1, l) in
+    let h : v.k < 16 = omega (arith, g.0, l) in
     let bit : 1 * 2 ^ v.k % 65536 ≡ 2 ^ v.k = simp (one-mul, mod-eq_of_lt (pow-lt {j = 16} h)) in
     let e : min v.k a.count ≡ v.k = omega (arith, l) in
     let w₀ : Waiting v.k v.sets (tasks_in s) = rw e at v.invariant.2 in
-    let q = waiting-kind s a.count a.waiters g.1 g.3 g.2 v.k l (v.invariant.1 (omega arith)) in (
+    let q = waiting-kind s a.count a.waiters g.0 g.2 g.1 v.k l (v.invariant.1 (omega arith)) in (
       c.next_in-k-in-loop-k.ensures.most,
       c.next_in-k-in-loop-k.ensures.member,
-      waiting-next s a.count a.waiters g.1 g.3 v.k c.next_in-k-in-loop-k.result c.if-m-lt8.sets l c.next_in-k-in-loop-k.ensures
+      waiting-next s a.count a.waiters g.0 g.2 v.k c.next_in-k-in-loop-k.result c.if-m-lt8.sets l c.next_in-k-in-loop-k.ensures
           (elim c.if-m-lt8.branch [
             | then-m-lt8 w ↦ rw w.sets-is (waiting-one s v.k h q v.sets w₀ (1 * 2 ^ v.k % 65536) bit w.if-m-lt8.true)
             | else-m-lt8 w ↦ rw w.sets-is (waiting-past s v.k h q v.sets w₀ w.if-m-lt8.false)

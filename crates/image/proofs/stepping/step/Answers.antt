@@ -6,21 +6,6 @@ use Rattle.image.proofs.Trips.{image-parts}
 use Rattle.image.proofs.Stepwise.{loaded, formed, decided-is, doable-is, said-refused, said-done}
 use Rattle.image.proofs.stepping.step.Goals as goal
 
-pub active-c-requires : goal.active-c-requires
-active-c-requires c = (image-parts c.args.b.now c.requires.0).0
-
-pub decide-d-requires : goal.decide-d-requires
-decide-d-requires c = (image-parts c.args.b.now c.requires.0).0
-
-pub refusal-requires : goal.refusal-requires
-refusal-requires c = (image-parts c.args.b.now c.requires.0).0
-
-pub execute-walked-requires : goal.execute-walked-requires
-execute-walked-requires c = (image-parts c.args.b.now c.requires.0).0
-
-pub answer-requires : goal.answer-requires
-answer-requires c = c.execute-walked.auto.b ∙ (image-parts c.args.b.now c.requires.0).0
-
 pub returns-then-d-ne0 : goal.returns-then-d-ne0
 returns-then-d-ne0 c =
     let s = c.args.b.now in

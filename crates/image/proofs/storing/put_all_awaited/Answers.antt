@@ -15,4 +15,4 @@ loop-i-preserved c =
     let a = c.args in
     let v = c.loop-i in
     row-turn awaited_bytes 1 (λ x. refl) a.out.now v.out c.put_awaited.new.out a.tasks.now awaited_at v.i (awaited_at + v.i) no_task
-    v.invariant (omega arith) c.put_awaited.ensures (omega arith) (omega (arith, c.requires))
+    v.invariant (omega arith) c.put_awaited.ensures (omega arith) (omega (arith, c.told-out))

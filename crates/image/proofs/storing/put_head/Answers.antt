@@ -14,6 +14,6 @@ returns c =
     let b1 = a.rest.now.granule ∷ a.rest.now.queued ∷ [] in
     let b2 = bytes_in 8 a.rest.now.clock.0 in
     let b3 = bytes_in 4 a.rest.now.flags in
-    let e1 = and_then o head_at b0 b1 c.put_both.ensures c.put_both-2.ensures (omega (arith, c.requires)) in
-    let e2 = and_then o head_at (b0 ++ b1) b2 e1 c.put_long.ensures (omega (arith, c.requires)) in
-    and_then o head_at ((b0 ++ b1) ++ b2) b3 e2 c.put_word.ensures (omega (arith, c.requires))
+    let e1 = and_then o head_at b0 b1 c.put_both.ensures c.put_both-2.ensures (omega (arith, c.told-out)) in
+    let e2 = and_then o head_at (b0 ++ b1) b2 e1 c.put_long.ensures (omega (arith, c.told-out)) in
+    and_then o head_at ((b0 ++ b1) ++ b2) b3 e2 c.put_word.ensures (omega (arith, c.told-out))

@@ -17,7 +17,7 @@ returns c =
       messages = c.put_post.ensures.sizes.0;
       mail = c.put_post.ensures.sizes.1;
     } in
-    image-made t sizes c.args.out.now _ _ _ _ _ _ _ _ _ c.requires
+    image-made t sizes c.args.out.now _ _ _ _ _ _ _ _ _ c.told-out
     c.put_row.ensures.value
     c.put_row-2.ensures.value
     c.put_head.ensures
