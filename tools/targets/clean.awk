@@ -6,8 +6,8 @@
 # - a slot that is accessed as a pointer and as something else, and a slot of a pointer that is narrower than 8 bytes
 # - a division but by a power of two, which a processor without division would need a helper for
 # - any other instruction than those that are known to be right; numbers over 64 bits, floats, vectors; any other
-#   aggregate than a pair of numbers, which lies in a slot as each number would, at a multiple of its own length: so it
-#   does on x86-64, and on each target whose layout has i64:64 (retarget.awk)
+#   aggregate than a pair. A pair of numbers lies in a slot as each number would, at a multiple of its own length: so it
+#   does on x86-64, and on each target whose layout has i64:64. One with a pointer is read by its halves (retarget.awk)
 # That a slot is accessed at two widths of numbers is let pass: all targets have the lowest byte first.
 
 function refuse(why) {
@@ -31,15 +31,19 @@ function access(type, address,    base, offset) {
     else number_at[base, offset] = type
 }
 
-# The two numbers of a pair, as access() has them.
-function access_pair(first, second, address,    length_of_second) {
+# How many bytes a number or a pointer has on x86-64.
+function bytes(type) { return type == "ptr" ? 8 : substr(type, 2) / 8 }
+
+# The two halves of a pair, as access() has them.
+function access_pair(first, second, address,    base, offset) {
     sub(/,$/, "", address)
     sub(/,$/, "", first)
-    length_of_second = substr(second, 2) / 8
     access(first, address)
-    number_at[(address in base_of) ? base_of[address] : address, \
-        ((address in offset_of) ? offset_of[address] : 0) + \
-        (length_of_second > substr(first, 2) / 8 ? length_of_second : substr(first, 2) / 8)] = second
+    base = (address in base_of) ? base_of[address] : address
+    offset = (address in offset_of) ? offset_of[address] : 0
+    offset += bytes(second) > bytes(first) ? bytes(second) : bytes(first)
+    if (second == "ptr") pointer_at[base, offset] = 1
+    else number_at[base, offset] = second
 }
 
 # That the eight bytes of each pointer's slot are accessed as a pointer alone.
@@ -98,8 +102,8 @@ line ~ /(^|[^a-zA-Z0-9_.%])(i128|float|double|half|fp128|x86_fp80|<[0-9]+ x)/ {
 }
 line ~ /[{}]/ {
     bare = line
-    gsub(/\{ i(8|16|32|64), i(8|16|32|64) \}/, "pair", bare)
-    if (bare ~ /[{}]/ || operation == "store") { refuse("an aggregate that is no pair of numbers in a register: " line); next }
+    gsub(/\{ (i(8|16|32|64)|ptr), (i(8|16|32|64)|ptr) \}/, "pair", bare)
+    if (bare ~ /[{}]/ || operation == "store") { refuse("an aggregate that is no pair in a register: " line); next }
 }
 operation == "icmp" && word[3] == "ptr" && line !~ /^icmp (eq|ne) ptr [^ ]+, null$/ { refuse("a comparison of pointers: " line) }
 line ~ / asm / { refuse("inline assembly: " line) }

@@ -18,6 +18,15 @@ BEGIN { if (layout !~ /-i64:64-/) refuse("its layout does not say that a number 
 /^target datalayout = / { $0 = "target datalayout = \"" layout "\""; layouts++ }
 /^attributes / { attributes += sub(/ "probe-stack"="inline-asm" "stack-probe-size"="3072" "target-cpu"="x86-64-v2"/, "") }
 /^define / { exported = !/^define internal / }
+$3 == "load" && $4 == "{" && ($5 == "ptr," || $6 == "ptr") {
+    first = substr($5, 1, length($5) - 1)
+    pair = "{ " first ", " $6 " }"
+    print "  " $1 ".first = load " first ", ptr " substr($9, 1, length($9) - 1)
+    print "  " $1 ".place = getelementptr i8, ptr " $9 " i64 8"
+    print "  " $1 ".second = load " $6 ", ptr " $1 ".place"
+    print "  " $1 ".half = insertvalue " pair " poison, " first " " $1 ".first, 0"
+    $0 = "  " $1 " = insertvalue " pair " " $1 ".half, " $6 " " $1 ".second, 1"
+}
 exported && /^define noundef i8 @/ {
     if (plant != "bare") sub(/noundef i8/, "noundef zeroext i8")
     extended++
@@ -29,6 +38,7 @@ exported && plant != "" && /^  ret i8 / { # the empty assembly hides from the co
     print "  %byte = trunc i32 %same to i8"
     $0 = "  ret i8 %byte"
 }
+/ load [^{]*[{][^}]*ptr/ { refuse("line " NR " reads a pair with a pointer whole: " $0) }
 /x86|probe-stack|stack-probe/ { refuse("line " NR " still names x86-64: " $0) }
 { print }
 
