@@ -27,7 +27,7 @@ pub struct Progress {
 }
 
 // What filling a buffer answers: how many bytes of it are text, whether there is more to tell, and where the
-// listing stands.
+// listing stands. The flag repeats what `run` says: the contract of `listing::fill`, which is public, promises it.
 #[derive(Clone, Copy)]
 pub struct Filled {
     pub used: usize,

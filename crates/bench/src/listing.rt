@@ -63,6 +63,7 @@ fn go_on(input: &[u8], mut run: Progress, out: &mut [u8], from: usize) -> Filled
 {
     let mut used = from;
     let mut image = storing::image_of(run.table);
+    // A while: a turn takes as many bytes as its line and its step have.
     while 64 <= out.len() - used {
         let left = left_at(input, run.at);
         let Some(n) = steps::whole_of(left) else {

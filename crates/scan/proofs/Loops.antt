@@ -2,7 +2,7 @@
 use Prim.Native.Nat.{ℕ, zero, suc, ◌+◌, ◌≤◌, ◌<◌}
 use mathlib.Core.Path.{◌≡◌, refl, ap, ◌∙◌}
 use mathlib.Core.Bool.{Bool, true, false, cond}
-use mathlib.Core.List.{List, [], ◌∷◌, ◌++◌}
+use mathlib.Core.List.{List, [], ◌∷◌, ◌++◌, map}
 use native.Mathlib.Omega.{arith}
 use native.Mathlib.Numerals.{add-one}
 use lib.ListN.{length, get_or, set, take, drop, drop_of_length-le}
@@ -48,6 +48,13 @@ take_all [] zero h = refl
 take_all [] (suc i) h = absurd (omega arith)
 take_all (x ∷ xs) zero h = absurd (omega arith)
 take_all (x ∷ xs) (suc i) h = ap (λ (l : List _). x ∷ l) (take_all xs i (omega arith))
+
+module _ {A B : Type 0} (f : A → B) (d : A) (xs : List A) (i : ℕ) where
+  pub map_on : i < length xs → map f (drop i xs) ≡ f (get_or xs i d) ∷ map f (drop (i + 1) xs)
+  map_on h = ap (map f) (opened d xs i h)
+
+  pub map-end : length xs ≤ i → map f (drop i xs) ≡ []
+  map-end h = ap (map f) (ended d xs i h)
 
 -- ---- the fresh table's numbers
 module _ (ts : List Task) (i n : ℕ) where

@@ -29,7 +29,8 @@ pub struct Scanned {
     pub rest: Rest,
 }
 
-// The best entry so far, if one is found: where it stands, its priority and its arrival number.
+// The best entry so far, if one is found: where it stands, its priority and its arrival number. A flag, and no Option:
+// `choosing::choose` is public, and its contract fixes the other three too where none is found.
 #[derive(Clone, Copy)]
 pub struct Best {
     pub found: bool,
@@ -53,7 +54,8 @@ pub struct Scan {
     pub table: Scanned,
 }
 
-// What a configuration makes: number 0 and the table, or number 2 and a table of zeros.
+// What a configuration makes: number 0 and the table, or number 2 and a table of zeros. A number, and no Result:
+// `making::fresh` is public, and its contract fixes both.
 #[derive(Clone, Copy)]
 pub struct Made {
     pub number: u8,
