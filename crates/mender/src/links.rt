@@ -31,7 +31,8 @@ fn mark(named: &mut [bool; 16], w: TaskNo)
     }
 }
 
-// Whether a link of task or target j to w stands, where w is to be in a state of a kind.
+// Whether a link of task or target j to w stands, where w is to be in a state of a kind: a number, as the executive's
+// `states::is_of` takes it.
 #[tactic(auto, unfolding(crate::specs::Passes::stands))]
 fn stands(tasks: [Task; 16], named: [bool; 16], count: u8, kind: u8, j: u8, w: TaskNo) -> bool
     ensures { result ≡ stands count tasks named kind j w }
@@ -66,7 +67,7 @@ fn linked_runs(tasks: &mut [Task; 16], count: u8) -> [bool; 16]
     named
 }
 
-// The waiter for a request's start.
+// The waiter for a request's start. It and the next stay two functions: each reads and clears a field of its own.
 #[tactic(auto, unfolding(crate::specs::Passes::start_turn))]
 fn start_turn(q: &mut Request, named: &mut [bool; 16], tasks: [Task; 16], count: u8)
     ensures { asked_of q.new named.new ≡ start_turn count tasks (asked_of q.old named.old) }

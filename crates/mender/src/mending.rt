@@ -20,7 +20,7 @@ fn answer(number: u8, table: Table, l: Filled<Note, 16>) -> Mended
     }
 }
 
-// The table as it is given, with a number and an empty list.
+// The table as it is given, with a number, which is the C interface's (docs/CALLS.md), and an empty list.
 fn as_given(number: u8, table: Table) -> Mended
     ensures { result ≡ answered number table [] }
 {
