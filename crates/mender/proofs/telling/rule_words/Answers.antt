@@ -55,8 +55,7 @@ returns-in-11 c =
 
 pub returns-in_default : goal.returns-in_default
 returns-in_default c =
-    let x = c.in_default.in_default-own.rest in
     let p = put_last c.text-in_default.ensures (omega (arith, c.requires)) in
     let e =
-    words_else c.args.rule x.0.0.0.0.0.0.0.1 x.0.0.0.0.0.0.1 x.0.0.0.0.0.1 x.0.0.0.0.1 x.0.0.0.1 x.0.0.1 x.0.1 x.1 in
+    words_else c.args.rule (λ h. omega arith) (λ h. omega arith) (λ h. omega arith) (λ h. omega arith) (λ h. omega arith) (λ h. omega arith) (λ h. omega arith) (λ h. omega arith) in
     (named e p, omega (arith, p.place))
