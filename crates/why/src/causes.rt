@@ -101,6 +101,7 @@ fn by_sub(subs: [Sub; 8], m: SubNo) -> Cause
 }
 
 // Why a task is not running, or that it is.
+#[tactic(auto, unfolding(crate::specs::Causes::cause_of))]
 pub(crate) fn cause_of(t: Table, k: TaskNo) -> Cause
     requires { Sized t }
     ensures { result ≡ cause_of t k.0 }
