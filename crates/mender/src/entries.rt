@@ -6,7 +6,7 @@ ghost use Rattle.mender.specs.Rules.{rule_number, numbers_of};
 ghost use Rattle.mender.specs.Passes.{is_holder, own_kept, slept, entry_after, mail_after, entries_after, mails_after, awaits_link, is_lost, waiter_after, waiters_after};
 
 use crate::Rule;
-use executive::{Mail, Millis, State, Sub, Task, entries, messages, places, states};
+use executive::{Mail, Millis, State, Sub, Task, entries, messages, places, refusals, states};
 use records::TaskNo;
 use std::array;
 
@@ -14,7 +14,7 @@ use std::array;
 pub(crate) fn is_task(count: u8, k: TaskNo) -> bool
     ensures { result ≡ is_task count k }
 {
-    0 < k.0 && k.0 <= count
+    !refusals::no_such_task(count, k)
 }
 
 // Whether it names a task that is not dormant.
