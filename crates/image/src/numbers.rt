@@ -39,7 +39,8 @@ pub(crate) fn long_in(bytes: &[u8], at: usize) -> u64
     (u64::from(word_in(bytes, at)) << 32) | u64::from(word_in(bytes, at + 4))
 }
 
-// Write a number over one, two, four and eight bytes from a place on.
+// Write a number over one, two, four and eight bytes from a place on. A store each, and no copy of a slice, which the
+// module for machines of 32 bits may not hold (tools/targets/clean.awk).
 pub(crate) fn put_byte(out: &mut [u8], at: usize, x: u8)
     requires { at + 1 ≤ length out.old }
     ensures { out.new ≡ written out.old at (bytes_in 1 x) }

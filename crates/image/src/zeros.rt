@@ -15,7 +15,8 @@ pub(crate) fn quad(b: &[u8], at: usize) -> u32
     u32::from_le_bytes([b[at], b[at + 1], b[at + 2], b[at + 3]])
 }
 
-// A number that is zero where eight, twelve, sixteen or thirty-two bytes are.
+// A number that is zero where eight, twelve, sixteen or thirty-two bytes are. One function for any length would need a
+// loop, and a clause that the length is a multiple of four.
 pub(crate) fn eight(b: &[u8], at: usize) -> u32
     requires { at + 8 ≤ length b.now }
     ensures { eqb result 0 ≡ noughts b.now 8 at }
