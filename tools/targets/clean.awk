@@ -102,6 +102,7 @@ line ~ /(^|[^a-zA-Z0-9_.%])(i128|float|double|half|fp128|x86_fp80|<[0-9]+ x)/ {
 }
 line ~ /[{}]/ {
     bare = line
+    gsub(/"[^"]*"/, "name", bare) # a name may hold braces
     gsub(/\{ (i(8|16|32|64)|ptr), (i(8|16|32|64)|ptr) \}/, "pair", bare)
     if (bare ~ /[{}]/ || operation == "store") { refuse("an aggregate that is no pair in a register: " line); next }
 }

@@ -20,9 +20,8 @@ const IMAGE: usize = 65537;
 fn read_head<R: Read>(reader: &mut R, head: &mut [u8]) -> io::Result<usize>
     ensures { ReadsAtMost result head.new }
 {
-    let mut n: usize = 0;
     let mut one = [0u8; 1];
-    while n < head.len() {
+    for n in 0..head.len() {
         if asking::end_of(head) <= n {
             return Ok(n);
         }
@@ -30,23 +29,16 @@ fn read_head<R: Read>(reader: &mut R, head: &mut [u8]) -> io::Result<usize>
             return Ok(n);
         }
         head[n] = one[0];
-        n += 1;
     }
-    Ok(n)
+    Ok(head.len())
 }
 
 // Writes a record in hex, one line.
 fn tell(record: [u8; 6], writer: &mut impl Write) -> io::Result<()> {
     let length = kinds::length_of(kinds::kind_of(record[0]));
-    let mut i: usize = 0;
-    while i < 6 {
-        if length <= i {
-            return Ok(());
-        }
-        let next: u8 = if i + 1 == length { 10 } else { 32 };
-        let text = hex::pair(record[i], next);
-        writer.write_all(&text)?;
-        i += 1;
+    for (i, byte) in record.iter().take(length).enumerate() {
+        let next = if i + 1 == length { b'\n' } else { b' ' };
+        writer.write_all(&hex::pair(*byte, next))?;
     }
     Ok(())
 }
@@ -55,8 +47,7 @@ fn tell(record: [u8; 6], writer: &mut impl Write) -> io::Result<()> {
 fn answer(head: &[u8], image: &mut [u8], writer: &mut impl Write) -> io::Result<()> {
     let mut record = [0u8; 6];
     let number = blocks::quermanic_block(head, image, &mut record);
-    let said = [number];
-    writer.write_all(&said)?;
+    writer.write_all(&[number])?;
     if number != 0 {
         return Ok(());
     }

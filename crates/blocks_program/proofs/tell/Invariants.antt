@@ -4,5 +4,3 @@ use Rattle.blocks_program.proofs.tell.Given as goal
 abbrev pub invariant-loop-i : goal.invariant-loop-i
 invariant-loop-i g l = l.i ≤ 6
 
-abbrev pub decreases-loop-i : goal.decreases-loop-i
-decreases-loop-i g l = 6 - l.i
