@@ -54,6 +54,18 @@ fn begins(line: &str) -> Option<&str> {
     rest.strip_prefix("fn ")?.split(['(', '<']).next()
 }
 
+// Whose room the proofs of an impl's functions have: the type's, or, where it is of a trait, that of both names.
+fn owner_of(kind: &str) -> String {
+    match kind.split_once(" for ") {
+        Some((of, owner)) => format!("{owner}{of}"),
+        None => kind.to_string(),
+    }
+}
+
+fn is_trait(line: &str) -> bool {
+    ["trait ", "pub trait ", "pub(crate) trait "].iter().any(|start| line.starts_with(start))
+}
+
 fn indent(line: &str) -> &str {
     &line[..line.len() - line.trim_start().len()]
 }
@@ -65,7 +77,11 @@ fn functions_of(at: usize, file: &File) -> Vec<Function> {
     while i < file.lines.len() {
         let line = &file.lines[i];
         if let Some(kind) = line.strip_prefix("impl ") {
-            owner = Some(kind.trim_end_matches(" {").to_string());
+            owner = Some(owner_of(kind.trim_end_matches(" {")));
+        } else if is_trait(line) {
+            // What a trait asks for stays.
+            i = (i..file.lines.len()).find(|&j| file.lines[j] == "}").unwrap_or(file.lines.len() - 1);
+            continue;
         } else if line == "}" {
             owner = None;
         }
