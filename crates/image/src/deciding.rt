@@ -13,8 +13,8 @@ use executive::decisions::Decision;
 use executive::{deciding, decisions};
 use records::{Call, Refusal, TaskNo, kinds, reading};
 
-// What the check has learned, and a decision need not look for again, as sets of a bit each: the tasks that wait until a
-// time, those that wait for flags, the alarms that are running.
+// What the check has learned, and a decision need not look for again, as sets of a bit each: the tasks that wait until
+// a time, those that wait for flags, the alarms that are running.
 #[derive(Clone, Copy)]
 pub(crate) struct Watched {
     pub(crate) timed: u16,

@@ -44,7 +44,8 @@ fn enter_all(b: &mut [u8; IMAGE], list: Entrants, q: Request, time: Millis) -> u
         return 0;
     }
     let mut walked: u8 = 0;
-    // By index: over the slice of those who enter, a step in which sixteen enter takes 96 instructions more on a Cortex-M3.
+    // By index: over the slice of those who enter, a step in which sixteen enter takes 96 instructions more on a
+    // Cortex-M3.
     for i in 0..list.count {
         let x = list.places[i as usize];
         walked += moves::enter(b, x.who, x.how, q, time);

@@ -97,6 +97,7 @@ fn notes_of(bytes: &[u8], given: &[Note]) -> Notes
     l
 }
 
+// A note of the list: the task and the rule.
 impl Block for Note {
     ghost WIDTH = { 2 };
 

@@ -1,7 +1,7 @@
 // Bytes moved within a lent buffer. Towards the front they go four at a time where there are as many: a Cortex-M3 then
 // moves them at once.
-// The slice's `copy_within` is not for the board's library: it hands on what is no number in a register, which the module
-// that is made for 32 bits may not have (tools/targets/clean.awk), and it moves byte by byte.
+// The slice's `copy_within` is not for the board's library: it hands on what is no number in a register, which the
+// module that is made for 32 bits may not have (tools/targets/clean.awk), and it moves byte by byte.
 ghost use Rattle.std.specs.Prelude.{◌≡◌, ◌+◌, ◌-◌, ◌*◌, ◌≤◌, ◌<◌, length, take, drop};
 ghost use Rattle.image.specs.Blocks.{written};
 ghost use Rattle.image.specs.Image.{image_length};

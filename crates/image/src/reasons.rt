@@ -76,6 +76,7 @@ fn until_of(cause: Cause) -> u64
     }
 }
 
+// A step of an answer: the task and its cause.
 impl Block for Step {
     ghost WIDTH = { 12 };
 

@@ -47,6 +47,7 @@ pub(crate) fn put_run(out: &mut [u8], at: usize, task: Task)
     numbers::put_byte(out, at + 11, task.end_waiter.0);
 }
 
+// A task's entry.
 impl Block for Task {
     ghost WIDTH = { task_length };
 
@@ -70,6 +71,7 @@ pub(crate) fn put_request(out: &mut [u8], at: usize, request: Request)
     put_both(out, at + 4, request.start_waiter.0, request.end_waiter.0);
 }
 
+// A request of the pool.
 impl Block for Request {
     ghost WIDTH = { 6 };
 
@@ -113,6 +115,7 @@ pub(crate) fn put_alarm(out: &mut [u8], at: usize, time: Millis)
     numbers::put_long(out, at, time.0);
 }
 
+// An alarm's time.
 impl Block for Millis {
     ghost WIDTH = { 8 };
 
@@ -144,6 +147,7 @@ fn put_all_awaited(out: &mut [u8; IMAGE], tasks: &[Task; 16])
     }
 }
 
+// A subprogram: its holder, how many wait, and its line.
 impl Block for Sub {
     ghost WIDTH = { sub_length };
 
@@ -167,6 +171,7 @@ pub(crate) fn put_message(out: &mut [u8], at: usize, message: Message)
     numbers::put_long(out, at + 3, message.text.0);
 }
 
+// A waiting message.
 impl Block for Message {
     ghost WIDTH = { message_length };
 
@@ -188,6 +193,7 @@ pub(crate) fn put_mail(out: &mut [u8], at: usize, mail: Mail)
     numbers::put_long(out, at + 1, mail.text.0);
 }
 
+// A task's mail.
 impl Block for Mail {
     ghost WIDTH = { mail_length };
 
