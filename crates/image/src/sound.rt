@@ -1,7 +1,7 @@
 // The check in place: whether bytes are the image of a well-formed table, held to its rules where they lie. No table is
 // loaded. What it learns of the tasks and the alarms on its way is handed on. Here and in the files of its parts a loop
 // counts in a byte: a usize has 64 bits, and a Cortex-M3 counts it in two registers.
-ghost use Rattle.std.specs.Prelude.{◌≡◌, true, ◌≤◌, length};
+ghost use Rattle.std.specs.Prelude.{◌≡◌, true, false, ◌≤◌, MatchOption};
 ghost use Rattle.executive.specs.Lists.{◌and◌, up_to};
 ghost use Rattle.executive.specs.Check.{is_well_formed};
 ghost use Rattle.image.specs.Image.{image_length, load_of, is_image};
@@ -14,54 +14,41 @@ use crate::{
 };
 use executive::{Millis, rules};
 
-// What the check finds: whether all is right; those of each kind, bit i for the task whose entry is the i-th; the
-// alarms that are running.
+// What the check learns where all is right: those of each kind, bit i for the task whose entry is the i-th; the alarms
+// that are running.
 #[derive(Clone, Copy)]
 pub(crate) struct Seen {
     pub(crate) sets: [u16; 10],
-    pub(crate) right: bool,
     pub(crate) running: u32,
 }
 
-// Bytes that are not right.
-const BROKEN: Seen = Seen {
-    sets: [0, 0, 0, 0, 0, 0, 0, 0, 0, 0],
-    right: false,
-    running: 0,
-};
-
 // The entries, the alarms and the ready queue keep their rules.
-pub(crate) fn begin(b: &[u8; IMAGE]) -> Seen
-    ensures { Begun b.now result.right result.sets result.running }
+fn begin(b: &[u8; IMAGE]) -> Option<Seen>
+    ensures { MatchOption result ((is_image b.now and is_well_formed (load_of b.now)) ≡ false)
+        (λ s. Begun b.now true s.sets s.running) }
 {
     let count = b[fields::COUNT];
     let time = numbers::long_in(b, fields::CLOCK);
     if !rules::in_bounds(count, b[fields::GRANULE], Millis(time), b[fields::QUEUED]) {
-        return BROKEN;
+        return None;
     }
     let flags = numbers::word_in(b, fields::FLAGS);
     if !sound_entries::entries_right(b, count, Millis(time), flags) {
-        return BROKEN;
+        return None;
     }
     if !sound_entries::blank_past(b, count) {
-        return BROKEN;
+        return None;
     }
-    let Some(running) = sound_entries::all_alarms(b, Millis(time)) else {
-        return BROKEN;
-    };
+    let running = sound_entries::all_alarms(b, Millis(time))?;
     let sets = sound_entries::kind_sets(b, count);
     if !sound_queue::queue_right(b, b[fields::READY], count, sets[1]) {
-        return BROKEN;
+        return None;
     }
-    Seen {
-        sets,
-        right: true,
-        running,
-    }
+    Some(Seen { sets, running })
 }
 
 // The requests, the subprograms, the messages and the mail keep their rules.
-pub(crate) fn lists_right(b: &[u8; IMAGE], sets: [u16; 10]) -> bool
+fn lists_right(b: &[u8; IMAGE], sets: [u16; 10]) -> bool
     requires { ((load_of b.now).rest.queued ≤ 32) × ((load_of b.now).rest.count ≤ 16)
         × KindsKnown b.now (load_of b.now).rest.count
         × Kinds (load_of b.now).rest.count sets (load_of b.now).tasks
@@ -81,19 +68,17 @@ pub(crate) fn lists_right(b: &[u8; IMAGE], sets: [u16; 10]) -> bool
     sound_post::mail_right(b, count)
 }
 
-// Whether the bytes are the image of a well-formed table, and what was learned of it.
-pub(crate) fn see(b: &[u8; IMAGE]) -> Seen
-    ensures { Sees b.now result.right result.sets result.running }
+// What was learned of the bytes, where they are the image of a well-formed table.
+pub(crate) fn see(b: &[u8; IMAGE]) -> Option<Seen>
+    ensures { MatchOption result ((is_image b.now and is_well_formed (load_of b.now)) ≡ false)
+        (λ s. Sees b.now true s.sets s.running) }
 {
-    let seen = begin(b);
-    if !seen.right {
-        return BROKEN;
-    }
+    let seen = begin(b)?;
     let sets = seen.sets;
     if !lists_right(b, sets) {
-        return BROKEN;
+        return None;
     }
-    seen
+    Some(seen)
 }
 
 // Whether they are, and no more.
@@ -103,10 +88,8 @@ pub(crate) fn is_sound(bytes: &[u8]) -> bool
     let Some(b) = bytes.as_array::<IMAGE>() else {
         return false;
     };
-    let seen = begin(b);
-    if !seen.right {
+    let Some(seen) = begin(b) else {
         return false;
-    }
-    let sets = seen.sets;
-    lists_right(b, sets)
+    };
+    lists_right(b, seen.sets)
 }

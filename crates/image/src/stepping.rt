@@ -81,10 +81,9 @@ pub fn act(image: &mut [u8], call: &[u8]) -> Answer
     let Some(b) = image.as_mut_array::<IMAGE>() else {
         return answers::no_table();
     };
-    let seen = sound::see(b);
-    if !seen.right {
+    let Some(seen) = sound::see(b) else {
         return answers::no_table();
-    }
+    };
     let sets = seen.sets;
     let w = Watched {
         timed: sets[2] | sets[3],

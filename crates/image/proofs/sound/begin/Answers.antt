@@ -1,5 +1,6 @@
 -- `sound::begin` meets its contract: the first part that is not right decides; else all of them are.
 use mathlib.Core.Path.{refl, sym, ◌∙◌}
+use mathlib.Core.List.{[]}
 use native.Mathlib.Omega.{arith}
 use Rattle.records.specs.Numbers.{Bytes}
 use Rattle.image.proofs.Alike.{never}
@@ -12,7 +13,7 @@ returns-then-not-in_bounds c =
     let s = c.args.b.now in
     let h : Bytes s = c.fits-b in
     let t = c.long_in-time in
-    rule-broken s h t.result _ t.ensures refl (λ z. never (sym (sym c.in_bounds.ensures ∙ c.if-not-in_bounds.true) ∙ z.bounds))
+    (rule-broken s h t.result _ t.ensures refl {ws = []} {r = 0} (λ z. never (sym (sym c.in_bounds.ensures ∙ c.if-not-in_bounds.true) ∙ z.bounds))).wrong refl
 
 pub returns-then-not-entries_right : goal.returns-then-not-entries_right
 returns-then-not-entries_right c =
@@ -21,7 +22,7 @@ returns-then-not-entries_right c =
     let t = c.long_in-time in
     let fs = c.word_in-flags in
     let n = few s c.long_in-time.result (sym c.in_bounds.ensures ∙ c.if-not-in_bounds.false) in
-    entries-broken s h t.result fs.result t.ensures fs.ensures c.told-b n (sym c.entries_right.ensures ∙ c.if-not-entries_right.true)
+    (entries-broken s h t.result fs.result t.ensures fs.ensures c.told-b n {ws = []} {r = 0} (sym c.entries_right.ensures ∙ c.if-not-entries_right.true)).wrong refl
 
 pub returns-then-not-blank_past : goal.returns-then-not-blank_past
 returns-then-not-blank_past c =
@@ -30,15 +31,15 @@ returns-then-not-blank_past c =
     let t = c.long_in-time in
     let fs = c.word_in-flags in
     let n = few s c.long_in-time.result (sym c.in_bounds.ensures ∙ c.if-not-in_bounds.false) in
-    blanks-broken s h t.result fs.result t.ensures fs.ensures c.told-b n (sym c.blank_past.ensures ∙ c.if-not-blank_past.true)
+    (blanks-broken s h t.result fs.result t.ensures fs.ensures c.told-b n {ws = []} {r = 0} (sym c.blank_past.ensures ∙ c.if-not-blank_past.true)).wrong refl
 
-pub returns-in_default : goal.returns-in_default
-returns-in_default c =
+pub returns-in_err-running : goal.returns-in_err-running
+returns-in_err-running c =
     let s = c.args.b.now in
     let h : Bytes s = c.fits-b in
     let t = c.long_in-time in
     let fs = c.word_in-flags in
-    rule-broken s h t.result fs.result t.ensures fs.ensures (λ z. never (c.in_default.ensures.right ∙ z.alarms))
+    rw c.from_residual.ensures ((rule-broken s h t.result fs.result t.ensures fs.ensures {ws = []} {r = 0} (λ z. never (c.in_err-running.ensures.right ∙ z.alarms))).wrong refl)
 
 pub returns-then-not-queue_right : goal.returns-then-not-queue_right
 returns-then-not-queue_right c =
@@ -47,7 +48,7 @@ returns-then-not-queue_right c =
     let t = c.long_in-time in
     let fs = c.word_in-flags in
     let e = c.queue_right.ensures in
-    rule-broken s h t.result fs.result t.ensures fs.ensures (λ z. never (sym (sym e ∙ c.if-not-queue_right.true) ∙ z.queue))
+    (rule-broken s h t.result fs.result t.ensures fs.ensures {ws = []} {r = 0} (λ z. never (sym (sym e ∙ c.if-not-queue_right.true) ∙ z.queue))).wrong refl
 
 pub returns : goal.returns
 returns c =
@@ -60,9 +61,9 @@ returns c =
     let zs = sym c.blank_past.ensures ∙ c.if-not-blank_past.false in
     let bs = sym c.in_bounds.ensures ∙ c.if-not-in_bounds.false in
     begun-right s h t.result fs.result t.ensures fs.ensures c.told-b n es zs bs
-    (sym c.in-Some.ensures.right)
+    (sym c.in_ok-running.ensures.right)
     (sym c.queue_right.ensures ∙ c.if-not-queue_right.false)
-    c.kind_sets-sets.ensures c.in-Some.ensures.running
+    c.kind_sets-sets.ensures c.in_ok-running.ensures.running
 
 pub kind_sets-sets-requires : goal.kind_sets-sets-requires
 kind_sets-sets-requires c =

@@ -1,6 +1,5 @@
 -- `stepping::act` meets its contract: bytes that are no image of a well-formed table are refused and kept; else it is the step.
-use mathlib.Core.Path.{sym, ◌∙◌}
-use borrow.Author.Tests.{not-true, not-false}
+use mathlib.Core.Path.{refl, sym, ◌∙◌}
 use Rattle.executive.proofs.Assured.{and_true, and_false_left}
 use Rattle.image.specs.Image.{is_image}
 use Rattle.image.proofs.Canonical.{not-long}
@@ -13,23 +12,21 @@ returns-in_default c =
     let s = c.args.image.now in
     rw c.no_table.ensures (act_refused s c.args.call.now (sym (and_false_left (is_image s) _ (sym (not-long s c.in_default.ensures.cases)))))
 
-pub returns-then-not-seen : goal.returns-then-not-seen
-returns-then-not-seen c =
-    let e = rw c.in-Some.ensures.cases.same at c.see-seen.ensures in
-    let k = act_refused c.args.image.now c.args.call.now (sym e.told ∙ not-true _ c.if-not-seen.true) in
-    rw (c.no_table-then-not-seen.ensures, c.in-Some.ensures.cases.same) k
+pub returns-in_default-see : goal.returns-in_default-see
+returns-in_default-see c =
+    let e = rw c.in-Some.ensures.cases.same at c.in_default-see.ensures in
+    rw (c.no_table-in_default-see.ensures, c.in-Some.ensures.cases.same) (act_refused c.args.image.now c.args.call.now e)
 
 pub step-requires : goal.step-requires
 step-requires c =
     let s = c.in-Some.b.now in
-    let e = c.see-seen.ensures in
-    let r = not-false _ c.if-not-seen.false in
-    let b = and_true (is_image s) _ (sym e.told ∙ r) in
-    (b.0, b.1, learned s b.1 _ _ (e.kinds r) (e.alarms r))
+    let e = c.in-Some-see.ensures in
+    let b = and_true (is_image s) _ (sym e.told) in
+    (b.0, b.1, learned s b.1 _ _ (e.kinds refl) (e.alarms refl))
 
 pub returns : goal.returns
 returns c =
     let s = c.in-Some.b.now in
-    let b = and_true (is_image s) _ (sym c.see-seen.ensures.told ∙ not-false _ c.if-not-seen.false) in
+    let b = and_true (is_image s) _ (sym c.in-Some-see.ensures.told) in
     let e = c.step.ensures in
     rw c.in-Some.ensures.cases.same at (act_said s c.args.call.now c.step.result b.0 e.0 e.1.0 e.1.1)
