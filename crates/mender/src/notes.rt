@@ -21,7 +21,7 @@ fn note_rule(count: u8, b: Option<Rule>, e: Task, f: Task) -> Option<Rule>
     if let Some(rule) = b {
         return Some(rule);
     }
-    if e.end_waiter.0 != f.end_waiter.0 {
+    if e.end_waiter != f.end_waiter {
         if count < e.end_waiter.0 {
             return Some(Rule::Range);
         }

@@ -5,6 +5,7 @@ ghost use Rattle.scan.specs.Step.{answer_scan, refused_scan, scan_of, Scans};
 
 use crate::{Scan, Scanned, moves};
 use executive::{Answer, Marks, answers, deciding, places};
+use records::Refusal;
 
 impl Scanned {
     // The answer with a number, marks and how far those that entered walked: the active task and its run's argument,
@@ -72,6 +73,6 @@ impl Scanned {
         if self.arrivals_right() {
             return self.perform(bytes);
         }
-        self.refuse(1)
+        self.refuse(Refusal::NoTable.into())
     }
 }

@@ -11,7 +11,7 @@ use records::{SubNo, TaskNo};
 fn ahead(queue: &[TaskNo], k: TaskNo) -> usize
     ensures { (result ≡ ahead_in k.0 queue.now) × (result ≤ length queue.now) }
 {
-    queue.iter().position(|x| k.0 == x.0).unwrap_or(queue.len())
+    queue.iter().position(|x| k == *x).unwrap_or(queue.len())
 }
 
 // Whom a request names as the waiter for its start, or else for the end of the run that it begins.
@@ -28,7 +28,7 @@ fn waiter_of(q: Request, at_start: bool) -> TaskNo
 fn named_at(pool: &[Request], at_start: bool, k: TaskNo) -> Option<usize>
     ensures { NamedAt at_start k.0 pool.now result }
 {
-    pool.iter().position(|q| k.0 == waiter_of(*q, at_start).0)
+    pool.iter().position(|q| k == waiter_of(*q, at_start))
 }
 
 // The first task whose run names a task as the waiter for its end; 17 where none does, as the definition `run_at` counts.
@@ -37,7 +37,7 @@ fn run_at(tasks: [Task; 16], k: TaskNo) -> u8
 {
     let i = tasks
         .iter()
-        .position(|e| k.0 == e.end_waiter.0)
+        .position(|e| k == e.end_waiter)
         .unwrap_or(16);
     i as u8 + 1
 }

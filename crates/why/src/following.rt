@@ -38,7 +38,7 @@ pub fn no_table() -> Reasons
 fn met_at(path: &[Step], k: TaskNo) -> Option<usize>
     ensures { MetAt k.0 path.now result }
 {
-    path.iter().position(|s| k.0 == s.task.0)
+    path.iter().position(|s| k == s.task)
 }
 
 // The path with one step more.

@@ -1,4 +1,5 @@
-use mathlib.Core.Path.{sym, ◌∙◌}
+use mathlib.Core.Path.{sym, ap, ◌∙◌}
+use Rattle.scan.specs.Step.{refused_scan}
 use Rattle.scan.proofs.Stepping.{step-broken}
 use Rattle.scan.proofs.Scanned.step.Goals as goal
 
@@ -9,4 +10,4 @@ pub returns-then-arrivals_right : goal.returns-then-arrivals_right
 returns-then-arrivals_right c = c.perform.ensures
 
 pub returns : goal.returns
-returns c = c.refuse.ensures ∙ step-broken c.args.self c.args.bytes.now (sym c.arrivals_right.ensures ∙ c.if-arrivals_right.false)
+returns c = c.refuse.ensures ∙ ap (refused_scan c.args.self) c.into.ensures ∙ step-broken c.args.self c.args.bytes.now (sym c.arrivals_right.ensures ∙ c.if-arrivals_right.false)
