@@ -9,7 +9,8 @@ use crate::{
     waiters,
 };
 
-// The requests, their waiters and those of the runs; the pool's free places are last and zero.
+// The requests, their waiters and those of the runs; the pool's free places are last and zero. The pool with its count,
+// and no slice: both its parts are looked at.
 fn pool_right(tasks: &[Task; 16], pool: &[Request; 32], queued: usize, count: u8) -> bool
     requires { queued ≤ 32 }
     ensures { result ≡ asked_right tasks.now count queued pool.now }

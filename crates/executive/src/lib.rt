@@ -166,7 +166,7 @@ pub struct Marks {
 
 // What a step answers: its number, Z, V and C, the active task (0 when idle) and its run's argument; how many grid
 // times a restart passed over; how many ready tasks were passed over by those that entered; the sender and the text of
-// the message that a receive hands out.
+// the message that a receive hands out. A number and no error: it is the byte that the C interface hands out.
 #[derive(Clone, Copy)]
 pub struct Answer {
     pub number: u8,

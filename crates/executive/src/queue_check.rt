@@ -57,7 +57,7 @@ fn tally(line: &[TaskNo]) -> [u8; 17]
 }
 
 // Whether a task that stands n times in a line stands there as often as its state says: once if it is of the line's
-// kind and waits for its number, else never.
+// kind and waits for its number, else never. A kind and a number, and no closure: `is_as` is stated of them.
 #[tactic(auto, using(crate::proofs::Lists::Tests::bytes))]
 fn exact_at(s: State, n: u8, kind: u8, number: u8) -> bool
     ensures { result ≡ eqb n (one (is_as kind number s)) }

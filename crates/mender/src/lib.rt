@@ -37,7 +37,8 @@ pub struct Note {
     pub rule: u8,
 }
 
-// What mending makes: its number, 0 or 17, the table, and the list: its first `noted` places are taken.
+// What mending makes: its number, 0 or 17, the table, and the list: its first `noted` places are taken. A
+// number and no Result: `mending::mend` is public, and its contract says what the table and the list are with 17 too.
 #[derive(Clone, Copy)]
 pub struct Mended {
     pub number: u8,

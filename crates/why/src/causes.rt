@@ -35,10 +35,7 @@ fn named_at(pool: &[Request], at_start: bool, k: TaskNo) -> Option<usize>
 fn run_at(tasks: [Task; 16], k: TaskNo) -> u8
     ensures { result ≡ run_at k.0 tasks }
 {
-    let i = tasks
-        .iter()
-        .position(|e| k == e.end_waiter)
-        .unwrap_or(16);
+    let i = tasks.iter().position(|e| k == e.end_waiter).unwrap_or(16);
     i as u8 + 1
 }
 
