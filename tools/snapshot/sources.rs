@@ -76,6 +76,13 @@ fn clause(source: &str, end: usize) -> Option<usize> {
     Some(brace).filter(|b| source[*b..].starts_with('{'))
 }
 
+// The brace of a ghost member whose name begins at a place: `NAME = {` or `NAME: {`.
+fn member(source: &str, start: usize) -> Option<usize> {
+    let mark = run(source, run(source, start, is_word), char::is_whitespace);
+    let brace = run(source, mark + 1, char::is_whitespace);
+    Some(brace).filter(|b| source[mark..].starts_with(['=', ':']) && source[*b..].starts_with('{'))
+}
+
 // The piece that begins with a word's character: a word, a clause with its term, or a `ghost use` up to its semicolon.
 fn worded(path: &str, source: &str, start: usize) -> Result<Piece, String> {
     let end = run(source, start, is_word);
@@ -86,7 +93,10 @@ fn worded(path: &str, source: &str, start: usize) -> Result<Piece, String> {
     }
     match (word, source[next..].starts_with("use")) {
         ("ghost", true) => Ok(Piece { kind: Kind::Ghost, start, end: run(source, start, |c| c != ';') }),
-        ("ghost", false) => Err(format!("{}: 'ghost' is not read here.", text::at(path, source, start))),
+        ("ghost", false) => match member(source, next) {
+            Some(brace) => Ok(Piece { kind: Kind::Clause, start, end: braced(source, brace) }),
+            None => Err(format!("{}: 'ghost' is not read here.", text::at(path, source, start))),
+        },
         _ => Ok(Piece { kind: Kind::Word, start, end }),
     }
 }
@@ -214,6 +224,19 @@ fn function(code: &Code, file: &mut File, a: usize, n: usize, public: bool, owne
     end
 }
 
+// What an `impl` of a trait at n states, up to its body's end: of a conversion, what it gives, which its ghost member
+// says. The traits of the repository are its own affair.
+fn stated(code: &Code, file: &mut File, n: usize, body: usize) -> usize {
+    let end = code.closed(body);
+    let given = (body..end).find(|m| code.pieces[*m].kind == Kind::Clause && code.word(*m).starts_with("ghost"));
+    if let (true, Some(ghost)) = (["From", "TryFrom"].contains(&code.word(n + 1)), given) {
+        let mut item = code.item(code.word(n + 1).to_string(), n, ghost + 2, true, None);
+        item.lines.push("}".to_string());
+        file.items.push(item);
+    }
+    end
+}
+
 // What stands before a declaration's own word: whether it is public, and where that word is.
 fn marks(code: &Code, first: usize) -> (bool, usize) {
     let mut n = first;
@@ -273,6 +296,10 @@ fn declarations(code: &Code, file: &mut File, from: usize, end: usize, owner: Op
                 declarations(code, file, n + 3, stop - 1, Some(code.word(n + 1)))?;
                 stop
             }
+            ("impl", _) if owner.is_none() && (n..code.until(n, &["{"])).any(|m| code.word(m) == "for") => {
+                stated(code, file, n, code.until(n, &["{"]))
+            }
+            ("trait", _) if !public => code.closed(code.until(n, &["{"])),
             _ => return code.refuse(n),
         };
     }

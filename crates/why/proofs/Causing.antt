@@ -1,11 +1,12 @@
 -- The laws of a task's cause: the request at a place, the queue as it is looked at, the flags that are missing.
-use Prim.Native.Nat.{ℕ, zero, suc, ◌+◌, ◌-◌, ◌<◌}
+use Prim.Native.Nat.{ℕ, zero, suc, ◌+◌, ◌-◌, ◌≤◌, ◌<◌}
 use mathlib.Core.Path.{◌≡◌, refl, sym, ap, ◌∙◌}
 use mathlib.Core.List.{List, [], ◌∷◌}
 use native.Mathlib.Omega.{arith}
 use native.Mathlib.Numerals.{add-one}
 use lib.Dec.{eqb}
-use lib.ListN.{length, get_or, get_or-eq_default}
+use lib.ListN.{length, get_or, take, get_or-eq_default}
+use lib.Seq.{get_or-take}
 use Rattle.records.specs.declared.TaskNo.{TaskNo}
 use Rattle.executive.specs.declared.State.{State}
 use Rattle.executive.specs.declared.Table.{Table}
@@ -34,6 +35,14 @@ module _ (rs : List Request) where
   pub target_next : (i : ℕ) → (get_or rs i no_request).target ≡ target_at (i + 1) rs
   unfolding target_at
   target_next i = rw (add-one i) refl
+
+-- in an array of which n places are taken
+pub target_none : (rs : List Request) → nobody ≡ target_at 0 rs
+unfolding target_at
+target_none rs = refl
+
+pub target_in : (l : List Request) (n p : ℕ) → 0 < p → p ≤ n → (get_or l (p - 1) no_request).target ≡ target_at p (take n l)
+target_in l n p h g = ap (λ (r : Request). r.target) (sym (get_or-take n l (p - 1) no_request (omega arith))) ∙ target_is (take n l) p h
 
 -- ---- the queue of items is looked at by the numbers alone
 next-suc : (k b : ℕ) (q : List TaskNo) → next_of (λ (x : TaskNo). eqb k x.0) (suc b) q ≡ suc (next_of (λ (x : TaskNo). eqb k x.0) b q)

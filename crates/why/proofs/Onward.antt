@@ -10,17 +10,12 @@ use Rattle.records.specs.declared.TaskNo.{TaskNo}
 use Rattle.executive.specs.declared.Table.{Table}
 use Rattle.why.specs.declared.Cause.{Cause}
 use Rattle.why.specs.declared.Reasons.{Reasons}
-use Rattle.std.specs.declared.option.Option.{Option}
-use Rattle.std.specs.declared.option.Option.TheVariants.{None, Some}
-use Rattle.executive.specs.declared.State.{State}
-use Rattle.executive.specs.declared.State.TheVariants as state
 use Rattle.executive.specs.Lists.{next_of}
-use Rattle.executive.specs.Pool.{requests}
 use Rattle.why.specs.declared.Step.{Step}
-use Rattle.why.specs.Causes.{state_at, target_at, cause_in, cause_of, awaited}
+use Rattle.why.specs.Causes.{cause_of}
 use Rattle.why.specs.declared.Cause.TheVariants as cause
-use Rattle.why.specs.On.{On}
-use Rattle.why.specs.On as on
+use Rattle.why.specs.declared.On.{On}
+use Rattle.why.specs.declared.On.TheVariants as on
 use Rattle.why.specs.Paths.{met_at, longer, closed, unmet, by_link, by_cause, task_path, link_path}
 
 module _ (t : Table) (k : TaskNo) (p : Reasons) where
@@ -49,53 +44,14 @@ module _ (t : Table) (k : TaskNo) (p : Reasons) where
     unfolding task_path
     path_more left = rw (le-ltb met p.length new) refl
 
--- ---- where it goes on: at the task that the cause names, if it names one
-abbrev pub gone_on : (TaskNo → Reasons) → Option TaskNo → Reasons → Reasons
-gone_on go None p = p
-gone_on go (Some j) p = go j
-
-pub led : (go : TaskNo → Reasons) (r : Option TaskNo) (p q : Reasons) → gone_on go r p ≡ q → (k : TaskNo) → r ≡ Some k → go k ≡ q
-led go r p q h k e = sym (ap (λ x. gone_on go x p) e) ∙ h
-
-module _ (t : Table) (k : ℕ) (go : TaskNo → Reasons) (p : Reasons) where
-  goes : (c : Cause) → Type 0
-  goes c = by_cause (by_link go t) c p ≡ gone_on go (awaited c) p
-
-  ready-goes : (b : Bool) (n : ℕ) → goes (cond b cause.Active (cause.Ready n))
-  unfolding goes
-  ready-goes true n = refl
-  ready-goes false n = refl
-
-  end-goes : (b : Bool) (i : ℕ) (j : TaskNo) → goes (cond b (cause.EndOfRequest i (target_at i (requests t.rest))) (cause.EndOfRun j))
-  unfolding goes
-  end-goes true i j = refl
-  end-goes false i j = refl
-
-  state-goes : (s : State) → goes (cause_in t k s)
-  unfolding goes
-  state-goes state.Dormant = refl
-  state-goes state.Ready = ready-goes _ _
-  state-goes (state.Paused at) = refl
-  state-goes (state.Due at) = refl
-  state-goes (state.Flags m x) = refl
-  state-goes state.AwaitStart = refl
-  state-goes state.AwaitEnd = end-goes _ _ _
-  state-goes (state.AwaitSub m) = refl
-  state-goes (state.AwaitMessage j) = refl
-
-  cause-goes : by_cause (by_link go t) (cause_of t k) p ≡ gone_on go (awaited (cause_of t k)) p
-  unfolding cause_of goes
-  cause-goes = state-goes (state_at t k)
-
--- the step of a task that has not been met: o is the path with it, and r where it goes on
-pub path_on : (t : Table) (k : TaskNo) (p o : Reasons) (c : Cause) (r : Option TaskNo) → p.length ≤ met t k p → p.length < 16
-    → c ≡ cause_of t k.0 → o ≡ longer p k c → r ≡ awaited c → gone_on (λ j. task_path (unmet o) t j o) r o ≡ task_path (unmet p) t k p
-path_on t k p o c r new h e f g =
+-- the step of a task that has not been met: its cause c, as the code has it, decides, and o is the path with this step
+pub path_on : (t : Table) (k : TaskNo) (p : Reasons) → p.length ≤ met t k p → p.length < 16 → {c d : Cause} {o r : Reasons} → c ≡ cause_of t k.0
+    → o ≡ longer p k c → c ≡ d → r ≡ by_cause (λ l. link_path (unmet o) t l o) d o → r ≡ task_path (unmet p) t k p
+path_on t k p new h {c} {d} {o} {r} e f g i =
     let n : unmet p ≡ suc (unmet o) = omega (arith, ap (λ (x : Reasons). x.length) f) in
     let q : o ≡ longer p k (cause_of t k.0) = f ∙ ap (longer p k) e in
-    ap (λ x. gone_on (λ j. task_path (unmet o) t j o) x o) (g ∙ ap awaited e)
-    ∙ ap (λ (x : Reasons). gone_on (λ j. task_path (unmet o) t j x) (awaited (cause_of t k.0)) x) q
-    ∙ sym (cause-goes t k.0 (λ j. task_path (unmet o) t j (longer p k (cause_of t k.0))) (longer p k (cause_of t k.0)))
+    i ∙ ap (λ (x : Cause). by_cause (λ l. link_path (unmet o) t l o) x o) (sym g ∙ e)
+    ∙ ap (λ (x : Reasons). by_cause (λ l. link_path (unmet o) t l x) (cause_of t k.0) x) q
     ∙ sym (path_more t k p new (unmet o)) ∙ ap (λ m. task_path m t k p) (sym n)
 
 -- ---- a path on its way keeps what the steps do not touch

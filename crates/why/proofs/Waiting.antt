@@ -25,7 +25,7 @@ use Rattle.executive.specs.WellFormed.{WellFormed, Line}
 use Rattle.why.specs.declared.Cause.{Cause}
 use Rattle.why.specs.declared.Cause.TheVariants as cause
 use Rattle.why.specs.declared.Reasons.{Reasons}
-use Rattle.why.specs.On.{On}
+use Rattle.why.specs.declared.On.{On}
 use Rattle.why.specs.Causes.{state_at, holder_at, cause_of, NamedBy, Holds, Names, WaitsOn}
 use Rattle.why.specs.Paths.{by_link, by_cause}
 use Rattle.why.proofs.Searching.{decide}

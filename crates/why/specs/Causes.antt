@@ -1,5 +1,5 @@
 -- Why a task is not running, as it is computed; and, apart from that, what it means that a cause holds of a task.
-use Rattle.std.specs.Prelude.{ℕ, zero, suc, ◌-◌, ◌≤◌, ◌<◌, ◌≡◌, ◌↔◌, Bool, true, false, cond, List, Option, Some, None, MatchOption, ◌+◌, eqb, leb, length, get_or}
+use Rattle.std.specs.Prelude.{ℕ, zero, suc, ◌-◌, ◌≤◌, ◌<◌, ◌≡◌, ◌↔◌, Bool, true, false, cond, List, Option, MatchOption, ◌+◌, eqb, leb, length, get_or}
 use Rattle.std.specs.Int.Bits.{bit_and}
 use Rattle.records.specs.declared.TaskNo.{TaskNo}
 use Rattle.records.specs.declared.SubNo.{SubNo}
@@ -129,20 +129,6 @@ Names (cause.EndOfRequest p i) j = i.0 ≡ j
 Names (cause.EndOfRun i) j = i.0 ≡ j
 Names (cause.Subprogram m i) j = i.0 ≡ j
 Names (cause.Message s) j = ⊥
-
--- the task that it names, as an answer
-abbrev pub awaited : Cause → Option TaskNo
-awaited cause.Dormant = None
-awaited cause.Active = None
-awaited (cause.Ready n) = None
-awaited (cause.Paused at) = None
-awaited (cause.Due at) = None
-awaited (cause.Flags m x) = None
-awaited (cause.Start p j) = Some j
-awaited (cause.EndOfRequest p j) = Some j
-awaited (cause.EndOfRun j) = Some j
-awaited (cause.Subprogram m j) = Some j
-awaited (cause.Message s) = None
 
 -- some cause that names j holds of k
 abbrev pub WaitsOn : Table → ℕ → ℕ → Type 0

@@ -11,8 +11,8 @@ use Rattle.why.specs.declared.Cause.{Cause}
 use Rattle.why.specs.declared.Cause.TheVariants as cause
 use Rattle.why.specs.declared.Step.{Step}
 use Rattle.why.specs.declared.Reasons.{Reasons}
-use Rattle.why.specs.On.{On}
-use Rattle.why.specs.On as on
+use Rattle.why.specs.declared.On.{On}
+use Rattle.why.specs.declared.On.TheVariants as on
 use Rattle.why.specs.Causes.{target_at, holder_at, cause_of}
 
 abbrev pub no_step : Step

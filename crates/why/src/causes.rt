@@ -1,7 +1,7 @@
 // Why a task is not running: its state and, where it waits for another, the request or the run that names it, or the
 // subprogram that the other holds.
-ghost use Rattle.std.specs.Prelude.{◌≡◌, ◌≤◌, length};
-ghost use Rattle.why.specs.Causes.{Sized, ahead_in, waiter_of, NamedAt, run_at, holder_at, missing, ready_cause, start_cause, end_cause, sub_cause, cause_of, awaited};
+ghost use Rattle.std.specs.Prelude.{◌≡◌, ◌≤◌, length, take};
+ghost use Rattle.why.specs.Causes.{Sized, ahead_in, waiter_of, NamedAt, run_at, holder_at, missing, ready_cause, start_cause, end_cause, sub_cause, cause_of, target_at};
 
 use crate::Cause;
 use executive::{Request, State, Sub, Table, Task, places};
@@ -39,8 +39,22 @@ fn run_at(tasks: [Task; 16], k: TaskNo) -> u8
     i as u8 + 1
 }
 
+// The task of the queued request at a place, from 1; nobody where there is none.
+pub(crate) fn target_at(pool: [Request; 32], queued: u8, place: u8) -> TaskNo
+    requires { queued ≤ 32 }
+    ensures { result ≡ target_at place (take queued pool) }
+{
+    if place == 0 {
+        return TaskNo(0);
+    }
+    if queued < place {
+        return TaskNo(0);
+    }
+    pool[(place - 1) as usize].target
+}
+
 // The holder of a subprogram; nobody where it is free, and where there is none of that number.
-fn holder_at(subs: [Sub; 8], m: SubNo) -> TaskNo
+pub(crate) fn holder_at(subs: [Sub; 8], m: SubNo) -> TaskNo
     ensures { result ≡ holder_at m.0 subs }
 {
     if 7 < m.0 {
@@ -115,18 +129,5 @@ pub(crate) fn cause_of(t: Table, k: TaskNo) -> Cause
         State::AwaitEnd => by_end(t.tasks, pool, k),
         State::AwaitSub(m) => by_sub(t.rest.subs, m),
         State::AwaitMessage(s) => Cause::Message(s),
-    }
-}
-
-// The task that a cause names.
-pub(crate) fn awaited(cause: Cause) -> Option<TaskNo>
-    ensures { result ≡ awaited cause }
-{
-    match cause {
-        Cause::Start(_, j) | Cause::EndOfRequest(_, j) => Some(j),
-        Cause::EndOfRun(j) | Cause::Subprogram(_, j) => Some(j),
-        Cause::Dormant | Cause::Active | Cause::Ready(_) => None,
-        Cause::Paused(_) | Cause::Due(_) => None,
-        Cause::Flags(_, _) | Cause::Message(_) => None,
     }
 }

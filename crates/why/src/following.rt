@@ -1,10 +1,9 @@
 // The path from a task to whom it waits for.
 ghost use Rattle.std.specs.Prelude.{◌≡◌, false, ◌≤◌, ◌<◌, length};
-ghost use Rattle.executive.specs.Numbers.{most_tasks};
 ghost use Rattle.why.specs.Causes.{Sized};
-ghost use Rattle.why.specs.Paths.{MetAt, longer, closed, task_path, refusal, Explains, IsNoTable};
+ghost use Rattle.why.specs.Paths.{MetAt, longer, closed, unmet, task_path, link_path, refusal, Explains, IsNoTable};
 
-use crate::{Cause, Reasons, Step, causes};
+use crate::{Cause, On, Reasons, Step, causes};
 use executive::{Table, refusals};
 use records::TaskNo;
 
@@ -60,25 +59,53 @@ fn with_ring(mut path: Reasons, place: u8) -> Reasons
     path
 }
 
-// The path from a task: one that has been met closes a ring; any other is a step, and leads on to whom its cause names.
-fn path_from(t: Table, k: TaskNo) -> Reasons
-    requires { Sized t }
-    ensures { result ≡ task_path most_tasks t k (refusal 0 false) }
+// Goes on at a task: one that has been met closes a ring; any other is a step, and leads on to what it waits for. The two
+// functions call each other, as document 01 has it for a task that waits for a request that waits for a task.
+#[cycle(follow_link_follow_task)]
+fn follow_task(t: Table, k: TaskNo, path: Reasons) -> Reasons
+    requires { Sized t × (path.length ≤ 16) }
+    ensures { result ≡ task_path (unmet path) t k path }
 {
-    let mut path = none(0, false);
-    let mut next = Some(k);
-    while let Some(k) = next {
-        if let Some(place) = met_at(&path.steps[..path.length as usize], k) {
-            return with_ring(path, place as u8);
-        }
-        if 16 <= path.length {
-            return path;
-        }
-        let cause = causes::cause_of(t, k);
-        path = with_step(path, k, cause);
-        next = causes::awaited(cause);
+    if let Some(place) = met_at(&path.steps[..path.length as usize], k) {
+        return with_ring(path, place as u8);
     }
-    path
+    if 16 <= path.length {
+        return path;
+    }
+    let cause = causes::cause_of(t, k);
+    let on = with_step(path, k, cause);
+    match cause {
+        Cause::Dormant => on,
+        Cause::Active => on,
+        Cause::Ready(_) => on,
+        Cause::Paused(_) => on,
+        Cause::Due(_) => on,
+        Cause::Flags(_, _) => on,
+        Cause::Start(p, _) => follow_link(t, On::Request(p), on),
+        Cause::EndOfRequest(p, _) => follow_link(t, On::Request(p), on),
+        Cause::EndOfRun(j) => follow_link(t, On::Run(j), on),
+        Cause::Subprogram(m, _) => follow_link(t, On::Held(m), on),
+        Cause::Message(_) => on,
+    }
+}
+
+// Goes on at the task of what is waited for.
+#[cycle(follow_link_follow_task)]
+fn follow_link(t: Table, on: On, path: Reasons) -> Reasons
+    requires { Sized t × (path.length ≤ 16) }
+    ensures { result ≡ link_path (unmet path) t on path }
+{
+    match on {
+        On::Request(p) => {
+            let k = causes::target_at(t.rest.pool, t.rest.queued, p);
+            follow_task(t, k, path)
+        }
+        On::Run(k) => follow_task(t, k, path),
+        On::Held(m) => {
+            let k = causes::holder_at(t.rest.subs, m);
+            follow_task(t, k, path)
+        }
+    }
 }
 
 // Why a task is not running: 1 where the table is not well formed, 6 with V where it has no such task, else the path.
@@ -91,5 +118,6 @@ pub fn explain(table: Table, task: TaskNo) -> Reasons
     if refusals::no_such_task(table.rest.count, task) {
         return none(6, true);
     }
-    path_from(table, task)
+    let start = none(0, false);
+    follow_task(table, task, start)
 }

@@ -46,3 +46,11 @@ pub struct Reasons {
     pub length: u8,
     pub ring: u8,
 }
+
+// What a task waits for: the queued request at a place, from 1, a task's run, or a subprogram that is held.
+#[derive(Clone, Copy)]
+enum On {
+    Request(u8),
+    Run(TaskNo),
+    Held(SubNo),
+}

@@ -1,6 +1,8 @@
 -- `following::explain` meets its contract: the check, the task's number, and then the path.
 use native.Mathlib.Omega.{arith}
-use mathlib.Core.Path.{sym, ◌∙◌}
+use mathlib.Core.Path.{sym, ap, ◌∙◌}
+use Rattle.why.specs.declared.Reasons.{Reasons}
+use Rattle.why.specs.Paths.{unmet, task_path}
 use Rattle.why.proofs.Answering.{formed-by, ill-by, answer-one, answer-none, answer-some}
 use Rattle.why.proofs.following.explain.Goals as goal
 
@@ -19,4 +21,4 @@ pub returns : goal.returns
 returns c =
     let a = c.args in
     let w = formed-by a.table c.check.result c.check.ensures (omega (arith, c.if-check-ne0.false)) in
-    c.path_from.ensures ∙ sym (answer-some a.table a.task w (sym c.no_such_task.ensures ∙ c.if-no_such_task.false))
+    c.follow_task.ensures ∙ ap (λ (x : Reasons). task_path (unmet x) a.table a.task x) c.none-start.ensures ∙ sym (answer-some a.table a.task w (sym c.no_such_task.ensures ∙ c.if-no_such_task.false))
