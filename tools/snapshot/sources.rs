@@ -229,8 +229,9 @@ fn function(code: &Code, file: &mut File, a: usize, n: usize, public: bool, owne
 fn stated(code: &Code, file: &mut File, n: usize, body: usize) -> usize {
     let end = code.closed(body);
     let given = (body..end).find(|m| code.pieces[*m].kind == Kind::Clause && code.word(*m).starts_with("ghost"));
-    if let (true, Some(ghost)) = (["From", "TryFrom"].contains(&code.word(n + 1)), given) {
-        let mut item = code.item(code.word(n + 1).to_string(), n, ghost + 2, true, None);
+    let conversion = [("From", "from"), ("TryFrom", "try_from")].into_iter().find(|(of, _)| *of == code.word(n + 1));
+    if let (Some((_, name)), Some(ghost)) = (conversion, given) {
+        let mut item = code.item(name.to_string(), n, ghost + 2, true, None);
         item.lines.push("}".to_string());
         file.items.push(item);
     }
