@@ -91,7 +91,9 @@ fn functions_of(at: usize, file: &File) -> Vec<Function> {
             let end = end.unwrap_or_else(|| fail(&format!("{name} in {} has no end", file.path.display())));
             let text = file.lines[i..=end].join("\n");
             let (module, owner) = (module.clone(), owner.clone());
-            found.push(Function { file: at, lines: i..=end, module, owner, name: name.into(), text });
+            // Its attributes go with it.
+            let first = (0..i).rev().find(|&j| !file.lines[j].trim_start().starts_with("#[")).map_or(0, |j| j + 1);
+            found.push(Function { file: at, lines: first..=end, module, owner, name: name.into(), text });
             i = end;
         }
         i += 1;
