@@ -18,6 +18,7 @@ fn first(length: usize, number: u8, active: TaskNo) -> Next
     ensures { result ≡ first_of length number active }
 {
     if MOST_BYTES < length {
+        // A number: the line of the listing has it, and 12 is no `Refusal`.
         return Next::Stop(12);
     }
     if number == 0 {

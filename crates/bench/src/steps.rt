@@ -7,6 +7,7 @@ use crate::lines;
 use records::{kinds, reading};
 
 // The length that the first byte promises; 0 for what is no call's kind.
+// A number: the definition `step_length` is stated so.
 fn step_length(left: &[u8]) -> usize
     ensures { result ≡ step_length left.now }
 {

@@ -13,6 +13,7 @@ const PIECE: usize = 65536;
 fn tell(input: &[u8], writer: &mut impl Write) -> io::Result<()> {
     let mut out = [0u8; PIECE];
     let mut run = listing::start(input);
+    // A while: a turn tells as much as goes into the buffer.
     while run.next.is_some() {
         let filled = listing::fill(input, run, &mut out);
         writer.write_all(&out[..filled.used])?;

@@ -3,6 +3,7 @@ ghost use Rattle.std.specs.Prelude.{◌≡◌, ◌<◌};
 ghost use Rattle.blocks.specs.Hex.{digit_of, InHex};
 
 // The digit of a number below 16, in upper case.
+// By hand, as in `text`: this crate rests on `records` alone.
 fn digit(d: u8) -> u8
     requires { d < 16 }
     ensures { result ≡ digit_of d }

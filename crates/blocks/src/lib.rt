@@ -41,6 +41,7 @@ fn answer(head: &[u8], image: &mut [u8], room: &mut [u8]) -> Result<(), Refusal>
 // (2), the length of the list (1) and its addresses (2 each), the length of the record (1) and the record; any other
 // is 3. A read gives the record at the start of its room, or 20 where that is too short; a write rewrites the image,
 // and only with 0.
+// Its number is the C interface's.
 pub fn quermanic_block(head: &[u8], image: &mut [u8], room: &mut [u8]) -> u8
     ensures { Answers head.now image.old room.old image.new room.new result }
 {

@@ -6,6 +6,7 @@ ghost use Rattle.blocks.specs.Lists.{place_of, address_of, has_repeat, is_bad};
 const MOST_TASKS: usize = 16;
 
 // The first place of an address; the list's length where it is not listed.
+// A number: `task_of` reckons from it.
 pub(crate) fn place_of(list: &[u16], address: u16) -> usize
     ensures { result ≡ place_of address list.now }
 {
@@ -18,6 +19,7 @@ pub(crate) fn place_of(list: &[u16], address: u16) -> usize
 }
 
 // The address of a task; 0 for task 0 and for one over the list's length.
+// A number: the definition `address_of` is stated so.
 pub(crate) fn address_of(list: &[u16], task: u8) -> u16
     ensures { result ≡ address_of list.now task }
 {

@@ -5,6 +5,7 @@ ghost use Rattle.blocks.specs.Types.{form_at, form_of, is_none, size_of};
 use records::Kind;
 
 // The length of a block with this first byte; 0 where it is no block's.
+// A number: `size_of` is stated so.
 pub(crate) fn length_at(byte: u8) -> usize
     ensures { result ≡ size_of (form_at byte) }
 {

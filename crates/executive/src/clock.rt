@@ -32,6 +32,7 @@ pub(crate) fn granule_of(granule: u8) -> Millis
 }
 
 // The milliseconds of one of a unit; none where there is no such unit.
+// A number: `units` and `interval` are stated so.
 fn unit_of(unit: u8) -> u64
     ensures { result ≡ get_or units unit 0 }
 {

@@ -50,6 +50,7 @@ pub fn tasks_in(s: &[u8]) -> u8
 }
 
 // The length of the configuration that the bytes begin with, up to its 42; 0 where they begin with none.
+// A number: it is public, and `Measures` is stated so.
 pub fn length_in(bytes: &[u8]) -> usize
     ensures { Measures bytes.now result }
 {

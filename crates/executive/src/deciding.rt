@@ -109,6 +109,7 @@ fn decide_call(tasks: [Task; 16], rest: Rest, c: TaskNo, call: Call) -> Decision
 }
 
 // A record's decision: 3, 4 and 3, then its call's.
+// It decides from tasks and a rest; the image's engine has its like, which decides from bytes, by its own contract.
 fn decide_record(tasks: [Task; 16], rest: Rest, c: TaskNo, bytes: &[u8]) -> Decision
     requires { Judgeable tasks rest c }
     ensures { result ≡ decision_in tasks rest c bytes.now }

@@ -41,6 +41,7 @@ pub(crate) fn levels_of(tasks: &[Task; 16], line: &[TaskNo]) -> u16
 }
 
 // The same of any line; 0 where it is said to be longer than its places.
+// A number: it is public, and its contract says 0.
 pub fn word_of(tasks: [Task; 16], line: [TaskNo; 16], taken: u8) -> u16
     ensures { result ≡ cond (ltb 16 taken) 0 (levels_of (items tasks (take taken line))) }
 {

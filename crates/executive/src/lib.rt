@@ -145,6 +145,7 @@ struct Work {
 }
 
 // What a caller of kind 05 waits for.
+// No Option: `leave_of` and both deeds of a start are stated of its three cases.
 #[derive(Clone, Copy)]
 enum AwaitedMoment {
     ForNothing,

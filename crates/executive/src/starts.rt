@@ -45,6 +45,7 @@ pub(crate) fn argument_of(option: u8, argument: u16) -> u16
 }
 
 // Who waits for a request's start, and who for the end of its run: its caller, or nobody.
+// Two functions, as the definitions `start_waiter_of` and `end_waiter_of` are two.
 pub(crate) fn start_waiter_of(wt: AwaitedMoment, c: TaskNo) -> TaskNo
     ensures { result ≡ start_waiter_of wt c }
 {

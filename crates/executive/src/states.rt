@@ -45,6 +45,7 @@ pub fn kind_of(s: State) -> u8
 }
 
 // The time until which a task in this state waits; 0 where it waits for none.
+// It is public, and `TimeIs` says 0 of the others.
 pub fn time_of(s: State) -> Millis
     ensures { TimeIs s result }
 {
@@ -55,6 +56,7 @@ pub fn time_of(s: State) -> Millis
 }
 
 // The flags for which a task in this state waits; 0 where it waits for none.
+// It is public, and `MaskIs` says 0 of the others.
 pub fn mask_of(s: State) -> u32
     ensures { MaskIs s result }
 {
@@ -66,6 +68,7 @@ pub fn mask_of(s: State) -> u32
 
 // The number of what a task in this state waits for: a subprogram's, or the sender's of a message, 0 for any; 0 where
 // it waits for neither.
+// It is public, and `AwaitedIs` says 0 of the others.
 pub fn awaited_of(s: State) -> u8
     ensures { AwaitedIs s result }
 {

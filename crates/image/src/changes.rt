@@ -49,6 +49,7 @@ fn take_out<T: Block>(b: &mut [u8], row: usize, i: usize, blank: &T)
 }
 
 // The request at a place is taken out: those behind it move up, and the last place is free.
+// What it shares with `hand_out` is `take_out`; each has its own count and list.
 fn take_request(b: &mut [u8; IMAGE], i: usize)
     ensures { (t : Table) → Laid b.old t → PoolInOrder t.rest → i < t.rest.queued
         → Laid b.new (with_rest (with_requests (removed i (requests t.rest)) t.rest) t) }

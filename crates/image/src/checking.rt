@@ -23,6 +23,7 @@ fn are_none(time: u64, mask: u32, number: u8) -> bool
 
 // Whether a kind, a time, a mask and a number are those of the state that they make. A byte that is no kind is none,
 // and a time, a mask or a number is none where the state holds no such.
+// The kinds are bytes of an image (docs/TABLE.md), and so numbers.
 pub(crate) fn is_code(kind: u8, time: Millis, mask: u32, number: u8) -> bool
     ensures { result ≡ is_code kind time mask number }
 {

@@ -51,6 +51,7 @@ fn by_kind(b: &[u8; IMAGE], c: TaskNo, call: Call, w: Watched) -> Decision
 }
 
 // A call's decision: 5 first, then its kind's.
+// As `decide`, of a call that was read.
 fn decide_call(b: &[u8; IMAGE], c: TaskNo, call: Call, w: Watched) -> Decision
     ensures { (t : Table) → Laid b.now t → WellFormed t → Learned w.timed w.flagged w.running t
         → result ≡ decision_of t.tasks t.rest c call }
@@ -62,6 +63,7 @@ fn decide_call(b: &[u8; IMAGE], c: TaskNo, call: Call, w: Watched) -> Decision
 }
 
 // A record's decision: 3, 4 and 3, then its call's.
+// It decides from an image's bytes, and the executive's own from tasks and a rest: two contracts.
 pub(crate) fn decide(b: &[u8; IMAGE], c: TaskNo, call: &[u8], w: Watched) -> Decision
     ensures { (t : Table) → Laid b.now t → WellFormed t → Learned w.timed w.flagged w.running t
         → result ≡ decision_in t.tasks t.rest c call.now }

@@ -122,6 +122,7 @@ fn enter(b: &mut [u8; IMAGE], i: usize, how: How, q: Request, time: Millis)
 }
 
 // The entry of task k as it leaves; a number that names no task changes nothing.
+// Three functions find the entry and change it: a closure for the change would be no plainer.
 pub(crate) fn gone(b: &mut [u8; IMAGE], k: TaskNo, how: Leave)
     ensures { (t : Table) → Laid b.old t
         → Laid b.new (with_tasks (put_at t.tasks k.0 (gone_as how (task_at t.tasks k.0))) t) }

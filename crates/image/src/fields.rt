@@ -99,6 +99,7 @@ pub(crate) fn set_sent(b: &mut [u8; IMAGE], n: u8)
 }
 
 // The place of a task's entry; 16, which is no place, for a number that no task can have.
+// A number, and no Option: `entry_place` is stated so.
 pub(crate) fn place(k: u8) -> usize
     ensures { result ≡ entry_place k }
 {
@@ -144,6 +145,7 @@ pub(crate) fn entry(b: &[u8; IMAGE], k: TaskNo) -> Task
 }
 
 // The priority of a task; a number that names no task has none.
+// What names no task reads as `no_task` has it: 0.
 pub(crate) fn level(b: &[u8; IMAGE], k: u8) -> u8
     ensures { (t : Table) → Laid b.now t → result ≡ (task_at t.tasks k).priority }
 {

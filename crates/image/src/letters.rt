@@ -14,6 +14,7 @@ use executive::{Mail, Message, answers, decisions, messages, refusals};
 use records::{Refusal, TaskNo, Text};
 
 // How many of the first n messages stay ahead of one of priority p.
+// The messages are bytes of the image, so a count says how many.
 fn ahead(b: &[u8; IMAGE], n: usize, p: u8) -> usize
     requires { n ≤ 32 }
     ensures { (t : Table) → Laid b.now t → result ≡ stay_ahead urgency p (take n t.rest.messages) }

@@ -43,6 +43,7 @@ pub(crate) fn enter(b: &[u8; IMAGE], c: TaskNo, m: SubNo) -> Decision
 }
 
 // The first of a subprogram's line; nobody where none waits.
+// Nobody is task 0, as in the table.
 fn first_of(b: &[u8; IMAGE], m: SubNo) -> TaskNo
     requires { m.0 < 8 }
     ensures { (t : Table) → Laid b.now t → result ≡ head_of (line_of (sub_at t.rest m.0)) }
@@ -55,6 +56,7 @@ fn first_of(b: &[u8; IMAGE], m: SubNo) -> TaskNo
 }
 
 // Kind 07: the first of the line gets in and enters the ready queue.
+// The holder is a byte of the image, which is no `TaskNo`.
 pub(crate) fn exit(b: &[u8; IMAGE], c: TaskNo, m: SubNo) -> Decision
     ensures { (t : Table) → Laid b.now t → result ≡ decided t.tasks t.rest c (call.Exit m) }
 {

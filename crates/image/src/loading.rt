@@ -10,6 +10,7 @@ use records::{SubNo, TaskNo, Text};
 use std::array::from_fn;
 
 // The state of a kind, a time, a mask and a number. A byte that is no kind gives a wait for subprogram 255.
+// The kinds are bytes of an image (docs/TABLE.md), and so numbers.
 pub(crate) fn state_of(kind: u8, time: Millis, mask: u32, number: u8) -> State
     ensures { result ≡ state_in kind time mask number }
 {

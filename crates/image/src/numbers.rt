@@ -77,6 +77,7 @@ pub(crate) fn put_long(out: &mut [u8], at: usize, x: u64)
 }
 
 // The i-th of a row of numbers of four bytes, for another engine's image; 0 where they are not all there.
+// A number: it is public, and its contract says 0.
 pub fn number_at(bytes: &[u8], i: u8) -> u32
     ensures { result ≡ cond (ltb (length bytes.now) (i * 4 + 4)) 0 (number_of (part 4 (i * 4) bytes.now)) }
 {

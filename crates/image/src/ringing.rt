@@ -21,6 +21,7 @@ fn is_due(b: &[u8; IMAGE], i: usize, time: u64) -> bool
 }
 
 // The place of the next alarm that is due, of those that are running, from a place on; 32 where there is none.
+// A number past the last, as `next_of` counts and `Change::Clock` is told it.
 pub(crate) fn next_due(b: &[u8; IMAGE], running: u32, from: u8, time: u64) -> u8
     requires { from ≤ 32 }
     ensures lower_bound { (from ≤ result) × (result ≤ 32) }

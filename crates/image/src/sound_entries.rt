@@ -96,6 +96,7 @@ fn is_dormant(b: &[u8; IMAGE], i: usize) -> bool
 
 // The numbers of the state of the i-th task are those of the state that they make, and it keeps the rules; dormant, the
 // entry holds zeros. Only what its kind has is read as a number.
+// The kinds are bytes of an image (docs/TABLE.md), and so numbers.
 fn state_right(b: &[u8; IMAGE], i: usize, count: u8, time: Millis, flags: u32) -> bool
     requires { i < 16 }
     ensures { result ≡ (code_at b.now i and state_right count time.0 flags

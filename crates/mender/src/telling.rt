@@ -96,6 +96,7 @@ fn told(out: &mut [u8], number: u8, same: bool, list: [u8; 33]) -> usize
 // What a mending is told by, at the start of a buffer: its number, whether it left every byte as it was, and its list
 // in bytes, how many and then of each its task and its rule. The text's length, or 0 and nothing written where it does
 // not fit.
+// A length, 0 where it does not fit: it is public, and its contract says so.
 pub fn tell(number: u8, same: bool, list: [u8; 33], out: &mut [u8]) -> usize
     ensures { Tells number same list out.old out.new result }
 {

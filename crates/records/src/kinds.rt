@@ -30,6 +30,7 @@ pub fn kind_of(byte: u8) -> Kind
 }
 
 // The length of a whole record of this kind, first byte and body; 0 for Unknown.
+// A number: it is public, and `LengthIs` is stated so.
 pub fn length_of(kind: Kind) -> usize
     ensures { LengthIs kind result }
 {

@@ -25,6 +25,7 @@ pub struct SubNo(pub u8);
 pub struct Text(pub u64);
 
 // The kinds of records, and Unknown for a first byte that is no carried kind.
+// Unknown is no None: `kind_of` is public, and `KindIs` has it.
 #[derive(Clone, Copy, PartialEq, Eq)]
 pub enum Kind {
     Unknown,

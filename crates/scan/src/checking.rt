@@ -41,6 +41,7 @@ impl Scanned {
     }
 
     // The check of a table: 0 if it is well formed, 1 if it is not.
+    // A number: it is public, and the answer to an image hands it on.
     pub fn check(self) -> u8
         ensures { Checked self result }
     {

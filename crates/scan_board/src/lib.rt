@@ -15,6 +15,7 @@ pub const IMAGE: usize = image::IMAGE + 68;
 
 // Makes a fresh table from configuration bytes: 0 and its image written; 30 where the buffer has not the image's
 // length, 2 where they are no configuration, and then no byte is changed.
+// Its number is the C interface's.
 pub fn quermanic_scan_fresh(config: &[u8], image: &mut [u8]) -> u8
     ensures { MakesScan config.now image.old image.new result }
 {
@@ -30,6 +31,7 @@ pub fn quermanic_scan_fresh(config: &[u8], image: &mut [u8]) -> u8
 }
 
 // Checks an image: 0 where it is that of a well-formed table, else 1.
+// Its number is the C interface's.
 pub fn quermanic_scan_check(image: &[u8]) -> u8
     ensures { CheckedScan image.now result }
 {
@@ -42,6 +44,7 @@ pub fn quermanic_scan_check(image: &[u8]) -> u8
 // Takes a step: the answer's number, and the answer at the start of its buffer. Accepted (0), the image is rewritten;
 // refused, none of its bytes is changed. Where the answer's buffer is shorter than 25 bytes: 30, and no byte of any
 // buffer is changed.
+// Its number is the C interface's.
 pub fn quermanic_scan_step(image: &mut [u8], call: &[u8], answer: &mut [u8]) -> u8
     ensures { StepsScan image.old call.now answer.old image.new answer.new result }
 {

@@ -40,6 +40,7 @@ fn run_at(tasks: [Task; 16], k: TaskNo) -> u8
 }
 
 // The task of the queued request at a place, from 1; nobody where there is none.
+// Nobody is task 0, as in the table and in the definition.
 pub(crate) fn target_at(pool: [Request; 32], queued: u8, place: u8) -> TaskNo
     requires { queued ≤ 32 }
     ensures { result ≡ target_at place (take queued pool) }
@@ -54,6 +55,7 @@ pub(crate) fn target_at(pool: [Request; 32], queued: u8, place: u8) -> TaskNo
 }
 
 // The holder of a subprogram; nobody where it is free, and where there is none of that number.
+// Nobody is task 0 here too.
 pub(crate) fn holder_at(subs: [Sub; 8], m: SubNo) -> TaskNo
     ensures { result ≡ holder_at m.0 subs }
 {

@@ -206,6 +206,7 @@ fn told(out: &mut [u8], reasons: Reasons, clock: Millis) -> usize
 }
 
 // The answer as text, at the start of a buffer: its length, or 0 and nothing written where it does not fit.
+// A length, 0 where it does not fit: it is public, and its contract says so.
 pub fn tell(reasons: Reasons, clock: Millis, out: &mut [u8]) -> usize
     ensures { Tells reasons clock out.old out.new result }
 {
