@@ -7,8 +7,7 @@ ghost use Rattle.executive.specs.Sheet.{only_z, restart_marks};
 
 use crate::decisions::{Change, Decision, Deed, How, Leave};
 use crate::{
-    Millis, Request, State, Task, answers, clock, decisions, entries, pool, refusals, states,
-    waking,
+    Millis, Request, State, Task, answers, clock, decisions, places, pool, refusals, states, waking,
 };
 use records::{Refusal, TaskNo};
 
@@ -59,7 +58,7 @@ pub(crate) fn terminate(
     if holding {
         return decisions::refuse(Refusal::StillHeld);
     }
-    let w = entries::entry_of(tasks, c).end_waiter;
+    let w = places::read_at(tasks, c).end_waiter;
     match pool::first_for(requests, c) {
         Some(i) => begins_anew(w, c, requests[i], i),
         None => sleeps(w, c),

@@ -1,20 +1,11 @@
 // One task's entry: what departing, entering, beginning and being due make of it.
 ghost use Rattle.std.specs.Prelude.{◌≡◌};
-ghost use Rattle.executive.specs.Places.{task_at};
 ghost use Rattle.executive.specs.Entries.{scheduled, with_state, as_dormant, begun, aimed, risen, due_at};
 ghost use Rattle.executive.specs.Decisions.{gone_as, change_for};
 
 use crate::decisions::{How, Leave};
-use crate::{Millis, Request, State, Task, places, states};
+use crate::{Millis, Request, State, Task, states};
 use records::TaskNo;
-
-// A task's entry, read where it lies; a blank one where there is no such task.
-pub(crate) fn entry_of(tasks: &[Task; 16], k: TaskNo) -> Task
-    ensures { result ≡ task_at tasks.now k.0 }
-{
-    let i = places::entry_place(k);
-    if i < 16 { tasks[i] } else { places::NO_TASK }
-}
 
 // One task's entry, lent: its state and its time are set, and nothing else is.
 pub(crate) fn set_state(task: &mut Task, state: State, start: Millis)

@@ -8,7 +8,7 @@ ghost use Rattle.executive.specs.Decisions.{enter_deed, exit_deed, refusing, doi
 ghost use Rattle.executive.specs.Sheet.{only_z};
 
 use crate::decisions::{Change, Decision, Deed, Leave};
-use crate::{Rest, State, Sub, Task, answers, decisions, entries, lines, pool, queue};
+use crate::{Rest, State, Sub, Task, answers, decisions, lines, places, pool, queue};
 use records::{Refusal, SubNo, TaskNo};
 
 // A free one, for which nobody waits.
@@ -51,7 +51,7 @@ pub(crate) fn enter(tasks: &[Task; 16], s: Sub, c: TaskNo, m: SubNo) -> Decision
         let gets_in = decisions::alone(Leave::Stays, Change::Held(m, c));
         return decisions::accepted(marks, gets_in);
     }
-    let e = entries::entry_of(tasks, c);
+    let e = places::read_at(tasks, c);
     let line = s.line;
     let at = queue::ahead(tasks, &line[..s.waiting as usize], e.priority);
     let waits = decisions::alone(Leave::As(State::AwaitSub(m)), Change::Lined(m, c, at));

@@ -32,7 +32,7 @@ returns c =
       c.priority_at-p.ensures,
       c.put_at-t.ensures,
       c.entering-e.ensures,
-      c.entry_of.ensures,
+      c.read_at.ensures,
       priority_put c.args.self.table.tasks _ c.requires.0.fit.all c.args.k.0,
       lit-entered c.args.self.table c.requires.0.fit c.requires.0.lit c.args.k _ c.requires.1 (omega (arith, c.requires.0.room)),
     ) refl

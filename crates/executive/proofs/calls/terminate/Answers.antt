@@ -19,10 +19,10 @@ bounds-requests-i c =
 
 pub returns-in-Some : goal.returns-in-Some
 returns-in-Some c =
-    rw (c.begins_anew.ensures, c.entry_of.ensures, c.if-holding.false)
+    rw (c.begins_anew.ensures, c.read_at.ensures, c.if-holding.false)
     (ap (doing (only_z false)) (ends-run c.args.tasks.now c.args.requests.now c.args.c _ (sym c.first_for.ensures ∙ c.in-Some.is)))
 
 pub returns-in-None : goal.returns-in-None
 returns-in-None c =
-    rw (c.sleeps.ensures, c.entry_of.ensures, c.if-holding.false)
+    rw (c.sleeps.ensures, c.read_at.ensures, c.if-holding.false)
     (ap (doing (only_z false)) (ends-none c.args.tasks.now c.args.requests.now c.args.c (sym c.first_for.ensures ∙ c.in-None.is)))

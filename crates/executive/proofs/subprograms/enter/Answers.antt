@@ -9,4 +9,4 @@ returns-then-s-eq0 c = rw (c.accepted.ensures, c.alone-gets_in.ensures, c.only_z
 
 pub returns : goal.returns
 unfolding enter_deed
-returns c = rw (c.accepted-2.ensures, c.alone-waits.ensures, c.ahead-at.ensures, c.entry_of-e.ensures, c.only_z-marks.ensures, le-ltb _ _ c.if-m-gt7.false, sym c.if-eq.ensures, ne_eqb _ _ c.if-s-eq0.false) refl
+returns c = rw (c.accepted-2.ensures, c.alone-waits.ensures, c.ahead-at.ensures, c.read_at-e.ensures, c.only_z-marks.ensures, le-ltb _ _ c.if-m-gt7.false, sym c.if-eq.ensures, ne_eqb _ _ c.if-s-eq0.false) refl
