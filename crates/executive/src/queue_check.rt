@@ -17,6 +17,7 @@ pub(crate) fn all_nobody(places: &[TaskNo]) -> bool
 }
 
 // A number that names one of so many tasks.
+// The opposite of `no_such_task`, which is public: each has its own definition.
 fn is_task(k: TaskNo, count: u8) -> bool
     ensures { result ≡ is_task count k }
 {

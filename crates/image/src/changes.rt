@@ -19,7 +19,7 @@ use crate::{
     ALARMS, IMAGE, MESSAGES, POOL, SENT, SUBS, fields, members, moves, moving, numbers, storing,
 };
 use executive::decisions::Change;
-use executive::{Message, Millis, Request, messages, pool};
+use executive::{Message, Millis, Request, clock, messages, pool};
 use records::{SubNo, TaskNo};
 
 // A request is queued behind the others.
@@ -201,11 +201,11 @@ fn advance(b: &mut [u8; IMAGE], first: usize, running: u32)
         → t.rest.clock.0 + t.rest.granule ≤ end_of_time → first ≡ first_due t.rest
         → Laid b.new (with_rest (advanced t.rest) t) }
 {
-    let clock = numbers::long_in(b, fields::CLOCK);
-    if 1099511627776 < clock {
+    let now = numbers::long_in(b, fields::CLOCK);
+    if clock::END_OF_TIME < now {
         return;
     }
-    let time = clock + b[fields::GRANULE] as u64;
+    let time = now + b[fields::GRANULE] as u64;
     fields::set_clock(b, Millis(time));
     ring_from(b, running, first, time);
 }

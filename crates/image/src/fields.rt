@@ -145,6 +145,7 @@ pub(crate) fn entry(b: &[u8; IMAGE], k: TaskNo) -> Task
 }
 
 // The priority of a task; a number that names no task has none.
+// It does not ask `place`: the step does it for each task of the queue that it passes.
 // What names no task reads as `no_task` has it: 0.
 pub(crate) fn level(b: &[u8; IMAGE], k: u8) -> u8
     ensures { (t : Table) → Laid b.now t → result ≡ (task_at t.tasks k).priority }

@@ -1,5 +1,5 @@
 // Text put at a place of a buffer: each function answers the place after it. Where the text does not fit, nothing is
-// written, and the place is answered as it was.
+// written, and the place is answered as it was. A buffer and a place, not a slice: these contracts are public.
 ghost use Rattle.std.specs.Prelude.{◌≡◌, [], ◌∷◌, ◌+◌, ◌≤◌, ◌<◌, length, leb};
 ghost use Rattle.text.specs.Glyphs.{Puts, Adds, decimal_of, hex_of, glyph_of, bit_of};
 
