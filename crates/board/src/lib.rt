@@ -1,6 +1,6 @@
 // The board library: the entry points, on byte slices and numbers only; `board_c` has them under their symbols for C.
-// Each is the image's own function of that name: nothing is decided here, so that what is built for a board is proved in
-// seconds once `image` is.
+// Each is the image's own function of that name: nothing is decided here, so that what is built for a board is proved
+// in seconds once `image` is.
 #![tactic(auto)]
 
 ghost use Rattle.image.specs.EntryPoints.{MakesImage, CheckedImage, StepsImage, ReadsLamp};

@@ -21,8 +21,8 @@ pub(crate) fn all_blank(tasks: &[Task]) -> bool
     tasks.iter().all(|e| rules::is_blank(*e))
 }
 
-// These places of the pool are zero: all numbers of the requests, put together, and all their arguments, are 0. It stops
-// at none of them, so that the compiler can take many at a time.
+// These places of the pool are zero: all numbers of the requests, put together, and all their arguments, are 0. It
+// stops at none of them, so that the compiler can take many at a time.
 #[tactic(auto, using(crate::proofs::check::PutTogether::put_together))]
 pub(crate) fn all_free(places: &[Request]) -> bool
     ensures { result ≡ all_of is_free places.now }

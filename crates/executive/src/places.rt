@@ -45,8 +45,8 @@ pub fn task_at(tasks: [Task; 16], k: TaskNo) -> Task
     read_at(&tasks, k)
 }
 
-// The entries with one task's rewritten where it lies, its state and its time with the rest; a number that names no task
-// changes none.
+// The entries with one task's rewritten where it lies, its state and its time with the rest; a number that names no
+// task changes none.
 #[tactic(auto, using(crate::proofs::places::TaskAt::entries))]
 pub fn put_at(tasks: [Task; 16], k: TaskNo, e: Task) -> [Task; 16]
     ensures { result ≡ put_at tasks k.0 e }

@@ -17,8 +17,9 @@ ghost use Rattle.executive.specs.Check.{Decided};
 ghost use Rattle.executive.specs.Promises.Broken.{Broken};
 
 // The founder's demands, the queue's law, one history worked out, the restart that skips, the account of every start,
-// that a step is its decision, whom a tick wakes, how far those that enter walk, what the lamp shows, that one task at a
-// time is in a subprogram, and the account of every message: nothing to run, a contract that keeps the theorems in place.
+// that a step is its decision, whom a tick wakes, how far those that enter walk, what the lamp shows, that one task at
+// a time is in a subprogram, and the account of every message: nothing to run, a contract that keeps the theorems in
+// place.
 fn promised()
     ensures { Demands × QueueLaw × Worked × Skipping × EveryStart × ByDecision × Waking × Walks × LampLaw × SubLaw × MailLaw }
 {}

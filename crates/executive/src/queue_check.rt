@@ -43,8 +43,8 @@ fn descends(tasks: &[Task; 16], line: &[TaskNo], count: u8) -> bool
     true
 }
 
-// How often each number from 1 to 16 stands in a line: that of k at place k - 1. Place 16 is for the numbers that no task
-// can have.
+// How often each number from 1 to 16 stands in a line: that of k at place k - 1. Place 16 is for the numbers that no
+// task can have.
 #[tactic(auto, using(crate::proofs::check::Passes::tallies))]
 fn tally(line: &[TaskNo]) -> [u8; 17]
     requires { length line.now ≤ 16 }

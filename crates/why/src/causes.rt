@@ -31,7 +31,8 @@ fn named_at(pool: &[Request], at_start: bool, k: TaskNo) -> Option<usize>
     pool.iter().position(|q| k == waiter_of(*q, at_start))
 }
 
-// The first task whose run names a task as the waiter for its end; 17 where none does, as the definition `run_at` counts.
+// The first task whose run names a task as the waiter for its end; 17 where none does, as the definition `run_at`
+// counts.
 fn run_at(tasks: [Task; 16], k: TaskNo) -> u8
     ensures { result ≡ run_at k.0 tasks }
 {

@@ -59,8 +59,8 @@ fn with_ring(mut path: Reasons, place: u8) -> Reasons
     path
 }
 
-// Goes on at a task: one that has been met closes a ring; any other is a step, and leads on to what it waits for. The two
-// functions call each other, as document 01 has it for a task that waits for a request that waits for a task.
+// Goes on at a task: one that has been met closes a ring; any other is a step, and leads on to what it waits for. The
+// two functions call each other, as document 01 has it for a task that waits for a request that waits for a task.
 #[cycle(follow_link_follow_task)]
 fn follow_task(t: Table, k: TaskNo, path: Reasons) -> Reasons
     requires { Sized t × (path.length ≤ 16) }

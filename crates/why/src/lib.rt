@@ -36,8 +36,8 @@ pub struct Step {
 }
 
 // What is asked of a table is answered by a number (docs/CALLS.md, 6), V with 6, and the path: its first `length`
-// steps. The last `ring` of them wait for each other in a ring; 0: no ring. A number and no Result: `explain` is public,
-// and its contract says what the path is with 1 and 6 too.
+// steps. The last `ring` of them wait for each other in a ring; 0: no ring. A number and no Result: `explain` is
+// public, and its contract says what the path is with 1 and 6 too.
 #[derive(Clone, Copy)]
 pub struct Reasons {
     pub number: u8,
