@@ -1,4 +1,4 @@
-use mathlib.Core.Path.{sym}
+use mathlib.Core.Path.{refl, sym}
 use lib.Seq.{length-take-le}
 use Prim.Native.Nat.{◌≤◌}
 use lib.ListN.{length}
@@ -14,4 +14,4 @@ slice_bounds-fresh-end c =
 
 pub returns : goal.returns
 unfolding start_of
-returns c = rw (c.first.ensures, c.fresh-made.ensures, c.length_in-at.ensures)
+returns c = rw (c.first.ensures, c.fresh-made.ensures, c.length_in-at.ensures) refl
