@@ -45,8 +45,14 @@ pub fn task_at(tasks: [Task; 16], k: TaskNo) -> Task
     read_at(&tasks, k)
 }
 
-// The entries with one task's rewritten where it lies, its state and its time with the rest; a number that names no
-// task changes none.
+// One task's entry, lent where it lies: it is rewritten, its state and its time with the rest.
+fn rewrite(task: &mut Task, e: Task)
+    ensures { task.new ≡ e }
+{
+    *task = e;
+}
+
+// The entries with one task's rewritten; a number that names no task changes none.
 #[tactic(auto, using(crate::proofs::places::TaskAt::entries))]
 pub fn put_at(tasks: [Task; 16], k: TaskNo, e: Task) -> [Task; 16]
     ensures { result ≡ put_at tasks k.0 e }
@@ -56,6 +62,6 @@ pub fn put_at(tasks: [Task; 16], k: TaskNo, e: Task) -> [Task; 16]
         return tasks;
     }
     let mut out = tasks;
-    out[i] = e;
+    rewrite(&mut out[i], e);
     out
 }
