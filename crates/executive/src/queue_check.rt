@@ -1,6 +1,6 @@
 // The check of a line, the ready queue's or a subprogram's: exactly the tasks in its state, once each, in descending
 // priority.
-ghost use Rattle.std.specs.Prelude.{◌≡◌, ◌≤◌, eqb, length, take};
+ghost use Rattle.std.specs.Prelude.{◌≡◌, ◌≤◌, true, false, eqb, length, take, MatchOption};
 ghost use Rattle.executive.specs.Lists.{one, up_to, all_of, ◌and◌};
 ghost use Rattle.executive.specs.States.{is_as, is_ready};
 ghost use Rattle.executive.specs.Table.{items, levels_of};
@@ -24,23 +24,26 @@ fn is_task(k: TaskNo, count: u8) -> bool
     0 < k.0 && k.0 <= count
 }
 
-// Those in a line are tasks, in descending priority.
-#[tactic(auto, using(crate::proofs::check::Descent::descent))]
-fn descends(tasks: &[Task; 16], line: &[TaskNo], count: u8) -> bool
-    ensures { result ≡ falls tasks.now count 15 line.now }
+// The word of the levels of a line, where those in it are tasks, in descending priority.
+#[tactic(auto, using(crate::proofs::check::Descent::descent, crate::proofs::check::Descent::words))]
+fn descends(tasks: &[Task; 16], line: &[TaskNo], count: u8) -> Option<u16>
+    ensures { MatchOption result (falls tasks.now count 15 line.now ≡ false)
+        (λ w. (falls tasks.now count 15 line.now ≡ true) × (w ≡ levels_of (items tasks.now line.now))) }
 {
     let mut p: u8 = 15;
+    let mut word: u16 = 0;
     for k in line {
         if !is_task(*k, count) {
-            return false;
+            return None;
         }
         let e = places::read_at(tasks, *k);
         if p < e.priority {
-            return false;
+            return None;
         }
         p = e.priority;
+        word |= levels::level_bit(p);
     }
-    true
+    Some(word)
 }
 
 // How often each number from 1 to 16 stands in a line: that of k at place k - 1. Place 16 is for the numbers that no
@@ -78,8 +81,34 @@ fn all_exact(tasks: &[Task; 16], line: &[TaskNo], count: u8, kind: u8, number: u
         .all(|(e, n)| exact_at(e.state, *n, kind, number))
 }
 
-// The line holds exactly those whose state is of a kind and waits for a number, once each, in descending priority; its
-// free places are zero.
+// The word of the levels of a line, where it holds exactly those whose state is of a kind and waits for a number, once
+// each, in descending priority, and its free places are zero.
+fn line_word(
+    tasks: &[Task; 16],
+    line: &[TaskNo; 16],
+    taken: u8,
+    count: u8,
+    kind: u8,
+    number: u8,
+) -> Option<u16>
+    ensures { MatchOption result (line_right (is_as kind number) tasks.now count taken line.now ≡ false)
+        (λ w. (line_right (is_as kind number) tasks.now count taken line.now ≡ true)
+        × (w ≡ levels_of (items tasks.now (take taken line.now)))) }
+{
+    if 16 < count || 16 < taken {
+        return None;
+    }
+    let n = taken as usize;
+    let held = &line[..n];
+    let word = descends(tasks, held, count)?;
+    if all_exact(tasks, held, count, kind, number) && all_nobody(&line[n..]) {
+        Some(word)
+    } else {
+        None
+    }
+}
+
+// Whether a line holds exactly those; no word of a subprogram's line is kept.
 pub(crate) fn line_right(
     tasks: &[Task; 16],
     line: &[TaskNo; 16],
@@ -90,14 +119,7 @@ pub(crate) fn line_right(
 ) -> bool
     ensures { result ≡ line_right (is_as kind number) tasks.now count taken line.now }
 {
-    if 16 < count || 16 < taken {
-        return false;
-    }
-    let n = taken as usize;
-    let held = &line[..n];
-    descends(tasks, held, count)
-        && all_exact(tasks, held, count, kind, number)
-        && all_nobody(&line[n..])
+    line_word(tasks, line, taken, count, kind, number).is_some()
 }
 
 // The ready queue is the line of the ready, and the word of the ready levels is theirs.
@@ -111,6 +133,5 @@ pub(crate) fn queue_right(
     ensures { result ≡ (line_right is_ready tasks.now count ready queue.now
         and eqb levels (levels_of (items tasks.now (take ready queue.now)))) }
 {
-    line_right(tasks, queue, ready, count, states::READY, 0)
-        && levels == levels::levels_of(tasks, &queue[..ready as usize])
+    line_word(tasks, queue, ready, count, states::READY, 0) == Some(levels)
 }
