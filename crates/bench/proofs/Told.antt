@@ -1,11 +1,14 @@
 -- What is told at a place of an input: which case of the definitions holds there.
-use Prim.Native.Nat.{ℕ, ◌≤◌, ◌<◌}
-use mathlib.Core.Path.{◌≡◌}
+use Prim.Native.Nat.{ℕ, zero, suc, ◌≤◌, ◌<◌}
+use mathlib.Core.Path.{◌≡◌, refl}
 use mathlib.Core.List.{List, [], ◌∷◌}
 use native.Mathlib.Omega.{arith}
-use lib.ListN.{length, length-append}
+use lib.ListN.{length, get_or, take, length-append}
 use lib.Dec.{ltb}
 use borrow.Author.Tests.{ne_eqb, lt-ltb, le-ltb, ltb-false}
+use Rattle.records.specs.declared.TaskNo.{TaskNo}
+use Rattle.executive.specs.Places.{nobody}
+use Rattle.executive.specs.Table.{head_of}
 use Rattle.bench.specs.Lines.{row, end_of, stop_of}
 use Rattle.bench.specs.Listing.{step_length, whole_of, last_of}
 use Rattle.text.proofs.Assured.{decide}
@@ -41,6 +44,12 @@ module _ (s : List ℕ) where
 pub whole-fits : (s : List ℕ) → whole_of s ≤ length s
 unfolding whole_of
 whole-fits s = decide (ltb (length s) (step_length s)) (λ e. rw e (omega arith)) (λ e. rw e (ltb-false (length s) (step_length s) e))
+
+-- the head of a queue that is not empty
+pub head-is : (q : List TaskNo) (n : ℕ) → (n ≡ 0 → ⊥) → 0 < length q → head_of (take n q) ≡ get_or q 0 nobody
+head-is q zero h g = absurd (h refl)
+head-is [] (suc n) h g = absurd (omega arith)
+head-is (x ∷ xs) (suc n) h g = refl
 
 -- ---- no line is empty
 pub row-some : (ws : List (List ℕ)) → 0 < length (row ws)

@@ -1,6 +1,6 @@
 -- Tests: what a comparison says as a fact and as a number, what a conjunction says and what makes it; sums that are 0
 -- where every test passes.
-use mathlib.Core.Path.{◌≡◌, refl, sym, ap}
+use mathlib.Core.Path.{◌≡◌, refl, sym, ap, ◌∙◌}
 use mathlib.Core.Bool.{Bool, true, false, not}
 use mathlib.Core.List.{List, [], ◌∷◌}
 use Prim.Native.Nat.{ℕ, zero, suc, ◌≤◌, ◌<◌}
@@ -119,6 +119,10 @@ and_false_right false b e = refl
 -- the first passes, and the second decides
 pub and_true_left : (a b r : Bool) → a ≡ true → r ≡ b → r ≡ (a and b)
 and_true_left a b r e f = rw e f
+
+-- what is false is what fails
+pub both_false : {r x : Bool} → r ≡ false → false ≡ x → r ≡ x
+both_false e f = e ∙ f
 
 pub one_none : (b : Bool) → one b ≡ 0 → not b ≡ true
 one_none true e = absurd (omega arith)

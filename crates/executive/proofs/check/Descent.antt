@@ -110,6 +110,16 @@ module _ (ts : List Task) (n : ℕ) (q : List TaskNo) (r : ℕ) (hr : r ≤ leng
   pub falls-end : r ≤ i → falls ts n p (drop i (take r q)) ≡ true
   falls-end h = line-end ts n (take r q) i p (past h)
 
+-- the tests in the code's order are the same test
+pub lit-order : (z a f x e : Bool) → (z and (a and ((f and e) and x))) ≡ ((z and (a and (f and x))) and e)
+lit-order false a f x e = refl
+lit-order true false f x e = refl
+lit-order true true false x e = refl
+lit-order true true true true true = refl
+lit-order true true true true false = refl
+lit-order true true true false true = refl
+lit-order true true true false false = refl
+
 -- a lower bound on priorities is one too
 all_le_mono : (m n : ℕ) (q : List Item) → m ≤ n → AllLe m q → AllLe n q
 all_le_mono m n [] h a = tt

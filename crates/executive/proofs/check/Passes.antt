@@ -17,7 +17,7 @@ use Rattle.executive.specs.declared.State.{State}
 use Rattle.executive.specs.Lists.{one, ◌and◌, up_to, all_of}
 use Rattle.executive.specs.Places.{no_task, task_at}
 use Rattle.executive.specs.Pool.{requests}
-use Rattle.executive.specs.States.{await_start, await_end, is_of, is}
+use Rattle.executive.specs.States.{ready, await_start, await_end, is_of, is, is_as, is_ready}
 use Rattle.executive.specs.WellFormed.{starts_of, ends_of, runs_of}
 use Rattle.executive.specs.Check.{entry_in_range, request_in_range, sub_in_range, is_blank, sizes_right, in_bounds, numbers_right, stands_in, exact_at, alarm_right, task_timely, times_right, is_started, started_right, task_unmet, masks_right, target_busy, busy_right, waiters_at, names_others, waiters_right, dormant_entry_right, dormant_right, pool_right, subs_right, all_but_queue, entry_right, request_fits, request_right, is_quiet, is_lone, asked_right, in_passes, Tallies}
 use Rattle.executive.specs.declared.Message.{Message}
@@ -26,6 +26,7 @@ use Rattle.executive.specs.Messages.{letters}
 use Rattle.executive.specs.Check.{held_right, message_in_range, is_untaken, letters_fall, messages_right, letters_right, sent_right}
 use Rattle.executive.proofs.check.Messages.{in_one-pass, mail_split, mail-join}
 use Rattle.executive.proofs.places.TaskAt.{at_place, at-no-place, place-low}
+use Rattle.executive.proofs.states.Laws.{ready_as}
 use Rattle.executive.proofs.Lists.Loops.{both, all_make, tally-none, tally-next}
 use Rattle.executive.proofs.Lists.Tests.{and_true, true_and, none-one, of-not, sum-none}
 use Rattle.executive.proofs.check.Blanks.{tasks-get}
@@ -82,6 +83,11 @@ tallied_exact f c ts xs n l t = same_up (tallied_at f c ts) (exact_at f ts xs) n
     at k a b =
         let z : suc (k - 1) ≡ k = omega arith in
         ap (λ (m : ℕ). eqb m (one (f (task_at ts k).state))) (t.counts (k - 1) (omega arith) ∙ ap (λ (m : ℕ). stands_in m xs) z)
+
+-- the ready queue's line, by its kind of state and its number
+pub ready-exact : (ts : List Task) (xs : List TaskNo) (n : ℕ) → up_to (exact_at (is_as ready 0) ts xs) n ≡ up_to (exact_at is_ready ts xs) n
+unfolding exact_at
+ready-exact ts xs n = same_up (exact_at (is_as ready 0) ts xs) (exact_at is_ready ts xs) n (λ k a b. ap (λ (x : Bool). eqb (stands_in k xs) (one x)) (ready_as (task_at ts k).state))
 
 -- for the tally of a line, which the code makes
 pub ruleset tallies = (tally-none, tally-next, place-low)

@@ -65,5 +65,8 @@ module _ (t : Table) (w : WellFormed t) where
   restart_owed p n h = (standing-of t w, active (call.Restart p n) refl h)
 
 -- ---- the same of the numbers alone
+pub low_first : (a : ℕ) (b : Bool) → (ltb 31 a || b) ≡ false → a < 32
+low_first a b h = let l = ltb-false 31 a (or-none (ltb 31 a) b h).0 in omega arith
+
 pub low_second : (b : Bool) (a : ℕ) → (b || ltb 31 a) ≡ false → a < 32
 low_second b a h = let l = ltb-false 31 a (or-none b (ltb 31 a) h).1 in omega arith

@@ -1,12 +1,13 @@
 -- What is said of a tick is not said of any other call. A call's variants are known by their numbers.
 use Prim.Native.Nat.{ℕ, suc}
-use mathlib.Core.Path.{◌≡◌, refl}
+use mathlib.Core.Path.{◌≡◌, refl, subst}
 use mathlib.Core.Logic.{◌≢◌}
 use mathlib.Core.Bool.{Bool, true, false, cond}
 use mathlib.Core.List.{List, [], ◌∷◌}
 use lib.Dec.{eqb}
+use types.Run.{OneOf, miss}
 use denote.RattleType.{RattleType}
-use denote.Enum.Declared.{tag_of}
+use denote.Enum.Declared.{variants, tag_of}
 use Rattle.records.specs.contracts.Call.{the_type}
 use Rattle.records.specs.declared.TaskNo.{TaskNo}
 use Rattle.records.specs.declared.Call.{Call}
@@ -33,3 +34,6 @@ module _ (ts : List Task) (r : Rest) (k : TaskNo) (c : Call) where
       go : (b : Bool) → (sheet ts r k c).tick ≡ b → b ≡ false
       go true e = absurd (n ((tells called c).tick e))
       go false e = refl
+
+  pub no-tick : OneOf (others 0 (variants the_type)) (tag_of the_type c) → (sheet ts r k c).tick ≡ false
+  no-tick o = untold (λ e. miss (others 0 (variants the_type)) 9 tt (subst (λ (x : Call). OneOf (others 0 (variants the_type)) (tag_of the_type x)) e o))
