@@ -100,5 +100,5 @@ fn one_mail(b: &[u8; IMAGE], i: usize, count: u8) -> bool
 pub(crate) fn mail_right(b: &[u8; IMAGE], count: u8) -> bool
     ensures { result ≡ mail_right (load_of b.now).tasks count (load_of b.now).rest.mail }
 {
-    (0..16usize).all(|i| one_mail(b, i, count))
+    (0..16u8).all(|i| one_mail(b, i as usize, count))
 }

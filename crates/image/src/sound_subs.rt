@@ -36,10 +36,11 @@ fn used_subs(b: &[u8; IMAGE], sets: [u16; 8]) -> u32
         → is_set result m ≡ not (noughts b.now 18 (914 + m * 18) and eqb (get_or sets m 0) 0) }
 {
     let mut used: u32 = 0;
-    for (m, set) in sets.iter().enumerate() {
-        let at = SUBS + m * 18;
-        if zeros::sixteen(b, at) | zeros::quad(b, at + 14) | (*set as u32) != 0 {
-            used |= changes::bit_of(m);
+    for m in 0..8u8 {
+        let i = m as usize;
+        let at = SUBS + i * 18;
+        if zeros::sixteen(b, at) | zeros::quad(b, at + 14) | (sets[i] as u32) != 0 {
+            used |= changes::bit_of(i);
         }
     }
     used

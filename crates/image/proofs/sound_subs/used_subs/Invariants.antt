@@ -4,4 +4,4 @@ use Rattle.image.proofs.LinesRead.{in_use}
 use Rattle.image.proofs.sound_subs.used_subs.Given as goal
 
 abbrev pub invariant-loop-m : goal.invariant-loop-m
-invariant-loop-m l = Marked l.m l.used (in_use l.b l.fn.sets)
+invariant-loop-m l = Marked l.m l.used (in_use l.b l.sets)
