@@ -40,23 +40,30 @@ fn met_at(path: &[Step], k: TaskNo) -> Option<usize>
     path.iter().position(|s| k == s.task)
 }
 
-// The path with one step more.
-fn with_step(mut path: Reasons, k: TaskNo, cause: Cause) -> Reasons
+// The path with one step more. It is made anew here and in `with_ring`: one that is changed where it stands is moved by
+// memmove, which the archive for C does not ask for.
+fn with_step(path: Reasons, k: TaskNo, cause: Cause) -> Reasons
     requires { path.length < 16 }
     ensures { result ≡ longer path k cause }
 {
-    path.steps[path.length as usize] = Step { task: k, cause };
-    path.length += 1;
-    path
+    let mut steps = path.steps;
+    steps[path.length as usize] = Step { task: k, cause };
+    Reasons {
+        steps,
+        length: path.length + 1,
+        ..path
+    }
 }
 
 // The path that leads back to its step at a place: from there on it is a ring.
-fn with_ring(mut path: Reasons, place: u8) -> Reasons
+fn with_ring(path: Reasons, place: u8) -> Reasons
     requires { place ≤ path.length }
     ensures { result ≡ closed path place }
 {
-    path.ring = path.length - place;
-    path
+    Reasons {
+        ring: path.length - place,
+        ..path
+    }
 }
 
 // Goes on at a task: one that has been met closes a ring; any other is a step, and leads on to what it waits for. The
