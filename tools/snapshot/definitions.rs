@@ -56,7 +56,8 @@ pub fn used(word: &'static str, tree: &str) -> Result<Use, String> {
 }
 
 fn item(names: Vec<String>, fields: Vec<String>, chunk: &str) -> Item {
-    Item { names, fields, lines: text::lines(chunk, 0), words: text::names(chunk), paths: Vec::new(), root: false }
+    let (lines, words) = (text::lines(chunk, 0), text::names(chunk));
+    Item { names, fields, lines, words, paths: Vec::new(), root: false, hidden: false }
 }
 
 // Why a chunk that begins with these words is not read, if it is not.

@@ -107,12 +107,19 @@ fn meant(tree: &Tree, at: usize, name: &[String]) -> Result<Vec<Place>, String> 
 fn next(tree: &Tree, place: Place) -> Result<Vec<Place>, String> {
     let file = &tree.files[place.0];
     let item = &file.items[place.1];
+    if item.hidden {
+        let name = &item.names[0];
+        return Err(format!("{}: '{}' is named, a trait that is not public and is not read here.", file.path, name));
+    }
     let mut found = Vec::new();
     for name in &item.words {
         found.extend(meant(tree, place.0, name)?);
     }
     for path in &item.paths {
         found.extend(meant(tree, place.0, path)?);
+        if path.len() > 1 && path[1] == "proofs" && (path[0] == "crate" || tree.crates.contains(&path[0])) {
+            return Err(format!("{} names '{}', and no file of specs/ has it.", file.path, path.join("::")));
+        }
         if path.len() > 1 {
             let below: Vec<String> = Some("crate".to_string()).into_iter().chain(path.iter().cloned()).collect();
             found.extend(coded(tree, file, path).into_iter().chain(coded(tree, file, &below)));

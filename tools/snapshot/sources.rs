@@ -1,4 +1,5 @@
-// One file of src/: its declared types, and the headers with contracts of its functions. Bodies are left out.
+// One file of src/: its declared types, and the headers with contracts of its functions. Left out are bodies, and the
+// prover's hints, `#[tactic(..)]`.
 use crate::definitions;
 use crate::text;
 use crate::tree::{Brought, File, Item, Use};
@@ -124,6 +125,7 @@ fn cut<'a>(path: &'a str, source: &str) -> Result<Code<'a>, String> {
             i = piece.end;
         }
     }
+    code.without_hints();
     Ok(code)
 }
 
@@ -132,9 +134,29 @@ impl Code<'_> {
         self.pieces.get(n).map_or("", |p| &self.text[p.start..p.end])
     }
 
-    fn refuse<T>(&self, n: usize) -> Result<T, String> {
+    fn refusal(&self, n: usize) -> String {
         let place = text::at(self.path, &self.text, self.pieces.get(n).map_or(self.text.len(), |p| p.start));
-        Err(format!("{}: '{}' begins a form that is not read here.", place, self.word(n)))
+        format!("{}: '{}' begins a form that is not read here.", place, self.word(n))
+    }
+
+    fn refuse<T>(&self, n: usize) -> Result<T, String> {
+        Err(self.refusal(n))
+    }
+
+    // The prover's hints become blank, as comments are.
+    fn without_hints(&mut self) {
+        let mut n = 0;
+        while n < self.pieces.len() {
+            if (0..4).any(|m| self.word(n + m) != ["#", "[", "tactic", "("][m]) {
+                n += 1;
+                continue;
+            }
+            let after = self.closed(n + 1);
+            let (start, end) = (self.pieces[n].start, self.pieces[after - 1].end);
+            let blank: String = self.text[start..end].bytes().map(|b| if b == b'\n' { '\n' } else { ' ' }).collect();
+            self.text.replace_range(start..end, &blank);
+            self.pieces.drain(n..after);
+        }
     }
 
     // The piece after the closing mark that belongs to the opening one at n.
@@ -187,7 +209,7 @@ impl Code<'_> {
                 _ => {}
             }
         }
-        Item { names: vec![name], fields: Vec::new(), lines, words, paths, root }
+        Item { names: vec![name], fields: Vec::new(), lines, words, paths, root, hidden: false }
     }
 }
 
@@ -211,31 +233,63 @@ fn used(code: &Code, n: usize, end: usize) -> Result<Use, String> {
     Ok(Use { word: "code", path, names, module: false })
 }
 
+// Whether the function whose word `fn` is at n, and its body at another place, has a contract and an empty body.
+fn holds_promise(code: &Code, n: usize, body: usize) -> bool {
+    let claims = code.pieces[n..body].iter().any(|p| p.kind == Kind::Clause);
+    claims && code.word(body) == "{" && code.closed(body) == body + 2
+}
+
 // A function from piece a on, its word `fn` at n. Public, or holding a promise (a contract, no body), it is a
 // root; any other is passed over.
 fn function(code: &Code, file: &mut File, a: usize, n: usize, public: bool, owner: Option<&str>) -> usize {
     let body = code.until(n, &["{"]);
     let end = code.closed(body);
-    let claims = code.pieces[n..body].iter().any(|p| p.kind == Kind::Clause);
-    if public || (claims && end == body + 2) {
+    if public || holds_promise(code, n, body) {
         let name = code.word(n + 1).to_string();
         file.items.push(code.item(name, a, body, true, owner));
     }
     end
 }
 
-// What an `impl` of a trait at n states, up to its body's end: of a conversion, what it gives, which its ghost member
-// says. The traits of the repository are its own affair.
-fn stated(code: &Code, file: &mut File, n: usize, body: usize) -> usize {
-    let end = code.closed(body);
-    let given = (body..end).find(|m| code.pieces[*m].kind == Kind::Clause && code.word(*m).starts_with("ghost"));
-    let conversion = [("From", "from"), ("TryFrom", "try_from")].into_iter().find(|(of, _)| *of == code.word(n + 1));
-    if let (Some((_, name)), Some(ghost)) = (conversion, given) {
-        let mut item = code.item(name.to_string(), n, ghost + 2, true, None);
-        item.lines.push("}".to_string());
-        file.items.push(item);
+// A trait at n that is not public, or an `impl` of one, is passed over, unless a function of it holds a promise.
+fn passed(code: &Code, n: usize) -> Result<usize, String> {
+    let end = code.closed(code.until(n, &["{"]));
+    let mut functions = (n..end).filter(|m| code.word(*m) == "fn");
+    match functions.find(|m| holds_promise(code, *m, code.until(*m, &["{", ";"]))) {
+        Some(m) => code.refuse(m),
+        None => Ok(end),
     }
-    end
+}
+
+// What an `impl` of From or TryFrom states, from piece a on, its word at n: all that stands in it but the bodies of its
+// functions.
+fn conversion(code: &Code, file: &mut File, a: usize, n: usize) -> Result<usize, String> {
+    let body = code.until(n, &["{"]);
+    let end = code.closed(body);
+    if code.word(body) != "{" {
+        return code.refuse(n);
+    }
+    let mut item = code.item(code.word(n + 1).to_string(), a, body + 1, true, None);
+    let mut first = body + 1;
+    while first < end - 1 {
+        let (_, m) = marks(code, first);
+        let (stop, next) = match (code.word(m), code.pieces.get(m).map(|p| p.kind)) {
+            ("fn", _) => (code.until(m, &["{"]), code.closed(code.until(m, &["{"]))),
+            ("type" | "const", _) | (_, Some(Kind::Clause)) => (code.until(m, &[";"]) + 1, code.until(m, &[";"]) + 1),
+            _ => return code.refuse(m),
+        };
+        if next >= end {
+            return code.refuse(m);
+        }
+        let member = code.item(String::new(), first, stop, false, None);
+        item.lines.extend(member.lines.iter().map(|l| format!("    {}", l)));
+        item.words.extend(member.words);
+        item.paths.extend(member.paths);
+        first = next;
+    }
+    item.lines.push("}".to_string());
+    file.items.push(item);
+    Ok(end)
 }
 
 // What stands before a declaration's own word: whether it is public, and where that word is.
@@ -297,10 +351,20 @@ fn declarations(code: &Code, file: &mut File, from: usize, end: usize, owner: Op
                 declarations(code, file, n + 3, stop - 1, Some(code.word(n + 1)))?;
                 stop
             }
-            ("impl", _) if owner.is_none() && (n..code.until(n, &["{"])).any(|m| code.word(m) == "for") => {
-                stated(code, file, n, code.until(n, &["{"]))
+            ("impl", _) if owner.is_none() && ["From", "TryFrom"].contains(&code.word(n + 1)) => {
+                conversion(code, file, first, n)?
             }
-            ("trait", _) if !public => code.closed(code.until(n, &["{"])),
+            // That the trait is not public is seen when all files are read.
+            ("impl", _) if owner.is_none() && code.word(n + 2) == "for" => {
+                file.passed.push((code.word(n + 1).to_string(), code.refusal(n)));
+                passed(code, n)?
+            }
+            ("trait", _) if owner.is_none() && !public && n + 2 < end => {
+                let mut item = code.item(code.word(n + 1).to_string(), first, n + 2, false, None);
+                item.hidden = true;
+                file.items.push(item);
+                passed(code, n)?
+            }
             _ => return code.refuse(n),
         };
     }

@@ -18,7 +18,8 @@ pub struct Use {
 }
 
 // A definition, a record, a declared type or a function's header: its names, constructors among them; its fields; its
-// text; the names that its terms write; the paths that its code writes. A root is promised by itself.
+// text; the names that its terms write; the paths that its code writes. A root is promised by itself. A hidden one is a
+// trait that is not public, of which only the name is read.
 pub struct Item {
     pub names: Vec<String>,
     pub fields: Vec<String>,
@@ -26,19 +27,22 @@ pub struct Item {
     pub words: Vec<Vec<String>>,
     pub paths: Vec<Vec<String>>,
     pub root: bool,
+    pub hidden: bool,
 }
 
-// A file, with the modules below it.
+// A file, with the modules below it, and each `impl` that is passed over: its trait's name, and what is said unless
+// that trait is hidden.
 pub struct File {
     pub path: String,
     pub below: Vec<String>,
     pub uses: Vec<Use>,
     pub items: Vec<Item>,
+    pub passed: Vec<(String, String)>,
 }
 
 impl File {
     pub fn new(path: &str) -> File {
-        File { path: path.to_string(), below: Vec::new(), uses: Vec::new(), items: Vec::new() }
+        File { path: path.to_string(), below: Vec::new(), uses: Vec::new(), items: Vec::new(), passed: Vec::new() }
     }
 
     // The file, unless a `use` of definitions begins at a name of the file itself: it would be taken for the kit's.
@@ -51,6 +55,10 @@ impl File {
             Some(path) => Err(format!("{}: 'use {}' does not begin at a library.", self.path, path)),
             None => Ok(self),
         }
+    }
+
+    fn hides(&self, name: &str) -> bool {
+        self.items.iter().any(|i| i.hidden && i.names[0] == name)
     }
 
     // `crates/NAME/FOLDER/MODULE.rt` as NAME, FOLDER and MODULE.
@@ -71,6 +79,19 @@ impl Tree {
     // The place of a file by crate, folder and module.
     pub fn file(&self, name: &str, folder: &str, module: &str) -> Option<usize> {
         self.files.iter().position(|f| f.parts() == (name, folder, module))
+    }
+
+    // Whether a name in a file is that of a hidden trait: of the file, or of another by `use crate::MODULE::NAME`.
+    fn hidden(&self, file: &File, name: &str) -> bool {
+        let by = |u: &Use| match u.path.split_first() {
+            Some((first, module)) if u.word == "code" && first == "crate" => {
+                let place = self.file(file.parts().0, "src", &module.join("/"));
+                let of_name = |b: &Brought| b.name == name && place.map_or(false, |p| self.files[p].hides(&b.from[0]));
+                u.names.iter().any(of_name)
+            }
+            _ => false,
+        };
+        file.hides(name) || file.uses.iter().any(by)
     }
 }
 
@@ -119,5 +140,10 @@ pub fn read(root: &Path) -> Result<Tree, String> {
             files.push(definitions::read(&path, &text_of(&root.join(&path))?)?.beginning_at_libraries()?);
         }
     }
-    Ok(Tree { crates, files })
+    let tree = Tree { crates, files };
+    let passed = tree.files.iter().flat_map(|file| file.passed.iter().map(move |one| (file, one)));
+    match passed.into_iter().find(|(file, (name, _))| !tree.hidden(file, name)) {
+        Some((_, (_, why))) => Err(why.clone()),
+        None => Ok(tree),
+    }
 }
