@@ -7,7 +7,9 @@
 # - a division but by a power of two, which a processor without division would need a helper for
 # - any other instruction than those that are known to be right; numbers over 64 bits, floats, vectors; any other
 #   aggregate than a pair. A pair of numbers lies in a slot as each number would, at a multiple of its own length: so it
-#   does on x86-64, and on each target whose layout has i64:64. One with a pointer is read by its halves (retarget.awk)
+#   does on x86-64, and on each target whose layout has i64:64
+# - a pair with a pointer, which is shorter on 32 bits, but as a value in registers, and in a load as retarget.awk
+#   takes it, by halves
 # That a slot is accessed at two widths of numbers is let pass: all targets have the lowest byte first.
 
 function refuse(why) {
@@ -65,6 +67,15 @@ function end_of_function(    slot, part, near, other, width) {
     inside = 0
 }
 
+# A text in which no pair that is let pass has its braces: one of numbers; and with a pointer one that is a value's type,
+# before the value. The type of what lies in memory stands elsewhere: as a whole, in an array, in the parentheses of byval.
+function without_pairs(text) {
+    gsub(/"[^"]*"/, "name", text) # a name may hold braces
+    gsub(/[{] i(8|16|32|64), i(8|16|32|64) [}]/, "pair", text)
+    gsub(/[{] (i(8|16|32|64)|ptr), (i(8|16|32|64)|ptr) [}] /, "pair ", text)
+    return text
+}
+
 BEGIN {
     count = split("alloca load store getelementptr call br ret icmp zext sext trunc add sub mul udiv urem and or " \
                   "xor shl lshr switch unreachable select phi extractvalue", list, " ")
@@ -77,6 +88,8 @@ BEGIN {
     sub(/^[^@]*@/, "", here)
     sub(/\(.*/, "", here)
     functions++
+    bare = without_pairs($0)
+    if (bare ~ /[{].*ptr.*[}]/) refuse("an aggregate that is no pair in a register: " $0)
     next
 }
 /^}/ { end_of_function(); next }
@@ -101,9 +114,8 @@ line ~ /(^|[^a-zA-Z0-9_.%])(i128|float|double|half|fp128|x86_fp80|<[0-9]+ x)/ {
     refuse("a number that small processors lack: " line)
 }
 line ~ /[{}]/ {
-    bare = line
-    gsub(/"[^"]*"/, "name", bare) # a name may hold braces
-    gsub(/\{ (i(8|16|32|64)|ptr), (i(8|16|32|64)|ptr) \}/, "pair", bare)
+    bare = without_pairs(line)
+    sub(/^load [{] (i(8|16|32|64)|ptr), (i(8|16|32|64)|ptr) [}], ptr [^ ]+, align 8(,|$)/, "load pair", bare)
     if (bare ~ /[{}]/ || operation == "store") { refuse("an aggregate that is no pair in a register: " line); next }
 }
 operation == "icmp" && word[3] == "ptr" && line !~ /^icmp (eq|ne) ptr [^ ]+, null$/ { refuse("a comparison of pointers: " line) }
