@@ -116,9 +116,9 @@ fn by_sub(subs: [Sub; 8], m: SubNo) -> Cause
 
 // Why a task is not running, or that it is.
 #[tactic(auto, unfolding(crate::specs::Causes::cause_of))]
-pub(crate) fn cause_of(t: Table, k: TaskNo) -> Cause
-    requires { Sized t }
-    ensures { result ≡ cause_of t k.0 }
+pub(crate) fn cause_of(t: &Table, k: TaskNo) -> Cause
+    requires { Sized t.now }
+    ensures { result ≡ cause_of t.now k.0 }
 {
     let queue = &t.queue[..t.ready as usize];
     let pool = &t.rest.pool[..t.rest.queued as usize];

@@ -69,9 +69,9 @@ fn with_ring(path: Reasons, place: u8) -> Reasons
 // Goes on at a task: one that has been met closes a ring; any other is a step, and leads on to what it waits for. The
 // two functions call each other, as document 01 has it for a task that waits for a request that waits for a task.
 #[cycle(follow_link_follow_task)]
-fn follow_task(t: Table, k: TaskNo, path: Reasons) -> Reasons
-    requires { Sized t × (path.length ≤ 16) }
-    ensures { result ≡ task_path (unmet path) t k path }
+fn follow_task(t: &Table, k: TaskNo, path: Reasons) -> Reasons
+    requires { Sized t.now × (path.length ≤ 16) }
+    ensures { result ≡ task_path (unmet path) t.now k path }
 {
     if let Some(place) = met_at(&path.steps[..path.length as usize], k) {
         return with_ring(path, place as u8);
@@ -98,9 +98,9 @@ fn follow_task(t: Table, k: TaskNo, path: Reasons) -> Reasons
 
 // Goes on at the task of what is waited for.
 #[cycle(follow_link_follow_task)]
-fn follow_link(t: Table, on: On, path: Reasons) -> Reasons
-    requires { Sized t × (path.length ≤ 16) }
-    ensures { result ≡ link_path (unmet path) t on path }
+fn follow_link(t: &Table, on: On, path: Reasons) -> Reasons
+    requires { Sized t.now × (path.length ≤ 16) }
+    ensures { result ≡ link_path (unmet path) t.now on path }
 {
     match on {
         On::Request(p) => {
@@ -126,5 +126,5 @@ pub fn explain(table: Table, task: TaskNo) -> Reasons
         return none(6, true);
     }
     let start = none(0, false);
-    follow_task(table, task, start)
+    follow_task(&table, task, start)
 }
